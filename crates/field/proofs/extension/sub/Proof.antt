@@ -1,0 +1,23 @@
+use Rattle.field.specs.Element.{sub4}
+use borrow.Author.Needs.{needs}
+use Rattle.field.proofs.extension.sub.Statement.{statement}
+use Rattle.field.proofs.extension.sub.Tie as tie
+
+sub-requires : tie.Need-sub-requires
+sub-requires c κs = search needs
+
+sub-requires-2 : tie.Need-sub-requires-2
+sub-requires-2 c κs = search needs
+
+sub-requires-3 : tie.Need-sub-requires-3
+sub-requires-3 c κs = search needs
+
+sub-requires-4 : tie.Need-sub-requires-4
+sub-requires-4 c κs = search needs
+
+returns : tie.Need-returns
+unfolding sub4
+returns c = (search needs, cc)
+
+pub sub-spec : {M : Type 1} → statement M
+sub-spec = tie.close (tie.spec sub-requires sub-requires-2 sub-requires-3 sub-requires-4 returns)

@@ -1,0 +1,7 @@
+-- The four words of an `Ext`, as a list.
+use mathlib.Core.List.{List, [], _∷_}
+use Prim.Native.Nat.{ℕ}
+use Rattle.field.specs.declared.extension.Ext.{Ext}
+
+abbrev pub ws : Ext → List ℕ
+ws a = a .c0 ∷ a .c1 ∷ a .c2 ∷ a .c3 ∷ []

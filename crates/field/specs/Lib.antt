@@ -1,0 +1,5 @@
+pub mod Word
+pub mod Element
+pub mod Modulus
+pub mod Ext
+pub mod laws

@@ -1,0 +1,9 @@
+pub mod Ring
+pub mod Extension
+pub mod Homomorphism
+pub mod Element
+pub mod Inverse
+pub mod Norm
+pub mod Reduction
+pub mod Cases
+pub mod Slice

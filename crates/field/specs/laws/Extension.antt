@@ -1,0 +1,51 @@
+-- Four words with X⁴ = w are a field, for every p and w with a certificate; the certificate of the field in use.
+use mathlib.Core.Path.{_≡_, refl, sym, ap, _∙_}
+use mathlib.Core.Logic.{_≢_}
+use Prim.Native.Nat.{ℕ, _*_, _-_, _<_, _%_}
+use native.Mathlib.Omega.{arith}
+use native.Mathlib.Nat.{mod-eq-of-lt}
+use lib.Dec.{lit<}
+use Rattle.algebra.specs.Ring.{CRing}
+use Rattle.algebra.specs.Field.{Field}
+use Rattle.algebra.specs.Power.{powM}
+use Rattle.algebra.specs.laws.Remainder.{mul-mod-mod, mod-mul-mod}
+use Rattle.algebra.specs.laws.Primality.{by-trial}
+use Rattle.algebra.specs.laws.Power.{no-square}
+use Rattle.algebra.specs.laws.Quartic.{quartic-field}
+use Rattle.field.specs.Modulus.{Certificate, babybear, babybear-w}
+use Rattle.field.specs.laws.Ring.{El, mk, eq, pos, words}
+
+module _ (p w : ℕ) (C : Certificate p w) where
+  -- the field of the words, its zero below p, and w in it
+  abbrev pub F1 : Field
+  F1 = words p (C .prime)
+
+  abbrev pub h : 0 < p
+  h = pos p (C .prime)
+
+  abbrev pub W : El p
+  W = mk p h w
+
+  pub W-nonsquare : (s : El p) → F1 .ring .mul s s ≢ W
+  W-nonsquare s e = C .nonsquare (s .0) (s .1) (ap (λ (x : El p). x .0) e)
+
+  pub minus-one : F1 .ring .mul (mk p h (C .root)) (mk p h (C .root)) ≡ F1 .ring .neg (F1 .ring .u)
+  minus-one =
+      eq p h
+      (mul-mod-mod (C .root % p) (C .root) p ∙ mod-mul-mod (C .root) (C .root) p ∙ C .root-squared
+      ∙ ap (λ (x : ℕ). (p - x) % p) (sym (mod-eq-of-lt (C .prime .big))))
+
+  -- the extension field
+  abbrev pub K : Field
+  K = quartic-field F1 W W-nonsquare (mk p h (C .root)) minus-one
+
+pub babybear-certificate : Certificate babybear babybear-w
+unfolding powM
+babybear-certificate =
+    let prime : _ = by-trial babybear 44870 (lit< tt) (lit< tt) tt in
+    record {
+      prime = prime;
+      nonsquare = no-square babybear prime babybear-w 1006632960 30 refl (lit< tt) (λ e. omega arith) (λ e. omega arith);
+      root = 1728404513;
+      root-squared = refl;
+    }

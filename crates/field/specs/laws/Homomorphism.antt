@@ -1,0 +1,141 @@
+-- From numbers to the fields: what an expression comes to modulo p, and the element of K that four words stand for.
+use mathlib.Core.Path.{_≡_, refl, sym, ap, ap₂, _∙_}
+use mathlib.Core.List.{List, [], _∷_}
+use Prim.Native.Nat.{ℕ, zero, suc, _+_, _*_, _-_, _<_, _%_}
+use native.Mathlib.Nat.{add-mod, mod-mod, mod-eq-of-lt}
+use lib.Dec.{T}
+use lib.ListN.{getD, length}
+use Rattle.algebra.specs.Ring.{CRing, Ops, ops, quartic}
+use Rattle.algebra.specs.Field.{Field}
+use Rattle.algebra.specs.laws.Remainder.{mul-mod-mod, mod-mul-mod}
+use Rattle.algebra.specs.laws.Solve.{E, O, I, X, _⊕_, _⊗_, ⊝_, solve, eval, same}
+use Rattle.algebra.specs.laws.Quadratic.{Es}
+use Rattle.algebra.specs.laws.Quartic.{Four, eval4}
+use Rattle.field.specs.Word.{addM, subM, mulM, negM}
+use Rattle.field.specs.Element.{at, Word4, lift, add4, sub4, neg4, mul4, scale4, conjugate, conjugate2}
+use Rattle.field.specs.Modulus.{Certificate}
+use Rattle.field.specs.laws.Ring.{El, Fp, mk, eq}
+use Rattle.field.specs.laws.Extension.{K, h}
+
+module _ (p : ℕ) (h : 0 < p) where
+  abbrev pub mks : List ℕ → List (El p)
+  mks [] = []
+  mks (n ∷ l) = mk p h n ∷ mks l
+
+  abbrev pub evalN : List ℕ → E → ℕ
+  evalN ρ O = 0
+  evalN ρ I = 1
+  evalN ρ (X i) = getD ρ i 0
+  evalN ρ (a ⊕ b) = evalN ρ a + evalN ρ b
+  evalN ρ (a ⊗ b) = evalN ρ a * evalN ρ b
+  evalN ρ (⊝ a) = p - evalN ρ a % p
+
+  get : (ρ : List ℕ) (i : ℕ) → mk p h (getD ρ i 0) ≡ getD (mks ρ) i (mk p h 0)
+  get [] i = refl
+  get (n ∷ ρ) zero = refl
+  get (n ∷ ρ) (suc i) = get ρ i
+
+  pub mk-mod : (n : ℕ) → mk p h (n % p) ≡ mk p h n
+  mk-mod n = eq p h (mod-mod n p)
+
+  pub hom : (ρ : List ℕ) (e : E) → mk p h (evalN ρ e) ≡ eval (Fp p h) (mks ρ) e
+  hom ρ O = refl
+  hom ρ I = refl
+  hom ρ (X i) = get ρ i
+  hom ρ (a ⊕ b) = eq p h (add-mod (evalN ρ a) (evalN ρ b) p) ∙ ap₂ (Fp p h .add) (hom ρ a) (hom ρ b)
+  hom ρ (a ⊗ b) =
+      eq p h (sym (mul-mod-mod (evalN ρ a % p) (evalN ρ b) p ∙ mod-mul-mod (evalN ρ a) (evalN ρ b) p))
+      ∙ ap₂ (Fp p h .mul) (hom ρ a) (hom ρ b)
+  hom ρ (⊝ a) = ap (Fp p h .neg) (hom ρ a)
+
+  -- a number that is computed by l modulo p is the ring's r, where the two are the same polynomial
+  pub by-poly : (ρ : List ℕ) (l r : E) → T (same l r)
+      → mk p h (evalN ρ l % p) ≡ eval (Fp p h) (mks ρ) r
+  by-poly ρ l r e = mk-mod (evalN ρ l) ∙ hom ρ l ∙ solve (Fp p h) (mks ρ) l r e
+
+-- numbers with the operations modulo p: what a contract is written over
+abbrev pub NOps : ℕ → Ops
+NOps p = record { El = ℕ; z = 0; u = 1; add = addM p; mul = mulM p; neg = negM p }
+
+module _ (p : ℕ) (h : 0 < p) where
+  abbrev pub evalM : List ℕ → E → ℕ
+  evalM ρ O = 0
+  evalM ρ I = 1
+  evalM ρ (X i) = getD ρ i 0
+  evalM ρ (a ⊕ b) = addM p (evalM ρ a) (evalM ρ b)
+  evalM ρ (a ⊗ b) = mulM p (evalM ρ a) (evalM ρ b)
+  evalM ρ (⊝ a) = negM p (evalM ρ a)
+
+  pub mk-add : (a b : ℕ) → mk p h (addM p a b) ≡ Fp p h .add (mk p h a) (mk p h b)
+  mk-add a b = mk-mod p h (a + b) ∙ eq p h (add-mod a b p)
+
+  pub mk-mul : (a b : ℕ) → mk p h (mulM p a b) ≡ Fp p h .mul (mk p h a) (mk p h b)
+  mk-mul a b = mk-mod p h (a * b) ∙ eq p h (sym (mul-mod-mod (a % p) b p ∙ mod-mul-mod a b p))
+
+  pub mk-neg : (a : ℕ) → mk p h (negM p a) ≡ Fp p h .neg (mk p h a)
+  mk-neg a = mk-mod p h (p - a % p)
+
+  pub homM : (ρ : List ℕ) (e : E) → mk p h (evalM ρ e) ≡ eval (Fp p h) (mks p h ρ) e
+  homM ρ O = refl
+  homM ρ I = refl
+  homM ρ (X i) = get p h ρ i
+  homM ρ (a ⊕ b) = mk-add (evalM ρ a) (evalM ρ b) ∙ ap₂ (Fp p h .add) (homM ρ a) (homM ρ b)
+  homM ρ (a ⊗ b) = mk-mul (evalM ρ a) (evalM ρ b) ∙ ap₂ (Fp p h .mul) (homM ρ a) (homM ρ b)
+  homM ρ (⊝ a) = mk-mod p h (p - evalM ρ a % p) ∙ ap (Fp p h .neg) (homM ρ a)
+
+-- expressions for two elements, X 0 to X 3 and X 4 to X 7, with X 8 for w
+abbrev pub A : Four
+A = (X 0, X 1, X 2, X 3)
+
+abbrev pub B : Four
+B = (X 4, X 5, X 6, X 7)
+
+module _ (p w : ℕ) (C : Certificate p w) where
+  abbrev pub KEl : Type 0
+  KEl = K p w C .ring .El
+
+  -- the element that four words stand for
+  abbrev pub el : List ℕ → KEl
+  el l = (mk p (h p w C) (at l 0), mk p (h p w C) (at l 1), mk p (h p w C) (at l 2), mk p (h p w C) (at l 3))
+
+  abbrev pub both : List ℕ → List ℕ → List ℕ
+  both a b = at a 0 ∷ at a 1 ∷ at a 2 ∷ at a 3 ∷ at b 0 ∷ at b 1 ∷ at b 2 ∷ at b 3 ∷ w ∷ []
+
+  pub four : {a b c d a′ b′ c′ d′ : El p} → a ≡ a′ → b ≡ b′ → c ≡ c′ → d ≡ d′ → _≡_ {A = KEl} (a, b, c, d) (a′, b′, c′, d′)
+  four e f g k = λ i. (e i, f i, g i, k i)
+
+  -- each coefficient of the product, as it is computed, is that of the field's product
+  pub el-mul : (a b : List ℕ) → el (mul4 p w a b) ≡ K p w C .ring .mul (el a) (el b)
+  unfolding mul4
+  el-mul a b =
+      let M : Four = quartic Es (X 8) .mul A B in
+      four (by-poly p (h p w C) (both a b) (M .0) (M .0) tt) (by-poly p (h p w C) (both a b) (M .1) (M .1) tt)
+      (by-poly p (h p w C) (both a b) (M .2) (M .2) tt) (by-poly p (h p w C) (both a b) (M .3) (M .3) tt)
+
+  pub el-add : (a b : List ℕ) → el (add4 p a b) ≡ K p w C .ring .add (el a) (el b)
+  unfolding add4
+  el-add a b = four (mk-add p (h p w C) _ _) (mk-add p (h p w C) _ _) (mk-add p (h p w C) _ _) (mk-add p (h p w C) _ _)
+
+  pub el-neg : (a : List ℕ) → el (neg4 p a) ≡ K p w C .ring .neg (el a)
+  unfolding neg4
+  el-neg a = four (mk-neg p (h p w C) _) (mk-neg p (h p w C) _) (mk-neg p (h p w C) _) (mk-neg p (h p w C) _)
+
+  pub el-sub : (a b : List ℕ) → el (sub4 p a b) ≡ K p w C .ring .add (el a) (K p w C .ring .neg (el b))
+  unfolding sub4
+  el-sub a b =
+      four (homM p (h p w C) (both a b) (X 0 ⊕ ⊝ X 4)) (homM p (h p w C) (both a b) (X 1 ⊕ ⊝ X 5)) (homM p (h p w C) (both a b) (X 2 ⊕ ⊝ X 6))
+      (homM p (h p w C) (both a b) (X 3 ⊕ ⊝ X 7))
+
+  -- four words below p are told by the element that they stand for
+  pub word-same : (m n : ℕ) → m < p → n < p → mk p (h p w C) m ≡ mk p (h p w C) n → m ≡ n
+  word-same m n k l e = sym (mod-eq-of-lt k) ∙ ap (λ (x : El p). x .0) e ∙ mod-eq-of-lt l
+
+  pub el-same : (a b : List ℕ) → Word4 p a → Word4 p b → el a ≡ el b
+      → at a 0 ∷ at a 1 ∷ at a 2 ∷ at a 3 ∷ [] ≡ at b 0 ∷ at b 1 ∷ at b 2 ∷ at b 3 ∷ []
+  el-same a b k l e =
+      λ j.
+      word-same (at a 0) (at b 0) (k .w0) (l .w0) (ap (λ (x : KEl). x .0) e) j
+      ∷ word-same (at a 1) (at b 1) (k .w1) (l .w1) (ap (λ (x : KEl). x .1) e) j
+      ∷ word-same (at a 2) (at b 2) (k .w2) (l .w2) (ap (λ (x : KEl). x .2) e) j
+      ∷ word-same (at a 3) (at b 3) (k .w3) (l .w3) (ap (λ (x : KEl). x .3) e) j
+      ∷ []
