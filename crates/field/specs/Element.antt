@@ -54,6 +54,16 @@ unfoldable pub power4 : ℕ → ℕ → List ℕ → ℕ → List ℕ
 power4 p w b zero = one4
 power4 p w b (suc n) = mul4 p w (power4 p w b n) b
 
+-- f 0 + .. + f (n - 1)
+unfoldable pub sum4 : ℕ → (ℕ → List ℕ) → ℕ → List ℕ
+sum4 p f zero = zero4
+sum4 p f (suc n) = add4 p (sum4 p f n) (f n)
+
+-- f 0 · .. · f (n - 1)
+unfoldable pub product4 : ℕ → ℕ → (ℕ → List ℕ) → ℕ → List ℕ
+product4 p w f zero = one4
+product4 p w f (suc n) = mul4 p w (product4 p w f n) (f n)
+
 -- a(-X), and n(X) with -X² for X²
 unfoldable pub conjugate : ℕ → List ℕ → List ℕ
 conjugate p a = at a 0 ∷ negM p (at a 1) ∷ at a 2 ∷ negM p (at a 3) ∷ []

@@ -1,0 +1,36 @@
+-- The traces of a table and the window on them.
+use Prim.Native.Nat.{ℕ, _+_, _*_, _%_}
+use mathlib.Core.List.{List}
+use lib.ListN.{take, drop}
+use Rattle.expression.specs.declared.sizes.Shape.{Shape}
+
+-- Door: "a main trace, perhaps a preprocessed trace, public values"
+pub record Traces : Type 0 where
+  pub shape : Shape
+  pub main : List ℕ
+  pub preprocessed : List ℕ
+  pub public-values : List ℕ
+
+-- What a row is evaluated from: the rows of main and of the preprocessed trace at each offset, 0 the current row and 1 the next.
+pub record Window : Type 0 where
+  pub main : ℕ → List ℕ
+  pub preprocessed : ℕ → List ℕ
+  pub public-values : List ℕ
+  pub row : ℕ
+  pub height : ℕ
+
+-- row r of a trace
+unfoldable pub row-of : List ℕ → ℕ → ℕ → List ℕ
+row-of words width r = take width (drop (r * width) words)
+
+-- Window: "the current row and the next row; after the last row comes row 0. A preprocessed trace with more rows than main wraps at
+-- main's height."
+unfoldable pub window : Traces → ℕ → Window
+window t r =
+    record {
+      main = λ o. row-of (t .main) (t .shape .«main_width») ((r + o) % t .shape .height);
+      preprocessed = λ o. row-of (t .preprocessed) (t .shape .«pre_width») ((r + o) % t .shape .height);
+      public-values = t .public-values;
+      row = r;
+      height = t .shape .height;
+    }

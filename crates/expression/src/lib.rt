@@ -1,0 +1,4 @@
+// The expression table: its words and limits, the refusals, the two-row window, the degrees and the values of the nodes.
+pub mod node;
+pub mod refusal;
+pub mod sizes;

@@ -1,0 +1,4 @@
+pub mod Count
+pub mod Fold
+pub mod Tab
+pub mod laws

@@ -1,0 +1,5 @@
+pub mod Count
+pub mod Fold
+pub mod Tab
+pub mod Parts
+pub mod Filled

@@ -1,0 +1,49 @@
+-- One value more and a part more of a list that is made by a function, and what stands in it.
+use mathlib.Core.Path.{_≡_, refl, sym, ap, ap₂, _∙_}
+use mathlib.Core.List.{List, [], _∷_, _++_, append-assoc, append-nil}
+use Prim.Native.Nat.{ℕ, zero, suc, _+_, _-_, _<_, _≤_}
+use native.Mathlib.Nat.{add-zero, add-suc, add-assoc, zero-add}
+use native.Mathlib.Numerals.{add-one}
+use native.Mathlib.Omega.{arith}
+use lib.ListN.{length, getD, length-append, List·getD-append}
+use lib.Seq.{getD-at}
+use Rattle.lists.specs.Tab.{tab}
+use Rattle.lists.specs.laws.Count.{last-or-below}
+
+module _ {A : Type 0} where
+  pub tab-length : (f : ℕ → A) (a n : ℕ) → length (tab f a n) ≡ n
+  unfolding tab
+  tab-length f a zero = refl
+  tab-length f a (suc n) = simp length-append (omega (arith, tab-length f a n))
+
+  pub tab-none : (f : ℕ → A) (a : ℕ) → tab f a 0 ≡ []
+  unfolding tab
+  tab-none f a = refl
+
+  -- one more
+  pub tab-one : (f : ℕ → A) (a n : ℕ) → tab f a (n + 1) ≡ tab f a n ++ (f (a + n) ∷ [])
+  unfolding tab
+  tab-one f a n = rw (add-one n)
+
+  -- a part more
+  pub tab-add : (f : ℕ → A) (a n m : ℕ) → tab f a (n + m) ≡ tab f a n ++ tab f (a + n) m
+  unfolding tab
+  tab-add f a n zero = rw (add-zero n) (sym (append-nil (tab f a n)))
+  tab-add f a n (suc m) = rw (add-suc n m, tab-add f a n m, append-assoc (tab f a n) (tab f (a + n) m) (f (a + (n + m)) ∷ []), add-assoc a n m)
+
+  pub tab-to : (f : ℕ → A) (i e : ℕ) → i ≤ e → tab f 0 e ≡ tab f 0 i ++ tab f i (e - i)
+  tab-to f i e h = let k : e ≡ i + (e - i) = omega arith in ap (tab f 0) k ∙ tab-add f 0 i (e - i) ∙ ap (λ (a : ℕ). tab f 0 i ++ tab f a (e - i)) (zero-add i)
+
+pub tab-cong : (f g : ℕ → ℕ) (n : ℕ) → ((j : ℕ) → j < n → f j ≡ g j) → tab f 0 n ≡ tab g 0 n
+unfolding tab
+tab-cong f g zero e = refl
+tab-cong f g (suc n) e = ap₂ (λ (l : List ℕ) (x : ℕ). l ++ (x ∷ [])) (tab-cong f g n (λ j l. e j (omega arith))) (e (0 + n) (omega arith))
+
+-- the j-th of a list that is made by a function
+pub tab-get : (f : ℕ → ℕ) (a n j : ℕ) → j < n → getD (tab f a n) j 0 ≡ f (a + j)
+unfolding tab
+tab-get f a zero j l = absurd (omega arith)
+tab-get f a (suc n) j l =
+    last-or-below (λ j. getD (tab f a n ++ (f (a + n) ∷ [])) j 0 ≡ f (a + j)) n j l
+    (getD-at (tab f a n) (f (a + n)) [] 0 n (tab-length f a n))
+    (λ l. List·getD-append (tab f a n) (f (a + n) ∷ []) 0 j (rw (tab-length f a n) l) ∙ tab-get f a n j l)

@@ -1,0 +1,2 @@
+// The lookups of a table: their words, the tests on them, and what is built, packed and bounded from them.
+pub mod types;
