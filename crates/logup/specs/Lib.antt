@@ -1,0 +1,7 @@
+pub mod Tuple
+pub mod Column
+pub mod Rows
+pub mod Generation
+pub mod Reader
+pub mod Constraints
+pub mod Ledger

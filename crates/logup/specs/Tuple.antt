@@ -1,0 +1,29 @@
+-- The combined value of a tuple and its denominator. Document 01, Tuple; Haböck, "Multivariate lookups based on logarithmic derivatives"
+-- (ePrint 2022/1530), section 3: the linear factor X - z of a value z at the challenge X, here alpha; several columns are combined by
+-- powers of a second challenge, here beta.
+use Prim.Native.Nat.{ℕ, _-_}
+use mathlib.Core.List.{List, map}
+use lib.ListN.{length}
+use Rattle.field.specs.Element.{sub4, scale4, sum4, power4, inverse4}
+use Rattle.expression.specs.Words.{word}
+use Rattle.lookup.specs.Lookups.{Lookups, tuple-nodes}
+
+-- the words of tuple k of lookup i, from the values of the nodes
+unfoldable pub tuple : Lookups → List ℕ → ℕ → ℕ → List ℕ
+tuple l vals i k = map (word vals) (tuple-nodes l i k)
+
+-- "element j of k elements is taken with beta to the power k - 1 - j"
+abbrev pub exponent : ℕ → ℕ → ℕ
+exponent k j = k - 1 - j
+
+-- "the combined value"; "The empty tuple combines to 0."
+unfoldable pub combine : ℕ → ℕ → List ℕ → List ℕ → List ℕ
+combine p w beta es = sum4 p (λ j. scale4 p (word es j) (power4 p w beta (exponent (length es) j))) (length es)
+
+-- "The denominator is alpha minus the combined value"
+unfoldable pub denominator : ℕ → ℕ → List ℕ → List ℕ → List ℕ → List ℕ
+denominator p w alpha beta es = sub4 p alpha (combine p w beta es)
+
+-- m ÷ d, and 0 where d is 0
+unfoldable pub quotient4 : ℕ → ℕ → ℕ → List ℕ → List ℕ
+quotient4 p w m d = scale4 p m (inverse4 p w d)
