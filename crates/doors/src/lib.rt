@@ -1,0 +1,2 @@
+// Functions for other languages: numbers and slices of words in, a refusal's number and details out.
+pub mod element;
