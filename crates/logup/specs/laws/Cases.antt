@@ -1,7 +1,7 @@
 -- The worked cases c1, c2 and c4 to c7 of document 01, the example of document 02's first request, the examples of generation's and the constraints'
 -- refusals, a part of the reader and a ledger, as one table with one theorem.
 use Prim.Native.Nat.{ℕ, _+_, _*_}
-use mathlib.Core.Bool.{Bool, true, false, cond, _&&_}
+use mathlib.Core.Bool.{Bool, true, _&&_}
 use mathlib.Core.Option.{Option, none, some}
 use mathlib.Core.List.{List, [], _∷_, _++_}
 use lib.Dec.{T}
