@@ -2,3 +2,4 @@
 pub mod node;
 pub mod refusal;
 pub mod sizes;
+pub mod words;
