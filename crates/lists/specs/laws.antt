@@ -4,3 +4,4 @@ pub mod Tab
 pub mod Parts
 pub mod Filled
 pub mod Turns
+pub mod Chain
