@@ -3,3 +3,4 @@ pub mod Fold
 pub mod Tab
 pub mod Parts
 pub mod Filled
+pub mod Tests
