@@ -65,3 +65,9 @@ pub record Rows (p : ℕ) (main0 main1 pre0 pre1 public-values : List ℕ) (row 
   pub pre0-below : Below p pre0
   pub pre1-below : Below p pre1
   pub public-below : Below p public-values
+
+-- the n nodes that are evaluated over these rows
+pub record Ready (p : ℕ) (main0 main1 pre0 pre1 public-values nodes : List ℕ) (n : ℕ) : Type 0 where
+  pub few : n ≤ 1024
+  pub there : 3 * n ≤ length nodes
+  pub readable : (i : ℕ) → i < n → Readable p main0 main1 pre0 pre1 public-values (node nodes i)
