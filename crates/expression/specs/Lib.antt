@@ -8,3 +8,4 @@ pub mod Values
 pub mod Degree
 pub mod Tests
 pub mod Valid
+pub mod laws

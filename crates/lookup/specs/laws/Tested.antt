@@ -1,32 +1,25 @@
 -- What passed tests say of the lookups.
-use mathlib.Core.Path.{_≡_, refl, sym, ap, _∙_}
-use mathlib.Core.Bool.{Bool, true, false, cond, _&&_}
+use mathlib.Core.Path.{_≡_, refl}
+use mathlib.Core.Bool.{true, cond}
 use mathlib.Core.List.{List, [], _∷_}
-use Prim.Native.Nat.{ℕ, zero, suc, _+_, _*_, _/_, _%_, _<_, _≤_, zero-le}
+use Prim.Native.Nat.{ℕ, zero, suc, _+_, _*_, _/_, _%_, _<_, _≤_}
 use native.Mathlib.Omega.{arith}
 use lib.Dec.{eqb, leb, ltb}
-use lib.ListN.{length, List·getD-eq-default}
-use borrow.Author.Tests.{eqb-true, leb-true, ltb-true, ltb-false}
+use lib.ListN.{length}
+use borrow.Author.Tests.{eqb-true, leb-true, ltb-true}
 use Rattle.lists.specs.Count.{every, total}
-use Rattle.lists.specs.laws.Count.{every-at, of-true, true-of, total-le, total-in}
-use Rattle.lists.specs.laws.Chain.{passed}
+use Rattle.lists.specs.laws.Count.{total-le, total-in}
+use Rattle.lists.specs.laws.Tests.{passed, every-true}
 use Rattle.expression.specs.Words.{word, all-below, all-within}
+use Rattle.expression.specs.laws.Below.{within-tested}
 use Rattle.expression.specs.declared.sizes.Limits.{Limits}
 use Rattle.lookup.specs.Lookups.{Lookups, lookup-count, name-length, column, exclusive, tuple-count, multiplicity-count, flag-count, name-start, tuple-start, multiplicity-start, flag-start, element-start, tuple-width}
 use Rattle.lookup.specs.Tests.{lookups-within, lookups-fit, lengths-agree, nodes-present, lists-agree, in-position}
 use Rattle.lookup.specs.Valid.{Limited, Fitting, Agreeing, Placed}
 
-passed-at : (f : ℕ → Bool) (n : ℕ) → every f n ≡ true → (i : ℕ) → i < n → f i ≡ true
-passed-at f n e i l = true-of (f i) (every-at f n i (of-true e) l)
-
-within-at : (n : ℕ) (l : List ℕ) → all-within n l ≡ true → (i : ℕ) (b : Bool) → ltb i (length l) ≡ b → word l i ≤ n
-unfolding all-within
-within-at n l e i true h = leb-true (word l i) n (passed-at (λ i. leb (word l i) n) (length l) e i (ltb-true i (length l) h))
-within-at n l e i false h = rw (List·getD-eq-default l 0 {n = i} (ltb-false i (length l) h)) zero-le
-
 below-at : (n : ℕ) (l : List ℕ) → all-below n l ≡ true → (i : ℕ) → i < length l → word l i < n
 unfolding all-below
-below-at n l e i h = ltb-true (word l i) n (passed-at (λ i. ltb (word l i) n) (length l) e i h)
+below-at n l e i h = ltb-true (word l i) n (every-true (λ i. ltb (word l i) n) (length l) i e h)
 
 pub limited : (m : Limits) (lookups tuples : List ℕ) → lookups-within m lookups tuples ≡ true → Limited m lookups tuples
 unfolding lookups-within
@@ -41,8 +34,8 @@ limited m lookups tuples h =
     record {
       few-lookups = leb-true _ _ (k .0);
       few-tuples = leb-true _ _ (k .1 .0);
-      width = λ j. within-at (m .«tuple_words») tuples (k .1 .1 .0) j (ltb j (length tuples)) refl;
-      name = λ i l. leb-true _ _ (passed-at (λ i. leb (name-length lookups i) (m .«name_bytes»)) (lookup-count lookups) (k .1 .1 .1 .0) i l);
+      width = within-tested (m .«tuple_words») tuples (k .1 .1 .0);
+      name = λ i l. leb-true _ _ (every-true (λ i. leb (name-length lookups i) (m .«name_bytes»)) (lookup-count lookups) i (k .1 .1 .1 .0) l);
     }
 
 pub fitting : (l : Lookups) → lookups-fit l ≡ true → Fitting l
@@ -80,8 +73,8 @@ agreeing n l h =
     let a = passed (every (lengths-agree (l .lookups)) (lookup-count (l .lookups))) (nodes-present n l ∷ []) h in
     let k = passed (all-below n (l .multiplicities)) (all-below n (l .flags) ∷ all-below n (l .elements) ∷ []) (a .1 .0) in
     record {
-      multiplicities-agree = λ i t. lengths (l .lookups) i (passed-at (lengths-agree (l .lookups)) (lookup-count (l .lookups)) (a .0) i t) .0;
-      flags-agree = λ i t. lengths (l .lookups) i (passed-at (lengths-agree (l .lookups)) (lookup-count (l .lookups)) (a .0) i t) .1;
+      multiplicities-agree = λ i t. lengths (l .lookups) i (every-true (lengths-agree (l .lookups)) (lookup-count (l .lookups)) i (a .0) t) .0;
+      flags-agree = λ i t. lengths (l .lookups) i (every-true (lengths-agree (l .lookups)) (lookup-count (l .lookups)) i (a .0) t) .1;
       multiplicity = below-at n (l .multiplicities) (k .0);
       flag = below-at n (l .flags) (k .1 .0);
       element = below-at n (l .elements) (k .1 .1 .0);
@@ -90,7 +83,7 @@ agreeing n l h =
 -- the column of each lookup is its position
 pub positioned : (lookups : List ℕ) → in-position lookups ≡ true → (i : ℕ) → i < lookup-count lookups → column lookups i ≡ i
 unfolding in-position
-positioned lookups h i l = eqb-true _ _ (passed-at (λ i. eqb (column lookups i) i) (lookup-count lookups) h i l)
+positioned lookups h i l = eqb-true _ _ (every-true (λ i. eqb (column lookups i) i) (lookup-count lookups) i h l)
 
 -- each lookup's own parts lie within the lists
 pub placed : (l : Lookups) → Fitting l → (i : ℕ) → i < lookup-count (l .lookups) → Placed l i
