@@ -183,7 +183,7 @@ node-below p v vals (Product a c) l m q u b k = mod-lt (word vals a * word vals 
 node-below p v vals (Negation a) l m q u b k = mod-lt (p - word vals a % p) (omega arith)
 node-below p v vals Unknown l m q u b k = omega arith
 
-values-below : (p : ℕ) (v : Window) (nodes : List ℕ) (n : ℕ) → 2 < p → ((o a : ℕ) → word (v .main o) a < p) → ((o a : ℕ) → word (v .preprocessed o) a < p)
+pub values-below : (p : ℕ) (v : Window) (nodes : List ℕ) (n : ℕ) → 2 < p → ((o a : ℕ) → word (v .main o) a < p) → ((o a : ℕ) → word (v .preprocessed o) a < p)
     → Below p (v .public-values) → ((i : ℕ) → i < n → constant-below p (node nodes i) ≡ true) → Below p (values p nodes v n)
 unfolding values
 values-below p v nodes zero l m q u k = below-nil (omega arith)

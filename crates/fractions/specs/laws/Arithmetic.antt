@@ -1,5 +1,5 @@
 -- The facts of a field that the balance theorem uses.
-use mathlib.Core.Path.{_≡_, sym, _∙_, ap, ap₂}
+use mathlib.Core.Path.{_≡_, refl, sym, _∙_, ap, ap₂}
 use mathlib.Core.Logic.{_≢_}
 use mathlib.Core.List.{[], _∷_}
 use Rattle.algebra.specs.Ring.{CRing}
@@ -45,6 +45,14 @@ module _ (F : Field) where
       go : (d : Dec (a ≡ 𝟘)) → a * inverse-by F a d ≡ 𝟙
       go (yes e) = absurd (n e)
       go (no k) = F .inv a k .1
+
+  pub inverse-zero : inverse F 𝟘 ≡ 𝟘
+  unfolding inverse
+  inverse-zero = go (F .dec 𝟘)
+    where
+      go : (d : Dec (𝟘 ≡ 𝟘)) → inverse-by F 𝟘 d ≡ 𝟘
+      go (yes e) = refl
+      go (no k) = absurd (k refl)
 
   pub eq-zero-left : {a c : K} → c ≢ 𝟘 → a * c ≡ 𝟘 → a ≡ 𝟘
   eq-zero-left {a} {c} n e = no-zero-div F c a (F .ring .mul-comm c a ∙ e) n

@@ -2,7 +2,7 @@
 -- different points, has only zero numerators.
 use mathlib.Core.Path.{_≡_, refl, sym, _∙_, ap, ap₂}
 use mathlib.Core.Logic.{_≢_, _⊎_, inl, inr}
-use mathlib.Core.List.{List, [], _∷_, List·Memᴰ, List·Memᴰ·head, List·Memᴰ·tail, List·Memᴰ·not-nil, List·Memᴰ·cases-cons}
+use mathlib.Core.List.{List, [], _∷_, _++_, List·Memᴰ, List·Memᴰ·head, List·Memᴰ·tail, List·Memᴰ·not-nil, List·Memᴰ·cases-cons}
 use Prim.Native.Nat.{_≤_}
 use native.Mathlib.Omega.{arith}
 use lib.ListN.{length}
@@ -38,6 +38,10 @@ module _ (F : Field) where
     pub sum-mul : (k : K) (f : A → K) (l : List A) → sum F l (λ x. k * f x) ≡ k * sum F l f
     sum-mul k f [] = sym (mul-z (F .ring) k)
     sum-mul k f (x ∷ l) = ap (λ z. k * f x + z) (sum-mul k f l) ∙ sym (F .ring .mul-add k (f x) (sum F l f))
+
+    pub sum-append : (f : A → K) (a b : List A) → sum F (a ++ b) f ≡ sum F a f + sum F b f
+    sum-append f [] b = sym (z-add (F .ring) (sum F b f))
+    sum-append f (x ∷ a) b = ap (λ s. f x + s) (sum-append f a b) ∙ sym (F .ring .add-assoc (f x) (sum F a f) (sum F b f))
 
     abbrev pub Off : (A → K) → List A → K → Type 0
     Off c l p = (s : A) → List·Memᴰ s l → p - c s ≢ 𝟘

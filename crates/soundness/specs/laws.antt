@@ -1,0 +1,10 @@
+pub mod Setting
+pub mod Elements
+pub mod Values
+pub mod Tuples
+pub mod Sums
+pub mod Columns
+pub mod Ledgers
+pub mod Answers
+pub mod Terminals
+pub mod Demand3
