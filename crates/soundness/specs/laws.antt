@@ -1,3 +1,4 @@
+pub mod Joined
 pub mod Setting
 pub mod Elements
 pub mod Values
@@ -8,3 +9,9 @@ pub mod Ledgers
 pub mod Answers
 pub mod Terminals
 pub mod Demand3
+pub mod Entered
+pub mod Paper
+pub mod Fractions
+pub mod Passes
+pub mod Layout
+pub mod Constraints

@@ -2,7 +2,7 @@
 use mathlib.Core.Path.{_≡_, refl, sym, ap, ap₂, _∙_}
 use mathlib.Core.Logic.{_≢_}
 use mathlib.Core.Bool.{Bool, true, false, cond}
-use mathlib.Core.Option.{some}
+use mathlib.Core.Option.{Option, none, some}
 use mathlib.Core.List.{List, [], _∷_}
 use Prim.Native.Nat.{ℕ, zero, suc, _+_, _%_, _<_, _≤_}
 use native.Mathlib.Omega.{arith}
@@ -14,7 +14,7 @@ use Rattle.lists.specs.laws.Count.{last-or-below, some-of-false, not-of-false, 
 use Rattle.field.specs.Word.{mulM}
 use Rattle.field.specs.Element.{one4, is-zero}
 use Rattle.field.specs.Modulus.{Modulus, Certificate}
-use Rattle.field.specs.laws.Extension.{K}
+use Rattle.field.specs.laws.Extension.{K, h}
 use Rattle.field.specs.laws.Homomorphism.{KEl, el}
 use Rattle.fractions.specs.Inverse.{inverse, minus}
 use Rattle.fractions.specs.Sums.{sum}
@@ -26,7 +26,7 @@ use Rattle.logup.specs.Tuple.{tuple, denominator, quotient4}
 use Rattle.logup.specs.Column.{Place, branches, multiplicity, flag, chosen, denom, used-denom, additive-fraction, additive-fault, branch-fraction, branch-fault, exclusive-fraction, exclusive-fault, fraction, fault}
 use Rattle.logup.specs.Ledger.{Entry, Element, count, entry, lookup-entries}
 use Rattle.soundness.specs.laws.Setting.{into, N}
-use Rattle.soundness.specs.laws.Elements.{element-lift, element-sub, quotient-is, nonzero}
+use Rattle.soundness.specs.laws.Elements.{element-lift, element-sub, element-sum, element-quotient, quotient-is, nonzero}
 use Rattle.soundness.specs.laws.Sums.{share, share-none, sum-one, sum-next, sum-joined}
 use Rattle.soundness.specs.laws.Tuples.{denominator-is}
 
@@ -98,6 +98,51 @@ additive-sound p w c ok k l n =
     sym (ap (λ (b : Bool). is-zero (cond b one4 (denom p w c k))) (eqb-false n))
     ∙ some-of-false (λ k. is-zero (used-denom p w c k)) (branches c) k (cond-code 14 _ 0 ok .0) l
 
+-- denominators and fractions are four words below p
+module _ (p w : ℕ) (C : Certificate p w) (c : Place) where
+  pub denom-element : (k : ℕ) → Element p (denom p w c k)
+  unfolding denom denominator
+  denom-element k = element-sub p w C (c .alpha) _
+
+  pub branch-element : (o : Option ℕ) → Element p (branch-fraction p w c o)
+  branch-element none = element-lift p w C 0 (h p w C)
+  branch-element (some k) = element-quotient p w C (multiplicity c k) (denom p w c k)
+
+  pub additive-element : Element p (additive-fraction p w c)
+  unfolding additive-fraction
+  additive-element = element-sum p w C _ (branches c)
+
+  pub fraction-element : Element p (fraction p w c)
+  unfolding fraction exclusive-fraction
+  fraction-element = go (exclusive (c .lookups .lookups) (c .lookup))
+    where
+      go : (b : Bool) → Element p (cond b (branch-fraction p w c (chosen (flag c) (branches c))) (additive-fraction p w c))
+      go true = branch-element (chosen (flag c) (branches c))
+      go false = additive-element
+
+module _ (p w : ℕ) (M : Modulus p) (C : Certificate p w) (c : Place) where
+  pub branch-quotient : (k : ℕ)
+      → el p w C (quotient4 p w (multiplicity c k) (denom p w c k)) ≡ K p w C .ring .mul (into p w C (multiplicity c k)) (inverse (K p w C) (el p w C (denom p w c k)))
+  branch-quotient k = quotient-is p w C M (multiplicity c k) (denom p w c k) (denom-element p w C c k)
+
+  -- the denominator one of a zero multiplicity changes nothing
+  pub used-quotient : (k : ℕ)
+      → el p w C (quotient4 p w (multiplicity c k) (used-denom p w c k)) ≡ K p w C .ring .mul (into p w C (multiplicity c k)) (inverse (K p w C) (el p w C (denom p w c k)))
+  unfolding used-denom
+  used-quotient k = go (eqb (multiplicity c k) 0) refl
+    where
+      go : (b : Bool) → eqb (multiplicity c k) 0 ≡ b
+          → el p w C (quotient4 p w (multiplicity c k) (cond b one4 (denom p w c k)))
+          ≡ K p w C .ring .mul (into p w C (multiplicity c k)) (inverse (K p w C) (el p w C (denom p w c k)))
+      go true q =
+          let z : multiplicity c k ≡ 0 = eq-of-eqb (multiplicity c k) 0 q in
+          ap (λ (m : ℕ). el p w C (quotient4 p w m one4)) z ∙ quotient-is p w C M 0 one4 (element-lift p w C 1 (C .prime .big))
+          ∙ z-mul (K p w C .ring) (inverse (K p w C) (el p w C one4))
+          ∙ sym
+          (ap (λ (m : ℕ). K p w C .ring .mul (into p w C m) (inverse (K p w C) (el p w C (denom p w c k)))) z
+          ∙ z-mul (K p w C .ring) (inverse (K p w C) (el p w C (denom p w c k))))
+      go false q = branch-quotient k
+
 module _ (p w : ℕ) (M : Modulus p) (C : Certificate p w) (c : Place) (below : Below p (c .vals)) where
   abbrev en : ℕ → Entry
   en k = entry p (c .lookups) (c .vals) (c .lookup) k
@@ -108,10 +153,6 @@ module _ (p w : ℕ) (M : Modulus p) (C : Certificate p w) (c : Place) (below : 
   abbrev all : ℕ → List Entry
   all n = joined (λ k. en k ∷ []) 0 n
 
-  pub denom-element : (k : ℕ) → Element p (denom p w c k)
-  unfolding denom denominator
-  denom-element k = element-sub p w C (c .alpha) _
-
   pub denom-is : (k : ℕ)
       → el p w C (denom p w c k)
       ≡ minus (K p w C) (el p w C (c .alpha)) (Tables.combine (K p w C) (N p w C) (el p w C (c .beta)) (tuple (c .lookups) (c .vals) (c .lookup) k))
@@ -119,10 +160,9 @@ module _ (p w : ℕ) (M : Modulus p) (C : Certificate p w) (c : Place) (below : 
   denom-is k = denominator-is p w C (c .beta) (c .alpha) (tuple (c .lookups) (c .vals) (c .lookup) k)
 
   -- m ÷ denominator is the summand of an entry with the count m
-  quotient-share : (k : ℕ) → multiplicity c k ≡ en k .count → el p w C (quotient4 p w (multiplicity c k) (denom p w c k)) ≡ sh (en k)
-  quotient-share k e =
-      quotient-is p w C M (multiplicity c k) (denom p w c k) (denom-element k)
-      ∙ ap₂ (λ (m : ℕ) (x : KEl p w C). K p w C .ring .mul (into p w C m) (inverse (K p w C) x)) e (denom-is k)
+  as-share : (k : ℕ) → multiplicity c k ≡ en k .count
+      → K p w C .ring .mul (into p w C (multiplicity c k)) (inverse (K p w C) (el p w C (denom p w c k))) ≡ sh (en k)
+  as-share k e = ap₂ (λ (m : ℕ) (x : KEl p w C). K p w C .ring .mul (into p w C m) (inverse (K p w C) x)) e (denom-is k)
 
   -- additive
   module _ (add : exclusive (c .lookups .lookups) (c .lookup) ≡ false) where
@@ -130,22 +170,11 @@ module _ (p w : ℕ) (M : Modulus p) (C : Certificate p w) (c : Place) (below : 
     unfolding count multiplicity
     count-additive k = rw add refl
 
-    additive-term : (k : ℕ) → el p w C (quotient4 p w (multiplicity c k) (used-denom p w c k)) ≡ sh (en k)
-    unfolding used-denom
-    additive-term k = go (eqb (multiplicity c k) 0) refl
-      where
-        go : (b : Bool) → eqb (multiplicity c k) 0 ≡ b → el p w C (quotient4 p w (multiplicity c k) (cond b one4 (denom p w c k))) ≡ sh (en k)
-        go true q =
-            let z : multiplicity c k ≡ 0 = eq-of-eqb (multiplicity c k) 0 q in
-            ap (λ (m : ℕ). el p w C (quotient4 p w m one4)) z ∙ quotient-is p w C M 0 one4 (element-lift p w C 1 (C .prime .big))
-            ∙ z-mul (K p w C .ring) (inverse (K p w C) (el p w C one4)) ∙ sym (share-none p w C (c .alpha) (c .beta) (en k) (count-additive k ∙ z))
-        go false q = quotient-share k (sym (count-additive k))
-
     pub additive-is : el p w C (additive-fraction p w c) ≡ sum (K p w C) (lookup-entries p (c .lookups) (c .vals) (c .lookup)) sh
     unfolding additive-fraction lookup-entries branches
     additive-is =
         sum-joined p w C sh (λ k. quotient4 p w (multiplicity c k) (used-denom p w c k)) (λ k. en k ∷ []) (branches c)
-        (λ k _. additive-term k ∙ sym (sum-one p w C sh (en k)))
+        (λ k _. used-quotient p w M C c k ∙ as-share k (sym (count-additive k)) ∙ sym (sum-one p w C sh (en k)))
 
   -- exclusive
   module _ (ex : exclusive (c .lookups .lookups) (c .lookup) ≡ true) where
@@ -190,7 +219,7 @@ module _ (p w : ℕ) (M : Modulus p) (C : Certificate p w) (c : Place) (below : 
               → (ones c n ≤ 1 → el p w C (branch-fraction p w c (chosen (flag c) n)) ≡ upto n)
               → el p w C (branch-fraction p w c (cond b (some n) (chosen (flag c) n))) ≡ upto (suc n)
           go true q few ih =
-              quotient-share n (sym (count-full n (eq-of-eqb (flag c n) 1 q)))
+              branch-quotient p w M C c n ∙ as-share n (sym (count-full n (eq-of-eqb (flag c n) 1 q)))
               ∙ sym (next n ∙ ap (λ (x : KEl p w C). K p w C .ring .add x (sh (en n))) (none-yet n (omega arith) (omega arith)) ∙ z-add (K p w C .ring) (sh (en n)))
           go false q few ih = ih (omega arith) ∙ sym (no-more n (flag-zero c f n l q))
 
@@ -215,7 +244,7 @@ module _ (p w : ℕ) (M : Modulus p) (C : Certificate p w) (c : Place) (below : 
         ≢ K p w C .ring .z
     unfolding fault branches
     sound k l n z =
-        nonzero p w C (denom p w c k) (denom-element k) (go (exclusive (c .lookups .lookups) (c .lookup)) refl ok) (denom-is k ∙ z)
+        nonzero p w C (denom p w c k) (denom-element p w C c k) (go (exclusive (c .lookups .lookups) (c .lookup)) refl ok) (denom-is k ∙ z)
       where
         chosen-or-none : (ex : exclusive (c .lookups .lookups) (c .lookup) ≡ true) → exclusive-fault p w c ≡ 0 → (b : Bool) → eqb (flag c k) 1 ≡ b
             → is-zero (denom p w c k) ≡ false

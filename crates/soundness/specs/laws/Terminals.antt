@@ -1,16 +1,14 @@
 -- Fractions, accumulators and terminals are the paper's sums; at a pair that all lookups share, the terminal is the sum over all entries of the table.
-use mathlib.Core.Path.{_≡_, refl, sym, ap, ap₂, _∙_, subst}
+use mathlib.Core.Path.{_≡_, sym, ap, _∙_, subst}
 use mathlib.Core.Logic.{_≢_, ⊎-elim}
 use mathlib.Core.Option.{none}
 use mathlib.Core.List.{List, [], _∷_, _++_, List·Memᴰ, List·Memᴰ·not-nil}
-use Prim.Native.Nat.{ℕ, zero, suc, _+_, _*_, _<_, _≤_}
+use Prim.Native.Nat.{ℕ, _+_, _*_, _<_, _≤_}
 use native.Mathlib.Omega.{arith}
-use native.Mathlib.Nat.{mul-le-mul-left}
 use lib.Dec.{T}
 use lib.ListN.{length, length-append, List·getD-append}
 use lib.Seq.{getD-append-add}
 use Rattle.lists.specs.Count.{joined}
-use Rattle.lists.specs.laws.Count.{last-or-below}
 use Rattle.field.specs.Element.{element}
 use Rattle.field.specs.Modulus.{Modulus, Certificate}
 use Rattle.field.specs.laws.Extension.{K, h}
@@ -30,6 +28,7 @@ use Rattle.logup.specs.Rows.{place, fraction-at, row-sum, accumulator, first-fa
 use Rattle.logup.specs.Generation.{Answer, absent, terminal, terminal-words}
 use Rattle.logup.specs.Ledger.{Entry, Element, lookup-entries, row-entries, entries, at-pair}
 use Rattle.soundness.specs.Paper.{paper-fraction, paper-row, paper-sum}
+use Rattle.soundness.specs.laws.Joined.{word-joined, joined-none, joined-empty}
 use Rattle.soundness.specs.laws.Setting.{N, as-four}
 use Rattle.soundness.specs.laws.Elements.{element-lift, element-sum, sum-is}
 use Rattle.soundness.specs.laws.Values.{row-below}
@@ -66,27 +65,10 @@ module _ (p w : ℕ) (M : Modulus p) (C : Certificate p w) (t : Table) (challeng
       sum-is p w C (row-sum p w (t .lookups) challenges values) n
       ∙ sum-to-cong (K p w C) _ (paper-row p w C t challenges) n (λ r k. row-is-the-sum r (omega arith))
 
--- the words of a list that is repeated
-length-same : (l : List ℕ) (m n : ℕ) → length l ≡ m → length (joined (λ i. l) 0 n) ≡ m * n
-unfolding joined
-length-same l m zero e = omega arith
-length-same l m (suc n) e = length-append (joined (λ i. l) 0 n) l ∙ omega (arith, length-same l m n e)
-
-word-same : (l : List ℕ) (m n i j : ℕ) → length l ≡ m → i < n → j < m → word (joined (λ i. l) 0 n) (m * i + j) ≡ word l j
-unfolding joined
-word-same l m zero i j e k q = absurd (omega arith)
-word-same l m (suc n) i j e k q =
-    last-or-below (λ i. word (joined (λ i. l) 0 n ++ l) (m * i + j) ≡ word l j) n i k
-    (ap (λ (x : ℕ). word (joined (λ i. l) 0 n ++ l) (x + j)) (sym (length-same l m n e)) ∙ getD-append-add (joined (λ i. l) 0 n) l j 0)
-    (λ k. List·getD-append (joined (λ i. l) 0 n) l 0 (m * i + j) (rw (length-same l m n e) (inside k)) ∙ word-same l m n i j e k q)
-  where
-    inside : i < n → m * i + j < m * n
-    inside k = omega (arith, mul-le-mul-left {m = suc i} {n = n} m k)
-
 -- the challenges at a pair: alpha and beta for each lookup
 module _ (a b : List ℕ) (n i : ℕ) (la : length a ≡ 4) (lb : length b ≡ 4) (l : i < n) where
   at-word : (x j : ℕ) → x ≡ 8 * i + j → j < 8 → word (joined (λ i. a ++ b) 0 n) x ≡ word (a ++ b) j
-  at-word x j q k = ap (word (joined (λ i. a ++ b) 0 n)) q ∙ word-same (a ++ b) 8 n i j (length-append a b ∙ omega arith) l k
+  at-word x j q k = ap (word (joined (λ i. a ++ b) 0 n)) q ∙ word-joined (λ i. a ++ b) 8 (λ i. length-append a b ∙ omega arith) n i j l k
 
   alpha-word : (x j : ℕ) → x ≡ 8 * i + j → j < 4 → word (joined (λ i. a ++ b) 0 n) x ≡ word a j
   alpha-word x j q k = at-word x j q (omega arith) ∙ List·getD-append a b 0 j (omega arith)
@@ -124,16 +106,6 @@ place-at-pair p w t alpha beta la lb r i l =
       alpha = pair-alpha alpha beta (lookup-count (t .lookups .lookups)) i la lb l x;
       beta = pair-beta alpha beta (lookup-count (t .lookups .lookups)) i la lb l x;
     }
-
-module _ {A : Type 0} where
-  joined-zero : (f : ℕ → List A) → joined f 0 0 ≡ []
-  unfolding joined
-  joined-zero f = refl
-
-  joined-empty : (f : ℕ → List A) (n : ℕ) → ((i : ℕ) → f i ≡ []) → joined f 0 n ≡ []
-  unfolding joined
-  joined-empty f zero e = refl
-  joined-empty f (suc n) e = ap₂ _++_ (joined-empty f n e) (e (0 + n))
 
 -- one table at one pair
 module _ (m : Limits) (p w : ℕ) (M : Modulus p) (C : Certificate p w) (t : Table) (alpha beta : List ℕ) (ok : T (words-below p t))
@@ -188,7 +160,7 @@ module _ (m : Limits) (p w : ℕ) (M : Modulus p) (C : Certificate p w) (t : Tab
   unfolding entries row-entries
   no-entries z =
       joined-empty (λ r. row-entries p (t .lookups) (vs r)) rows
-      (λ r. ap (joined (lookup-entries p (t .lookups) (vs r)) 0) z ∙ joined-zero (lookup-entries p (t .lookups) (vs r)))
+      (λ r. ap (joined (lookup-entries p (t .lookups) (vs r)) 0) z ∙ joined-none (lookup-entries p (t .lookups) (vs r)))
 
   terminal-element : Element p (accumulator p w (t .lookups) cs vs rows)
   unfolding accumulator
