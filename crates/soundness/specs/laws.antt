@@ -1,5 +1,6 @@
 pub mod Joined
 pub mod Setting
+pub mod Words
 pub mod Elements
 pub mod Values
 pub mod Tuples
@@ -15,3 +16,6 @@ pub mod Fractions
 pub mod Passes
 pub mod Layout
 pub mod Constraints
+pub mod Accepts
+pub mod FullSets
+pub mod Example

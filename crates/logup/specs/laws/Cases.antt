@@ -194,6 +194,20 @@ cases =
       expected = 17 ∷ 0 ∷ 2 ∷ 0 ∷ [];
     }
     ∷ record { computed = tested (additive 1 (3 ∷ [])) five (lift 0 ++ lift 1006632961) (some (lift 0)); expected = 17 ∷ 0 ∷ 3 ∷ 0 ∷ [] }
+    -- a zero denominator may let another fraction pass: alpha 5, tuple (5), multiplicity 0 generates 0, and 7 passes as well
+    ∷ record { computed = generated (additive 0 (5 ∷ [])) five (replicate 8 7777); expected = replicate 16 0 }
+    ∷ record { computed = tested (additive 0 (5 ∷ [])) five (lift 0 ++ lift 7) (some (lift 7)); expected = plain 0 [] }
+    -- a wider trace passes whatever stands past the needed columns; a trace of one column is too narrow
+    ∷ record {
+      computed =
+          verdict-words
+          (verdict cabinet babybear babybear-w (additive 1 (3 ∷ [])) five 3 (lift 0 ++ lift 1006632961 ++ lift 9) (some (lift 1006632961)));
+      expected = plain 0 [];
+    }
+    ∷ record {
+      computed = verdict-words (verdict cabinet babybear babybear-w (additive 1 (3 ∷ [])) five 1 (lift 0) (some (lift 1006632961)));
+      expected = plain 10 [];
+    }
     -- row 8: fewer challenges; more are taken
     ∷ record { computed = tested (additive 1 (3 ∷ [])) (lift 5) (lift 0 ++ lift 1006632961) (some (lift 1006632961)); expected = plain 8 [] }
     ∷ record { computed = tested (additive 1 (3 ∷ [])) (five ++ lift 9) (lift 0 ++ lift 1006632961) (some (lift 1006632961)); expected = plain 0 [] }

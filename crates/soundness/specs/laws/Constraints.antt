@@ -3,20 +3,18 @@ use mathlib.Core.Path.{_≡_, refl, sym, ap, ap₂, _∙_}
 use mathlib.Core.Logic.{_↔_, ⊎-elim}
 use mathlib.Core.Bool.{Bool, true, false, cond, _&&_, _||_, not}
 use mathlib.Core.Option.{none, some}
-use mathlib.Core.List.{List, [], _∷_, _++_}
-use Prim.Native.Nat.{ℕ, zero, suc, _+_, _*_, _/_, _%_, _<_}
+use mathlib.Core.List.{List}
+use Prim.Native.Nat.{ℕ, _+_, _*_, _/_, _%_, _<_}
 use native.Mathlib.Omega.{arith}
 use native.Mathlib.Nat.{le-refl, le-of-eq}
-use lib.Dec.{T, eqb, leb, ltb, ltb→lt, lt→ltb, le→leb, eqb→eq}
+use lib.Dec.{T, eqb, leb, ltb→lt, le→leb, eqb→eq}
 use lib.ListN.{length, take, drop}
 use lib.Seq.{take-at}
 use Rattle.lists.specs.Count.{joined, or-else}
 use Rattle.lists.specs.laws.Count.{and-left, and-right, or-else-none, of-true, true-of, eqb-true}
-use Rattle.lists.specs.laws.Tests.{every-of}
-use Rattle.field.specs.Element.{at}
 use Rattle.field.specs.Modulus.{Modulus, Certificate}
 use Rattle.field.specs.laws.Extension.{h}
-use Rattle.expression.specs.Words.{word, all-below}
+use Rattle.expression.specs.Words.{all-below}
 use Rattle.expression.specs.Node.{node-count}
 use Rattle.expression.specs.Values.{row-values}
 use Rattle.expression.specs.Valid.{Below}
@@ -31,45 +29,13 @@ use Rattle.logup.specs.Rows.{place, fraction-at, row-sum, accumulator, row-word
 use Rattle.logup.specs.Constraints.{constraints-refusal, verdict, Regular, IsGenerated}
 use Rattle.logup.specs.Generation.{Outcome, terminal, written, rows-outcome, entry-outcome, generation, accepts, terminal-words}
 use Rattle.logup.specs.Ledger.{Element}
-use Rattle.soundness.specs.laws.Setting.{as-four}
+use Rattle.soundness.specs.laws.Words.{and-of, or-right, all-below-of, append-each, joined-each, element-each}
 use Rattle.soundness.specs.laws.Elements.{element-sum}
 use Rattle.soundness.specs.laws.Columns.{fraction-element}
 use Rattle.soundness.specs.laws.Entered.{unless-none, unless-of, made, enough-rows, Passed, passed}
 use Rattle.soundness.specs.laws.Answers.{Accepted, accepted-of}
 use Rattle.soundness.specs.laws.Passes.{exactly-generated}
 use Rattle.soundness.specs.laws.Layout.{trace-length, trace-used, trace-generated, generated-is-trace}
-
-and-of : (a b : Bool) → T a → T b → T (a && b)
-and-of true b t q = q
-and-of false b t q = t
-
-or-right : (a b : Bool) → T b → T (a || b)
-or-right true b t = tt
-or-right false b t = t
-
-all-below-of : (p : ℕ) (l : List ℕ) → Below p l → T (all-below p l)
-unfolding all-below
-all-below-of p l b = of-true (every-of (λ i. ltb (word l i) p) (length l) (λ i _. true-of (ltb (word l i) p) (lt→ltb (word l i) p (b .each i))))
-
-append-each : (p : ℕ) (a b : List ℕ) → ((i : ℕ) → word a i < p) → ((i : ℕ) → word b i < p) → (i : ℕ) → word (a ++ b) i < p
-append-each p [] b ba bb i = bb i
-append-each p (x ∷ a) b ba bb zero = ba 0
-append-each p (x ∷ a) b ba bb (suc i) = append-each p a b (λ i. ba (suc i)) bb i
-
-joined-each : (p : ℕ) (f : ℕ → List ℕ) (a n : ℕ) → 0 < p → ((i j : ℕ) → word (f i) j < p) → (i : ℕ) → word (joined f a n) i < p
-unfolding joined
-joined-each p f a zero pos each = λ i. pos
-joined-each p f a (suc n) pos each = append-each p (joined f a n) (f (a + n)) (joined-each p f a n pos each) (each (a + n))
-
-element-each : (p : ℕ) (l : List ℕ) → 0 < p → Element p l → (i : ℕ) → word l i < p
-element-each p l pos e i = rw (as-four l (e .four)) (go i)
-  where
-    go : (i : ℕ) → word (at l 0 ∷ at l 1 ∷ at l 2 ∷ at l 3 ∷ []) i < p
-    go zero = e .below .w0
-    go (suc zero) = e .below .w1
-    go (suc (suc zero)) = e .below .w2
-    go (suc (suc (suc zero))) = e .below .w3
-    go (suc (suc (suc (suc i)))) = pos
 
 present : (b : Bool) → T (cond b true false) → T b
 present true t = tt
