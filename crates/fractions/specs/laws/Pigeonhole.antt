@@ -27,7 +27,8 @@ module _ {A : Type 0} where
   -- The number of the pairs, as the document has it.
   pub pairs-count : (d : ℕ) (l : List A) → d * length l * (length l - 1) / 2 ≡ d * length (pairs l)
   pairs-count d l =
-      ap (λ m. m / 2) (mul-assoc d (length l) (length l - 1) ∙ ap (λ m. d * m) (halves (length l) (length (pairs l)) (pairs-square l)) ∙ sym (mul-assoc d (length (pairs l)) 2))
+      ap (λ m. m / 2) (mul-assoc d (length l) (length l - 1)
+      ∙ ap (λ m. d * m) (halves (length l) (length (pairs l)) (pairs-square l)) ∙ sym (mul-assoc d (length (pairs l)) 2))
       ∙ mul-div-cancel (d * length (pairs l)) (omega arith)
 
   pub apart-of-pairs : {B : Type 0} (c : A → B) (l : List A) → ((x y : A) → List·Memᴰ (x, y) (pairs l) → c x ≢ c y) → Apart c l

@@ -33,7 +33,9 @@ module _ (F : Field) where
 
     pub sum-add : (f g : A → K) (l : List A) → sum F l (λ x. f x + g x) ≡ sum F l f + sum F l g
     sum-add f g [] = sym (F .ring .add-z 𝟘)
-    sum-add f g (x ∷ l) = ap (λ (x′ : K). f x + g x + x′) (sum-add f g l) ∙ solve (F .ring) (f x ∷ g x ∷ sum F l f ∷ sum F l g ∷ []) (X 0 ⊕ X 1 ⊕ (X 2 ⊕ X 3)) (X 0 ⊕ X 2 ⊕ (X 1 ⊕ X 3)) tt
+    sum-add f g (x ∷ l) = ap (λ (x′ : K). f x + g x + x′) (sum-add f g l)
+        ∙ solve (F .ring) (f x ∷ g x ∷ sum F l f ∷ sum F l g ∷ [])
+        (X 0 ⊕ X 1 ⊕ (X 2 ⊕ X 3)) (X 0 ⊕ X 2 ⊕ (X 1 ⊕ X 3)) tt
 
     pub sum-mul : (k : K) (f : A → K) (l : List A) → sum F l (λ x. k * f x) ≡ k * sum F l f
     sum-mul k f [] = sym (mul-z (F .ring) k)

@@ -61,7 +61,8 @@ module _ (p w : ℕ) (C : Certificate p w) where
   none-has : (es : List Entry) (l : List ℕ) → ((e : Entry) → List·Memᴰ e es → e .tuple ≢ l) → Tables.ledger (K p w C) (N p w C) es l ≡ 0
   none-has [] l n = refl
   none-has (e ∷ es) l n =
-      if-neg (List-discrete ℕ-discrete (e .tuple) l) (n e (List·Memᴰ·head refl)) (addM p (e .count) (Tables.ledger (K p w C) (N p w C) es l)) (Tables.ledger (K p w C) (N p w C) es l)
+      if-neg (List-discrete ℕ-discrete (e .tuple) l) (n e (List·Memᴰ·head refl))
+      (addM p (e .count) (Tables.ledger (K p w C) (N p w C) es l)) (Tables.ledger (K p w C) (N p w C) es l)
       ∙ none-has es l (λ d m. n d (List·Memᴰ·tail m))
 
   -- ledgers that are equal at each list of w words below p are equal at every list
@@ -186,7 +187,8 @@ module _ (m : Limits) (p w : ℕ) (M : Modulus p) (C : Certificate p w) (t₁ t�
       forth r k a ma e = same-of-el p w C _ _ (at₁ r k a ma .words) (at₂ r k a ma .words) (at₁ r k a ma .is ∙ e ∙ sym (at₂ r k a ma .is))
 
       back : AtEachPair set (λ a b. terminal-words (answer-at m p w t₁ buffers₁ a b) ≡ terminal-words (answer-at m p w t₂ buffers₂ a b))
-          → (r : Pairing (List ℕ)) → List·Memᴰ r set → (a : List ℕ) → List·Memᴰ a (r .alphas) → term (el p w C a) (el p w C (r .beta)) E₁ ≡ term (el p w C a) (el p w C (r .beta)) E₂
+          → (r : Pairing (List ℕ)) → List·Memᴰ r set → (a : List ℕ) → List·Memᴰ a (r .alphas)
+          → term (el p w C a) (el p w C (r .beta)) E₁ ≡ term (el p w C a) (el p w C (r .beta)) E₂
       back agree r k a ma = sym (at₁ r k a ma .is) ∙ ap (el p w C) (agree r k a ma) ∙ at₂ r k a ma .is
 
 -- Demand 3, for every prime and value of X⁴ that make a field

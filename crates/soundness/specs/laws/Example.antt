@@ -114,5 +114,7 @@ told-apart same =
     (only-pair (λ a b. T (accepts (answer-at cabinet babybear babybear-w entered buffers a b))) (of-true (holds .1 .1 .1 .0)))
     (only-pair (λ a b. T (accepts (answer-at cabinet babybear babybear-w no-lookup buffers a b))) (of-true (holds .1 .1 .1 .1 .0)))
     .0 same pair (List·Memᴰ·head refl) (lift 5) (List·Memᴰ·head refl) in
-    let z : _≡_ {A = ℕ} 1006632961 0 = ap (λ (l : List ℕ). at l 0) (sym (same-list-eq _ _ (of-true (holds .1 .1 .1 .1 .1 .0))) ∙ agree ∙ same-list-eq _ _ (of-true (holds .1 .1 .1 .1 .1 .1 .0))) in
+    let z : _≡_ {A = ℕ} 1006632961 0 = ap (λ (l : List ℕ). at l 0)
+    (sym (same-list-eq _ _ (of-true (holds .1 .1 .1 .1 .1 .0)))
+    ∙ agree ∙ same-list-eq _ _ (of-true (holds .1 .1 .1 .1 .1 .1 .0))) in
     omega arith

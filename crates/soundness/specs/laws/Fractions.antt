@@ -8,6 +8,7 @@ use Prim.Native.Nat.{ℕ, zero, suc, _+_, _<_, _≤_}
 use native.Mathlib.Omega.{arith}
 use native.Mathlib.Nat.{le-refl}
 use lib.Dec.{eqb}
+use Rattle.algebra.specs.Ring.{CRing}
 use Rattle.algebra.specs.laws.Solve.{O, I, X, _⊕_, _⊗_, ⊝_, solve, z-add, mul-z}
 use Rattle.lists.specs.Count.{total}
 use Rattle.lists.specs.laws.Count.{eq-of-eqb}
@@ -30,6 +31,8 @@ use Rattle.soundness.specs.laws.Elements.{element-lift, element-add, ele
 use Rattle.soundness.specs.laws.Columns.{ones, ones-pos, lawful, flag-zero, chosen-sound, denom-element, additive-element, branch-quotient, used-quotient}
 
 module _ (p w : ℕ) (M : Modulus p) (C : Certificate p w) where
+  open CRing (K p w C .ring) using (z as 𝟘, u as 𝟙, add, mul, neg)
+
   abbrev ⟦_⟧ : List ℕ → KEl p w C
   ⟦ a ⟧ = el p w C a
 
@@ -38,20 +41,22 @@ module _ (p w : ℕ) (M : Modulus p) (C : Certificate p w) where
   step-iff a b c ea = (
     λ e. same-of-el p w C a (add4 p b c) ea (element-add p w C b c) (into-sum (sym (el-sub p w C a b) ∙ sub-zero-iff p w C (sub4 p a b) c .0 e) ∙ sym (el-add p w C b c)),
     λ e. sub-zero-iff p w C (sub4 p a b) c .1
-        (el-sub p w C a b ∙ ap (λ (x : KEl p w C). K p w C .ring .add x (K p w C .ring .neg ⟦ b ⟧)) (ap (el p w C) e ∙ el-add p w C b c)
+        (el-sub p w C a b ∙ ap (λ (x : KEl p w C). add x (neg ⟦ b ⟧)) (ap (el p w C) e ∙ el-add p w C b c)
         ∙ solve (K p w C .ring) (⟦ b ⟧ ∷ ⟦ c ⟧ ∷ []) (X 0 ⊕ X 1 ⊕ ⊝ X 0) (X 1) tt),
   )
     where
-      into-sum : K p w C .ring .add ⟦ a ⟧ (K p w C .ring .neg ⟦ b ⟧) ≡ ⟦ c ⟧ → ⟦ a ⟧ ≡ K p w C .ring .add ⟦ b ⟧ ⟦ c ⟧
+      into-sum : add ⟦ a ⟧ (neg ⟦ b ⟧) ≡ ⟦ c ⟧ → ⟦ a ⟧ ≡ add ⟦ b ⟧ ⟦ c ⟧
       into-sum e =
-          solve (K p w C .ring) (⟦ a ⟧ ∷ ⟦ b ⟧ ∷ []) (X 0) (X 1 ⊕ (X 0 ⊕ ⊝ X 1)) tt ∙ ap (K p w C .ring .add ⟦ b ⟧) e
+          solve (K p w C .ring) (⟦ a ⟧ ∷ ⟦ b ⟧ ∷ []) (X 0) (X 1 ⊕ (X 0 ⊕ ⊝ X 1)) tt ∙ ap (add ⟦ b ⟧) e
 
   -- where D is not zero and D · f is N, the constraint D · x - N vanishes at f only
-  vanishes-at : (d n f x : List ℕ) → ⟦ d ⟧ ≢ K p w C .ring .z → K p w C .ring .mul ⟦ d ⟧ ⟦ f ⟧ ≡ ⟦ n ⟧ → Element p f → Element p x
+  vanishes-at : (d n f x : List ℕ) → ⟦ d ⟧ ≢ 𝟘 → mul ⟦ d ⟧ ⟦ f ⟧ ≡ ⟦ n ⟧ → Element p f → Element p x
       → (is-zero (sub4 p (mul4 p w d x) n) ≡ true) ↔ (x ≡ f)
   vanishes-at d n f x ne e ef ex = (
-    λ q. same-of-el p w C x f ex ef (mul-cancel (K p w C) ⟦ d ⟧ ne (K p w C .ring .mul-comm ⟦ x ⟧ ⟦ d ⟧ ∙ sym (el-mul p w C d x) ∙ sub-zero-iff p w C (mul4 p w d x) n .0 q ∙ sym e ∙ K p w C .ring .mul-comm ⟦ d ⟧ ⟦ f ⟧)),
-    λ q. sub-zero-iff p w C (mul4 p w d x) n .1 (el-mul p w C d x ∙ ap (λ (x : List ℕ). K p w C .ring .mul ⟦ d ⟧ ⟦ x ⟧) q ∙ e),
+    λ q. same-of-el p w C x f ex ef
+        (mul-cancel (K p w C) ⟦ d ⟧ ne (K p w C .ring .mul-comm ⟦ x ⟧ ⟦ d ⟧ ∙ sym (el-mul p w C d x)
+        ∙ sub-zero-iff p w C (mul4 p w d x) n .0 q ∙ sym e ∙ K p w C .ring .mul-comm ⟦ d ⟧ ⟦ f ⟧)),
+    λ q. sub-zero-iff p w C (mul4 p w d x) n .1 (el-mul p w C d x ∙ ap (λ (x : List ℕ). mul ⟦ d ⟧ ⟦ x ⟧) q ∙ e),
   )
 
   module _ (c : Place) where
@@ -60,7 +65,7 @@ module _ (p w : ℕ) (M : Modulus p) (C : Certificate p w) where
 
     -- additive
     module _ (all : (k : ℕ) → k < branches c → is-zero (denom p w c k) ≡ false) where
-      den-ne : (k : ℕ) → k < branches c → den k ≢ K p w C .ring .z
+      den-ne : (k : ℕ) → k < branches c → den k ≢ 𝟘
       den-ne k l = nonzero p w C (denom p w c k) (denom-element p w C c k) (all k l)
 
       additive-den : ⟦ additive-denominator p w c ⟧ ≡ product-to (K p w C) den (branches c)
@@ -71,26 +76,27 @@ module _ (p w : ℕ) (M : Modulus p) (C : Certificate p w) where
       unfolding others
       others-is k = product-is p w C (λ j. cond (eqb j k) one4 (denom p w c j)) (branches c) ∙ product-to-cong (K p w C) _ _ (branches c) (λ j _. go (eqb j k) j)
         where
-          go : (b : Bool) (j : ℕ) → ⟦ cond b one4 (denom p w c j) ⟧ ≡ cond b (K p w C .ring .u) (den j)
+          go : (b : Bool) (j : ℕ) → ⟦ cond b one4 (denom p w c j) ⟧ ≡ cond b 𝟙 (den j)
           go true j = refl
           go false j = refl
 
-      additive-num : ⟦ additive-numerator p w c ⟧ ≡ sum-to (K p w C) (λ k. K p w C .ring .mul (into p w C (multiplicity c k)) (but (K p w C) den (branches c) k)) (branches c)
+      additive-num : ⟦ additive-numerator p w c ⟧ ≡ sum-to (K p w C) (λ k. mul (into p w C (multiplicity c k)) (but (K p w C) den (branches c) k)) (branches c)
       unfolding additive-numerator
       additive-num =
           sum-is p w C (λ k. scale4 p (multiplicity c k) (others p w c k)) (branches c)
-          ∙ sum-to-cong (K p w C) _ _ (branches c) (λ k _. scale-is p w C (multiplicity c k) (others p w c k) ∙ ap (K p w C .ring .mul (into p w C (multiplicity c k))) (others-is k))
+          ∙ sum-to-cong (K p w C) _ _ (branches c) (λ k _. scale-is p w C (multiplicity c k) (others p w c k) ∙ ap (mul (into p w C (multiplicity c k))) (others-is k))
 
-      additive-frac : ⟦ additive-fraction p w c ⟧ ≡ sum-to (K p w C) (λ k. K p w C .ring .mul (into p w C (multiplicity c k)) (inverse (K p w C) (den k))) (branches c)
+      additive-frac : ⟦ additive-fraction p w c ⟧ ≡ sum-to (K p w C) (λ k. mul (into p w C (multiplicity c k)) (inverse (K p w C) (den k))) (branches c)
       unfolding additive-fraction
-      additive-frac = sum-is p w C (λ k. quotient4 p w (multiplicity c k) (used-denom p w c k)) (branches c) ∙ sum-to-cong (K p w C) _ _ (branches c) (λ k _. used-quotient p w M C c k)
+      additive-frac = sum-is p w C (λ k. quotient4 p w (multiplicity c k) (used-denom p w c k)) (branches c)
+          ∙ sum-to-cong (K p w C) _ _ (branches c) (λ k _. used-quotient p w M C c k)
 
       additive-constraint : (x : List ℕ) → Element p x
           → (is-zero (sub4 p (mul4 p w (additive-denominator p w c) x) (additive-numerator p w c)) ≡ true) ↔ (x ≡ additive-fraction p w c)
       additive-constraint x ex =
           vanishes-at (additive-denominator p w c) (additive-numerator p w c) (additive-fraction p w c) x
-          (subst (λ (x : KEl p w C). x ≢ K p w C .ring .z) (sym additive-den) (product-to-ne (K p w C) den (branches c) den-ne))
-          (ap₂ (K p w C .ring .mul) additive-den additive-frac ∙ common (K p w C) den (λ k. into p w C (multiplicity c k)) (branches c) den-ne ∙ sym additive-num)
+          (subst (λ (x : KEl p w C). x ≢ 𝟘) (sym additive-den) (product-to-ne (K p w C) den (branches c) den-ne))
+          (ap₂ mul additive-den additive-frac ∙ common (K p w C) den (λ k. into p w C (multiplicity c k)) (branches c) den-ne ∙ sym additive-num)
           (additive-element p w C c) ex
 
     -- exclusive
@@ -98,37 +104,37 @@ module _ (p w : ℕ) (M : Modulus p) (C : Certificate p w) where
     flags n = sum-to (K p w C) (λ k. into p w C (flag c k)) n
 
     abbrev chosen-den : ℕ → KEl p w C
-    chosen-den n = sum-to (K p w C) (λ k. K p w C .ring .mul (into p w C (flag c k)) (den k)) n
+    chosen-den n = sum-to (K p w C) (λ k. mul (into p w C (flag c k)) (den k)) n
 
     abbrev chosen-num : ℕ → KEl p w C
-    chosen-num n = sum-to (K p w C) (λ k. K p w C .ring .mul (into p w C (flag c k)) (into p w C (multiplicity c k))) n
+    chosen-num n = sum-to (K p w C) (λ k. mul (into p w C (flag c k)) (into p w C (multiplicity c k))) n
 
     -- what the three sums over the first n branches are
     abbrev Sums : ℕ → Option ℕ → Type 0
-    Sums n none = (flags n ≡ K p w C .ring .z) × (chosen-den n ≡ K p w C .ring .z) × (chosen-num n ≡ K p w C .ring .z)
-    Sums n (some k) = (flags n ≡ K p w C .ring .u) × (chosen-den n ≡ den k) × (chosen-num n ≡ into p w C (multiplicity c k)) × (k < n) × (flag c k ≡ 1)
+    Sums n none = (flags n ≡ 𝟘) × (chosen-den n ≡ 𝟘) × (chosen-num n ≡ 𝟘)
+    Sums n (some k) = (flags n ≡ 𝟙) × (chosen-den n ≡ den k) × (chosen-num n ≡ into p w C (multiplicity c k)) × (k < n) × (flag c k ≡ 1)
 
-    zero-more : (s f x y : KEl p w C) → f ≡ K p w C .ring .z → s ≡ y → K p w C .ring .add s (K p w C .ring .mul f x) ≡ y
+    zero-more : (s f x y : KEl p w C) → f ≡ 𝟘 → s ≡ y → add s (mul f x) ≡ y
     zero-more s f x y e q =
-        ap (λ (f : KEl p w C). K p w C .ring .add s (K p w C .ring .mul f x)) e
+        ap (λ (f : KEl p w C). add s (mul f x)) e
         ∙ solve (K p w C .ring) (s ∷ x ∷ []) (X 0 ⊕ O ⊗ X 1) (X 0) tt ∙ q
 
-    one-more : (s f x : KEl p w C) → f ≡ K p w C .ring .u → s ≡ K p w C .ring .z → K p w C .ring .add s (K p w C .ring .mul f x) ≡ x
+    one-more : (s f x : KEl p w C) → f ≡ 𝟙 → s ≡ 𝟘 → add s (mul f x) ≡ x
     one-more s f x e q =
-        ap₂ (λ (s f : KEl p w C). K p w C .ring .add s (K p w C .ring .mul f x)) q e ∙ solve (K p w C .ring) (x ∷ []) (O ⊕ I ⊗ X 0) (X 0) tt
+        ap₂ (λ (s f : KEl p w C). add s (mul f x)) q e ∙ solve (K p w C .ring) (x ∷ []) (O ⊕ I ⊗ X 0) (X 0) tt
 
     off : (n : ℕ) (o : Option ℕ) → flag c n ≡ 0 → Sums n o → Sums (suc n) o
     off n none z (a, b, d) =
-        let e : into p w C (flag c n) ≡ K p w C .ring .z = ap (into p w C) z in
-        (ap₂ (K p w C .ring .add) a e ∙ K p w C .ring .add-z (K p w C .ring .z), zero-more (chosen-den n) _ (den n) _ e b, zero-more (chosen-num n) _ (into p w C (multiplicity c n)) _ e d)
+        let e : into p w C (flag c n) ≡ 𝟘 = ap (into p w C) z in
+        (ap₂ add a e ∙ K p w C .ring .add-z 𝟘, zero-more (chosen-den n) _ (den n) _ e b, zero-more (chosen-num n) _ (into p w C (multiplicity c n)) _ e d)
     off n (some k) z (a, b, d, l, o) =
-        let e : into p w C (flag c n) ≡ K p w C .ring .z = ap (into p w C) z in
-        (ap₂ (K p w C .ring .add) a e ∙ K p w C .ring .add-z (K p w C .ring .u), zero-more (chosen-den n) _ (den n) _ e b, zero-more (chosen-num n) _ (into p w C (multiplicity c n)) _ e d, omega arith, o)
+        let e : into p w C (flag c n) ≡ 𝟘 = ap (into p w C) z in
+        (ap₂ add a e ∙ K p w C .ring .add-z 𝟙, zero-more (chosen-den n) _ (den n) _ e b, zero-more (chosen-num n) _ (into p w C (multiplicity c n)) _ e d, omega arith, o)
 
     on : (n : ℕ) (o : Option ℕ) → flag c n ≡ 1 → ones c n ≡ 0 → Sums n o → Sums (suc n) (some n)
     on n none q z (a, b, d) =
-        let e : into p w C (flag c n) ≡ K p w C .ring .u = ap (into p w C) q in
-        (ap₂ (K p w C .ring .add) a e ∙ z-add (K p w C .ring) (K p w C .ring .u), one-more (chosen-den n) _ (den n) e b, one-more (chosen-num n) _ (into p w C (multiplicity c n)) e d, le-refl (suc n), q)
+        let e : into p w C (flag c n) ≡ 𝟙 = ap (into p w C) q in
+        (ap₂ add a e ∙ z-add (K p w C .ring) 𝟙, one-more (chosen-den n) _ (den n) e b, one-more (chosen-num n) _ (into p w C (multiplicity c n)) e d, le-refl (suc n), q)
     on n (some k) q z (a, b, d, l, o) = absurd (let one : 1 ≤ ones c n = ones-pos c n k l o in omega arith)
 
     module _ (ex : exclusive (c .lookups .lookups) (c .lookup) ≡ true) (ok : exclusive-fault p w c ≡ 0) where
@@ -141,13 +147,13 @@ module _ (p w : ℕ) (M : Modulus p) (C : Certificate p w) where
           go true q f ih = on n (chosen (flag c) n) (eq-of-eqb (flag c n) 1 q) (omega arith) (ih (omega arith))
           go false q f ih = off n (chosen (flag c) n) (flag-zero c (lawful p w c ok) n l q) (ih (omega arith))
 
-      exclusive-den : ⟦ exclusive-denominator p w c ⟧ ≡ K p w C .ring .add (chosen-den (branches c)) (K p w C .ring .add (K p w C .ring .u) (K p w C .ring .neg (flags (branches c))))
+      exclusive-den : ⟦ exclusive-denominator p w c ⟧ ≡ add (chosen-den (branches c)) (add 𝟙 (neg (flags (branches c))))
       unfolding exclusive-denominator
       exclusive-den =
           el-add p w C (sum4 p (λ k. scale4 p (flag c k) (denom p w c k)) (branches c)) (sub4 p one4 (sum4 p (λ k. lift (flag c k)) (branches c)))
-          ∙ ap₂ (K p w C .ring .add)
+          ∙ ap₂ add
           (sum-is p w C (λ k. scale4 p (flag c k) (denom p w c k)) (branches c) ∙ sum-to-cong (K p w C) _ _ (branches c) (λ k _. scale-is p w C (flag c k) (denom p w c k)))
-          (el-sub p w C one4 (sum4 p (λ k. lift (flag c k)) (branches c)) ∙ ap (λ (x : KEl p w C). K p w C .ring .add (K p w C .ring .u) (K p w C .ring .neg x)) (sum-is p w C (λ k. lift (flag c k)) (branches c)))
+          (el-sub p w C one4 (sum4 p (λ k. lift (flag c k)) (branches c)) ∙ ap (λ (x : KEl p w C). add 𝟙 (neg x)) (sum-is p w C (λ k. lift (flag c k)) (branches c)))
 
       exclusive-num : ⟦ exclusive-numerator p w c ⟧ ≡ chosen-num (branches c)
       unfolding exclusive-numerator
@@ -157,22 +163,22 @@ module _ (p w : ℕ) (M : Modulus p) (C : Certificate p w) where
 
       -- D is not zero, and D · f is N
       abbrev Exact : List ℕ → Type 0
-      Exact f = (⟦ exclusive-denominator p w c ⟧ ≢ K p w C .ring .z) × (K p w C .ring .mul ⟦ exclusive-denominator p w c ⟧ ⟦ f ⟧ ≡ ⟦ exclusive-numerator p w c ⟧) × Element p f
+      Exact f = (⟦ exclusive-denominator p w c ⟧ ≢ 𝟘) × (mul ⟦ exclusive-denominator p w c ⟧ ⟦ f ⟧ ≡ ⟦ exclusive-numerator p w c ⟧) × Element p f
 
       exact : (o : Option ℕ) → Sums (branches c) o → Exact (branch-fraction p w c o)
       exact none (a, b, d) =
-          let one : ⟦ exclusive-denominator p w c ⟧ ≡ K p w C .ring .u =
-          exclusive-den ∙ ap₂ (λ (x y : KEl p w C). K p w C .ring .add x (K p w C .ring .add (K p w C .ring .u) (K p w C .ring .neg y))) b a ∙ solve (K p w C .ring) [] (O ⊕ (I ⊕ ⊝ O)) I tt in
+          let one : ⟦ exclusive-denominator p w c ⟧ ≡ 𝟙 =
+          exclusive-den ∙ ap₂ (λ (x y : KEl p w C). add x (add 𝟙 (neg y))) b a ∙ solve (K p w C .ring) [] (O ⊕ (I ⊕ ⊝ O)) I tt in
           (λ z. K p w C .u≢z (sym one ∙ z), mul-z (K p w C .ring) ⟦ exclusive-denominator p w c ⟧ ∙ sym (exclusive-num ∙ d), element-lift p w C 0 (h p w C))
       exact (some k) (a, b, d, l, o) =
           let is : ⟦ exclusive-denominator p w c ⟧ ≡ den k =
-          exclusive-den ∙ ap₂ (λ (x y : KEl p w C). K p w C .ring .add x (K p w C .ring .add (K p w C .ring .u) (K p w C .ring .neg y))) b a ∙ solve (K p w C .ring) (den k ∷ []) (X 0 ⊕ (I ⊕ ⊝ I)) (X 0) tt in
+          exclusive-den ∙ ap₂ (λ (x y : KEl p w C). add x (add 𝟙 (neg y))) b a ∙ solve (K p w C .ring) (den k ∷ []) (X 0 ⊕ (I ⊕ ⊝ I)) (X 0) tt in
           let sound : is-zero (denom p w c k) ≡ false = chosen-sound p w c ok k l o in
-          let ne : den k ≢ K p w C .ring .z = nonzero p w C (denom p w c k) (denom-element p w C c k) sound in (
+          let ne : den k ≢ 𝟘 = nonzero p w C (denom p w c k) (denom-element p w C c k) sound in (
             λ z. ne (sym is ∙ z),
-            ap₂ (K p w C .ring .mul) is (branch-quotient p w M C c k)
+            ap₂ mul is (branch-quotient p w M C c k)
                 ∙ solve (K p w C .ring) (den k ∷ into p w C (multiplicity c k) ∷ inverse (K p w C) (den k) ∷ []) (X 0 ⊗ (X 1 ⊗ X 2)) (X 1 ⊗ (X 0 ⊗ X 2)) tt
-                ∙ ap (K p w C .ring .mul (into p w C (multiplicity c k))) (mul-inverse (K p w C) (den k) ne) ∙ K p w C .ring .mul-u (into p w C (multiplicity c k)) ∙ sym (exclusive-num ∙ d),
+                ∙ ap (mul (into p w C (multiplicity c k))) (mul-inverse (K p w C) (den k) ne) ∙ K p w C .ring .mul-u (into p w C (multiplicity c k)) ∙ sym (exclusive-num ∙ d),
             element-quotient p w C (multiplicity c k) (denom p w c k),
           )
 
@@ -191,7 +197,8 @@ module _ (p w : ℕ) (M : Modulus p) (C : Certificate p w) where
       where
         go : (b : Bool) → exclusive (c .lookups .lookups) (c .lookup) ≡ b → cond b (exclusive-fault p w c) (additive-fault p w c) ≡ 0
             → (b ≡ false → (k : ℕ) → k < branches c → is-zero (denom p w c k) ≡ false)
-            → (is-zero (sub4 p (mul4 p w (cond b (exclusive-denominator p w c) (additive-denominator p w c)) x) (cond b (exclusive-numerator p w c) (additive-numerator p w c))) ≡ true)
+            → (is-zero (sub4 p (mul4 p w (cond b (exclusive-denominator p w c) (additive-denominator p w c)) x)
+            (cond b (exclusive-numerator p w c) (additive-numerator p w c))) ≡ true)
             ↔ (x ≡ cond b (exclusive-fraction p w c) (additive-fraction p w c))
         go true q ok _ = exclusive-constraint q ok x ex
         go false q _ all = additive-constraint (all refl) x ex

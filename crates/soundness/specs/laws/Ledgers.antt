@@ -109,7 +109,9 @@ module _ (p w : ℕ) (C : Certificate p w) where
     where
       go : (s : List (List ℕ)) → s ≡ support (K p w C) (N p w C) es → (d : Dec (e .count ≡ 0))
           → cond (eqb (e .count) 0 || listed (e .tuple) s) s (e .tuple ∷ s)
-          ≡ ite d (support (K p w C) (N p w C) es) (ite (member? (List-discrete ℕ-discrete) (e .tuple) (support (K p w C) (N p w C) es)) (support (K p w C) (N p w C) es) (e .tuple ∷ support (K p w C) (N p w C) es))
+          ≡ ite d (support (K p w C) (N p w C) es)
+          (ite (member? (List-discrete ℕ-discrete) (e .tuple) (support (K p w C) (N p w C) es)) (support (K p w C) (N p w C) es)
+          (e .tuple ∷ support (K p w C) (N p w C) es))
       go s q (yes z) = rw (eqb-true z) q
       go s q (no n) =
           rw (eqb-false n)

@@ -47,19 +47,17 @@ module _ (m : Limits) (p w : ℕ) (M : Modulus p) (C : Certificate p w) (t : Tab
   words : T (words-below p t)
   words = and-left (words-below p t) (all-below p challenges) (passed m p w t challenges buffer (accepted .entered) .two)
 
-  -- the last accumulator, and the fractions of the last row
-  pub terminal-is-the-last : (last : ℕ) → t .traces .shape .height ≡ suc last
-      → e
+  -- the last accumulator plus the fractions of the last row, and the paper's sum over all rows
+  pub terminal-is-the-sum : (last : ℕ) → t .traces .shape .height ≡ suc last
+      → (e
       ≡ add4 p (accumulator p w (t .lookups) challenges (row-values p (t .nodes) (t .traces)) last)
-      (row-sum p w (t .lookups) challenges (row-values p (t .nodes) (t .traces)) last)
+      (row-sum p w (t .lookups) challenges (row-values p (t .nodes) (t .traces)) last))
+      × (el p w C e ≡ paper-sum p w C t challenges (t .traces .shape .height))
   unfolding accumulator sum4
-  terminal-is-the-last last q =
-      found .1 ∙ ap (accumulator p w (t .lookups) challenges (row-values p (t .nodes) (t .traces))) q
-
-  -- the paper's sum over all rows
-  pub terminal-is-the-sum : el p w C e ≡ paper-sum p w C t challenges (t .traces .shape .height)
-  terminal-is-the-sum =
-      ap (el p w C) (found .1) ∙ accumulator-is-the-sum p w M C t challenges words (found .0) (t .traces .shape .height) (le-refl (t .traces .shape .height))
+  terminal-is-the-sum last q = (
+    found .1 ∙ ap (accumulator p w (t .lookups) challenges (row-values p (t .nodes) (t .traces))) q,
+    ap (el p w C) (found .1) ∙ accumulator-is-the-sum p w M C t challenges words (found .0) (t .traces .shape .height) (le-refl (t .traces .shape .height)),
+  )
 
 -- at a pair, the paper's sum over all entries of the table
 pub terminal-is-the-sum-at-a-pair : (m : Limits) (p w : ℕ) → Modulus p → (C : Certificate p w) (t : Table) (alpha beta buffer e : List ℕ)

@@ -117,8 +117,12 @@ module _ (p w : ℕ) (M : Modulus p) (C : Certificate p w) (l : Lookups) (challe
       record {
         lookups = λ i l. vanish-iff (by-lookup r i) r i .0 (first-none (λ i. must-vanish (by-lookup r i) r i) n i a l);
         starts = λ z. vanish-iff (at-cell r 0) r n .0 (sym (ap (λ (q : Bool). cond q (must-vanish (at-cell r 0) r n) none) (eqb-true z)) ∙ b);
-        steps = λ l. vanish-iff (by-step r) r (n + 1) .0 (sym (ap (λ (q : Bool). cond q (must-vanish (by-step r) r (n + 1)) (must-vanish (by-terminal r) r (n + 2))) (ltb-true (r + 1) height l)) ∙ d);
-        ends = λ l. vanish-iff (by-terminal r) r (n + 2) .0 (sym (ap (λ (q : Bool). cond q (must-vanish (by-step r) r (n + 1)) (must-vanish (by-terminal r) r (n + 2))) (ltb-false (r + 1) height l)) ∙ d);
+        steps = λ l. vanish-iff (by-step r) r (n + 1) .0
+            (sym (ap (λ (q : Bool). cond q (must-vanish (by-step r) r (n + 1)) (must-vanish (by-terminal r) r (n + 2)))
+            (ltb-true (r + 1) height l)) ∙ d);
+        ends = λ l. vanish-iff (by-terminal r) r (n + 2) .0
+            (sym (ap (λ (q : Bool). cond q (must-vanish (by-step r) r (n + 1)) (must-vanish (by-terminal r) r (n + 2)))
+            (ltb-false (r + 1) height l)) ∙ d);
       }
 
   of-row-holds : (r : ℕ) → Row-holds r → row r ≡ none
