@@ -5,3 +5,4 @@ pub mod Generation
 pub mod Reader
 pub mod Constraints
 pub mod Ledger
+pub mod laws

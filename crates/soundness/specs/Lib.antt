@@ -1,0 +1,4 @@
+pub mod Demand3
+pub mod Lawful
+pub mod Paper
+pub mod laws
