@@ -22,17 +22,7 @@ fn constant_below(p: u32, n: Node) -> bool
 {
     match n {
         Node::Constant(a) => a < p,
-        Node::Main(_, _) => true,
-        Node::Preprocessed(_, _) => true,
-        Node::PublicValue(_) => true,
-        Node::FirstRow => true,
-        Node::LastRow => true,
-        Node::Transition => true,
-        Node::Sum(_, _) => true,
-        Node::Difference(_, _) => true,
-        Node::Product(_, _) => true,
-        Node::Negation(_) => true,
-        Node::Unknown => true,
+        _ => true,
     }
 }
 

@@ -67,7 +67,7 @@ pub fn first(a: Verdict, b: Verdict) -> Verdict
 {
     match a {
         Verdict::Accepted => b,
-        Verdict::Refused(f) => Verdict::Refused(f),
+        Verdict::Refused(_) => a,
     }
 }
 
@@ -114,25 +114,13 @@ pub fn details(f: Refusal) -> ThreeDetails
     ensures { λ r. ⌜ the-details r ≡ details f ⌝ }
 {
     match f {
-        Refusal::SizeAtOdds => three(0, 0, 0),
-        Refusal::WordTooLarge => three(0, 0, 0),
-        Refusal::NodeInvalid => three(0, 0, 0),
-        Refusal::DegreeTooHigh => three(0, 0, 0),
-        Refusal::LookupInvalid => three(0, 0, 0),
         Refusal::WidthsDiffer(lookup, expected, actual) => three(lookup, expected, actual),
-        Refusal::WeightTooLarge => three(0, 0, 0),
-        Refusal::ChallengesMissing => three(0, 0, 0),
-        Refusal::RowsMissing => three(0, 0, 0),
-        Refusal::TraceTooSmall => three(0, 0, 0),
-        Refusal::TerminalMisplaced => three(0, 0, 0),
-        Refusal::WidthZero => three(0, 0, 0),
         Refusal::FlagNotBinary(row, lookup) => three(row, lookup, 0),
         Refusal::TwoFlags(row, lookup) => three(row, lookup, 0),
         Refusal::DenominatorZero(row, lookup) => three(row, lookup, 0),
-        Refusal::WorkspaceFull => three(0, 0, 0),
         Refusal::ConstraintNotZero(row, place) => three(row, place, 0),
         Refusal::NetNotZero(group, slot, net) => three(group, slot, net),
         Refusal::HeightSumTooLarge(sum) => three(sum, 0, 0),
-        Refusal::TerminalsNotZero => three(0, 0, 0),
+        _ => three(0, 0, 0),
     }
 }
