@@ -1,0 +1,12 @@
+//! The oracle runs and the benchmarks: the port's exported functions, the crate's own source, and a plain model of the specification.
+pub mod compare;
+#[cfg(feature = "doors")]
+pub mod doors;
+pub mod generator;
+pub mod model;
+#[cfg(source)]
+pub mod oracle;
+pub mod plain;
+pub mod port;
+pub mod shrink;
+pub mod table;
