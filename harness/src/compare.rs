@@ -11,6 +11,8 @@ use crate::port::Port;
 pub enum Compared {
     /// The crate answers the same, or panics where the model refuses.
     Same,
+    /// Both refuse, but the crate meets another of several faults first.
+    Choice,
     /// The crate has no such limit: it goes on.
     Limit,
     /// The crate cannot be given these words, or has no such notion.
@@ -45,6 +47,7 @@ pub fn check(case: &Case, port: Option<&dyn Port>, tally: &mut Tally) -> Result<
         run("degree", degree(case, lookup))?;
     }
     run("constraints", constraints(case))?;
+    run("constraints", narrow_constraints(case))?;
     run("packing", packing(case))?;
     run("building", building(case))?;
     run("count", count(case))?;
@@ -64,11 +67,10 @@ fn equal<T: PartialEq + std::fmt::Debug>(what: &str, model: &T, other: &T) -> Re
 }
 
 /// The trace and terminal that the constraints are asked about: what passes, where that can be made, with the case's changes.
-fn asked(case: &Case) -> (u64, Vec<u32>, Option<Ext>) {
+pub fn asked(case: &Case) -> (u64, Vec<u32>, Option<Ext>) {
     let t = &case.tables[0];
     let n = t.lookup_count();
     let width = n as u64 + 1 + case.extra_columns;
-    // Sizes that generation refuses are refused here too: any trace will do.
     let mut buffer = vec![0; case.buffer];
     let (answer, terminal) = model::generate(t, &case.challenges, &mut buffer);
     let (rows, terminal) = match answer.number {
@@ -79,8 +81,9 @@ fn asked(case: &Case) -> (u64, Vec<u32>, Option<Ext>) {
         }
         _ => (vec![], (0 < n).then_some([0; 4])),
     };
-    let cells = (width as usize).saturating_mul(t.height.min(1 << 21) as usize) * 4;
-    let mut trace = vec![5; if cells < 1 << 26 { cells } else { 0 }];
+    // Sizes that generation refuses are refused here too, whatever the trace.
+    let cells = if answer.number == 1 { 0 } else { width as usize * t.height as usize * 4 };
+    let mut trace = vec![5; cells];
     let needed = 4 * (n + 1);
     for (to, from) in trace.chunks_exact_mut(4 * width as usize).zip(rows.chunks_exact(needed)) {
         to[..needed].copy_from_slice(from);
@@ -94,10 +97,7 @@ fn asked(case: &Case) -> (u64, Vec<u32>, Option<Ext>) {
             *word = if *addend == P { P } else { plain::add_word(*word, *addend) };
         }
     }
-    // One row less or more than there are.
-    if case.changes.len() == 3 {
-        trace.pop();
-    }
+    trace.truncate(trace.len() - case.missing_words.min(trace.len()));
     (width, trace, terminal)
 }
 
@@ -114,7 +114,7 @@ mod against_crate {
         };
     }
 
-    untaken!(generation, constraints, packing, building, count, widths, height_bound, terminals, prefixes, balance);
+    untaken!(generation, constraints, narrow_constraints, packing, building, count, widths, height_bound, terminals, prefixes, balance);
 
     pub fn degree(_case: &Case, _lookup: usize) -> (Answer, Checked) {
         (model::ACCEPTED, Ok(Compared::Untaken))
@@ -172,7 +172,11 @@ mod against_crate {
             5 => panics(run(), "lookup slot index"),
             8 if case.challenges.len() < 8 * n => panics(run(), ""),
             9 => panics(run(), ""),
-            13..=15 => panics(run(), fault_text(crate_fault(t, &case.challenges))),
+            13..=15 => {
+                let fault = crate_fault(t, &case.challenges);
+                let same = panics(run(), fault_text(fault));
+                if fault == answer.number { same } else { same.map(|_| Compared::Choice) }
+            }
             _ => Ok(Compared::Limit),
         };
         (answer, checked)
@@ -202,25 +206,30 @@ mod against_crate {
         if matches!(answer.number, 1 | 2) || !oracle::takes(t) || !below_p(&words) {
             return (answer, Ok(Compared::Untaken));
         }
-        let run = |width: u64| oracle::constraints(t, &case.challenges, width, &trace, terminal);
+        let run = || oracle::constraints(t, &case.challenges, width, &trace, terminal);
         let checked = match answer.number {
-            0 => answers(run(width), None),
-            17 => answers(run(width), Some((answer.details[0] as usize, answer.details[1] as usize))),
-            8 | 11 if 0 < t.height || t.lookup_count() == 0 => panics(run(width), ""),
+            0 => answers(run(), None),
+            17 => answers(run(), Some((answer.details[0] as usize, answer.details[1] as usize))),
+            8 | 11 if 0 < t.height || t.lookup_count() == 0 => panics(run(), ""),
+            // The run over a whole trace is not the crate's.
+            9 => Ok(Compared::Untaken),
             _ => Ok(Compared::Limit),
         };
-        // One column too few: the crate panics where the port refuses.
-        if answer.number == 0 && 0 < t.lookup_count() && t.height == 1 {
-            let narrow = &trace[..4 * t.lookup_count()];
-            let width = t.lookup_count() as u64;
-            let answer = model::constraints(t, &case.challenges, width, narrow, terminal);
-            if answer.number != 10 {
-                return (answer, Err("a trace too narrow is not refused".into()));
-            }
-            let narrow = oracle::constraints(t, &case.challenges, width, narrow, terminal);
-            return (answer, checked.and(panics(narrow, "")));
-        }
         (answer, checked)
+    }
+
+    /// A trace with one column too few: the crate panics where the port refuses.
+    pub fn narrow_constraints(case: &Case) -> (Answer, Checked) {
+        let t = &case.tables[0];
+        let (_, trace, terminal) = asked(case);
+        let width = t.lookup_count() as u64;
+        let length = if t.height < 2000 { (width * t.height * 4) as usize } else { 0 };
+        let narrow = &trace[..length.min(trace.len())];
+        let answer = model::constraints(t, &case.challenges, width, narrow, terminal);
+        if answer.number != 10 || !oracle::takes(t) {
+            return (answer, Ok(Compared::Untaken));
+        }
+        (answer, panics(oracle::constraints(t, &case.challenges, width, narrow, terminal), ""))
     }
 
     pub fn degree(case: &Case, lookup: usize) -> (Answer, Checked) {
@@ -355,7 +364,9 @@ mod against_crate {
     }
 }
 
-use against_crate::{balance, building, constraints, count, degree, generation, height_bound, packing, prefixes, terminals, widths};
+pub use against_crate::{
+    balance, building, constraints, count, degree, generation, height_bound, narrow_constraints, packing, prefixes, terminals, widths,
+};
 
 /// The model beside the port, on every input.
 fn check_port(case: &Case, port: &dyn Port, tally: &mut Tally) -> Result<(), Disagreement> {

@@ -14,6 +14,8 @@ pub struct Case {
     pub extra_columns: u64,
     /// What is added to words of the constraints' trace and terminal: place (modulo the length) and addend.
     pub changes: Vec<(usize, u32)>,
+    /// How many words the constraints' trace lacks.
+    pub missing_words: usize,
     /// The constraints get a terminal where none belongs, and none where one does.
     pub terminal_misplaced: bool,
     /// Packing's degree limit.
@@ -357,6 +359,7 @@ fn case_of(random: &mut Random, tables: Vec<Table>) -> Case {
         challenges,
         extra_columns: random.below(8).saturating_sub(5),
         changes: (0..random.below(6).saturating_sub(3)).map(|_| (random.next() as usize, 1 + random.word() % (P - 1))).collect(),
+        missing_words: 0,
         terminal_misplaced: false,
         limit: random.below(9),
         transition: random.below(2),
@@ -394,7 +397,7 @@ pub fn shorten<T>(list: &mut Vec<T>) {
 /// Breaks something: a word, a length, a size, or one of the doors' own inputs.
 pub fn damage(random: &mut Random, case: &mut Case) {
     for _ in 0..1 + random.below(2) {
-        match random.below(14) {
+        match random.below(16) {
             0..=8 => {
                 let table = random.below(case.tables.len() as u64) as usize;
                 damage_table(random, &mut case.tables[table]);
@@ -411,6 +414,16 @@ pub fn damage(random: &mut Random, case: &mut Case) {
                 case.limit = random.pick(&[0, 1, u64::MAX]);
             }
             12 => case.workspace = random.below(40) as usize,
+            13 => {
+                // Whole challenges more or fewer.
+                let words = (case.challenges.len() + 12).saturating_sub(4 * random.below(6) as usize);
+                case.challenges.resize(words, 1);
+            }
+            14 => match random.below(3) {
+                0 => case.missing_words = 1 + random.below(4) as usize,
+                1 => case.terminals.push(Some([1, 2, random.pick(&[3, P]), 4])),
+                _ => case.terminals.resize(16 + random.below(2) as usize, None),
+            },
             _ => {
                 let height = random.pick(&[0, 1, 1 << 20, (1 << 20) + 1, u64::MAX]);
                 match random.below(3) {

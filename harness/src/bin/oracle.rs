@@ -64,12 +64,13 @@ fn main() -> ExitCode {
 }
 
 fn print_counts(tally: &Tally) {
-    println!("door, number: compared and the same / the crate has no such limit / not for the crate");
+    println!("door, number: the same / another of several faults first / the crate has no such limit / not for the crate");
     let mut numbers: Vec<(&str, u32)> = tally.counts.keys().map(|(door, number, _)| (*door, *number)).collect();
     numbers.dedup();
     for (door, number) in numbers {
         let count = |compared| tally.counts.get(&(door, number, compared)).copied().unwrap_or(0);
-        println!("{door}, {number}: {} / {} / {}", count(Compared::Same), count(Compared::Limit), count(Compared::Untaken));
+        let [same, choice, limit, untaken] = [Compared::Same, Compared::Choice, Compared::Limit, Compared::Untaken].map(count);
+        println!("{door}, {number}: {same} / {choice} / {limit} / {untaken}");
     }
     for (door, count) in &tally.ported {
         println!("{door}: {count} with the port");
