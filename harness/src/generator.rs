@@ -1,7 +1,9 @@
 //! Random tables with what each door needs besides, damaged copies of them, and a fixed list of tables at the limits.
+use std::fmt;
+
 use crate::model;
 use crate::plain::{self, Ext, P, Random};
-use crate::table::{Interaction, LOOKUP_WORDS, Lookup, Part, Table};
+use crate::table::{Interaction, LOOKUP_WORDS, Lookup, Part, Table, line};
 
 /// One input for each door. The doors of one table take the first.
 #[derive(Clone, Debug, Default, PartialEq)]
@@ -29,6 +31,24 @@ pub struct Case {
     pub prefixes: u64,
     pub interactions: Vec<Interaction>,
     pub count: i32,
+}
+
+/// The tables and challenges in lines, then what else there is.
+impl fmt::Display for Case {
+    fn fmt(&self, f: &mut fmt::Formatter<'_>) -> fmt::Result {
+        self.tables.iter().try_for_each(|t| t.fmt(f))?;
+        f.write_str(&line("challenges", &self.challenges))?;
+        f.write_str(&line("heights", &self.heights))?;
+        writeln!(f, "buffer {}, workspace {}, limit {}, t {}", self.buffer, self.workspace, self.limit, self.transition)?;
+        let Case { extra_columns, missing_words, terminal_misplaced, changes, .. } = self;
+        writeln!(
+            f,
+            "constraints: {extra_columns} more columns, {missing_words} words less, changes {changes:?}, misplaced {terminal_misplaced}"
+        )?;
+        writeln!(f, "terminals {:?}", self.terminals)?;
+        writeln!(f, "prefixes {} of width {}, count {}", self.prefixes, self.prefix_width, self.count)?;
+        writeln!(f, "interactions {:?}", self.interactions)
+    }
 }
 
 impl Random {
@@ -81,6 +101,8 @@ struct Maker<'a> {
     random: &'a mut Random,
     table: Table,
     sizes: Vec<(u64, u64)>,
+    /// Tuples of any width on any bus.
+    loose: bool,
 }
 
 impl Maker<'_> {
@@ -212,7 +234,7 @@ impl Maker<'_> {
         let bus = (!self.random.one_in(4)).then(|| self.random.name());
         // Mostly one width for each bus.
         let usual = bus.as_ref().map_or(1, Vec::len).min(4) as u64;
-        let width = if self.random.one_in(12) { self.random.below(5) } else { usual };
+        let width = if self.loose || self.random.one_in(12) { self.random.below(5) } else { usual };
         let exclusive = self.random.one_in(3);
         let branches = self.random.pick(&[0, 1, 1, 1, 1, 2, 2, 3]);
         let odd_one = self.random.one_in(40);
@@ -276,7 +298,8 @@ fn number_columns(lookups: &mut [Lookup]) {
 
 /// A table in which each refusal of 1 to 5 is absent.
 pub fn table(random: &mut Random) -> Table {
-    let mut maker = Maker { random, table: Table::default(), sizes: vec![] };
+    let loose = random.one_in(15);
+    let mut maker = Maker { random, table: Table::default(), sizes: vec![], loose };
     maker.traces();
     let words = maker.table.main_width * maker.table.height;
     maker.table.main = (0..words).map(|_| maker.random.word()).collect();
@@ -515,7 +538,11 @@ pub fn boundaries() -> Vec<(String, Case)> {
         let n = model::TABLES + over;
         add(format!("{n} tables"), vec![plain_table(2); n], &same);
         let n = model::LOOKUPS + over;
-        add(format!("{n} lookups"), table(&|t| t.set_records(&(0..n as u32).map(|i| on_bus(i, vec![0], 1 + i % 2)).collect::<Vec<_>>())), &same);
+        add(
+            format!("{n} lookups"),
+            table(&|t| t.set_records(&(0..n as u32).map(|i| on_bus(i, vec![0], 1 + i % 2)).collect::<Vec<_>>())),
+            &same,
+        );
         let n = model::TUPLES + over;
         let many = Lookup { tuples: vec![vec![0]; n], multiplicities: vec![1; n], ..on_bus(0, vec![], 1) };
         add(format!("{n} tuples"), table(&|t| t.set_records(std::slice::from_ref(&many))), &same);
@@ -575,11 +602,7 @@ pub fn boundaries() -> Vec<(String, Case)> {
             &same,
         );
         let n = model::NAME_BYTES as usize + over;
-        add(
-            format!("{n} bytes a name"),
-            table(&|t| t.set_records(&[Lookup { bus: Some(vec![b'x'; n]), ..on_bus(0, vec![0], 1) }])),
-            &same,
-        );
+        add(format!("{n} bytes a name"), table(&|t| t.set_records(&[Lookup { bus: Some(vec![b'x'; n]), ..on_bus(0, vec![0], 1) }])), &same);
         add(
             format!("degree {}", 255 + over),
             table(&|t| {
@@ -601,25 +624,37 @@ pub fn boundaries() -> Vec<(String, Case)> {
         add(format!("prefix width {}", 255 + n), table(&|_| ()), &|c| c.prefix_width = 255 + n);
         add(format!("prefix width {n}"), table(&|_| ()), &|c| c.prefix_width = n);
         add(format!("transition degree {}", 1 + n), table(&|_| ()), &|c| c.transition = 1 + n);
-        add(format!("weights {} and 1 on a bus", u32::MAX - 1 + over as u32), table(&|t| {
-            let heavy = Lookup { weight: u32::MAX - 1 + over as u32, ..on_bus(0, vec![0], 1) };
-            t.set_records(&[heavy, on_bus(1, vec![0], 2)]);
-        }), &|c| c.limit = 9);
+        add(
+            format!("weights {} and 1 on a bus", u32::MAX - 1 + over as u32),
+            table(&|t| {
+                let heavy = Lookup { weight: u32::MAX - 1 + over as u32, ..on_bus(0, vec![0], 1) };
+                t.set_records(&[heavy, on_bus(1, vec![0], 2)]);
+            }),
+            &|c| c.limit = 9,
+        );
         let sum = P - 1 + over as u32;
-        add(format!("height sum {sum}"), vec![{
-            let mut t = plain_table(1);
-            t.set_records(&[Lookup { weight: sum, ..on_bus(0, vec![0], 1) }]);
-            t
-        }], &same);
+        add(
+            format!("height sum {sum}"),
+            vec![{
+                let mut t = plain_table(1);
+                t.set_records(&[Lookup { weight: sum, ..on_bus(0, vec![0], 1) }]);
+                t
+            }],
+            &same,
+        );
         add(format!("{} words for 3 slots", 30 - over), table(&|t| t.set_records(&[on_bus(0, vec![0], 1), on_bus(1, vec![0], 2)])), &|c| {
             c.workspace = 30 - over
         });
         add(format!("trace buffer of {} words", 24 - over), table(&|_| ()), &|c| c.buffer = 24 - over);
         add(format!("height {over}"), vec![plain_table(n)], &same);
-        add(format!("preprocessed height {}", 3 - over), table(&|t| {
-            (t.pre_width, t.pre_height) = (1, 3 - n);
-            t.preprocessed = vec![1; 3 - over];
-        }), &same);
+        add(
+            format!("preprocessed height {}", 3 - over),
+            table(&|t| {
+                (t.pre_width, t.pre_height) = (1, 3 - n);
+                t.preprocessed = vec![1; 3 - over];
+            }),
+            &same,
+        );
     }
     for height in [1023, 1024, 1025, 2048, 2049] {
         add(format!("height {height}"), vec![plain_table(height)], &same);

@@ -21,19 +21,11 @@ pub fn add_word(a: u32, b: u32) -> u32 {
 }
 
 pub fn sub_word(a: u32, b: u32) -> u32 {
-    if a < b {
-        a + (P - b)
-    } else {
-        a - b
-    }
+    if a < b { a + (P - b) } else { a - b }
 }
 
 pub fn neg_word(a: u32) -> u32 {
-    if a == 0 {
-        0
-    } else {
-        P - a
-    }
+    if a == 0 { 0 } else { P - a }
 }
 
 fn dot2(a: u32, b: u32, c: u32, d: u32) -> u32 {

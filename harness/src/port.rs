@@ -134,10 +134,8 @@ impl Port for Exported {
         let mut details = [0; 3];
         let [t0, t1, t2, t3] = terminal.unwrap_or_default();
         let present = terminal.is_some().into();
-        let door = call!(
-            exported::delmatik_constraints,
-            t, challenges, width, trace.as_ptr(), trace.len(), present, t0, t1, t2, t3, &mut details
-        );
+        let door =
+            call!(exported::delmatik_constraints, t, challenges, width, trace.as_ptr(), trace.len(), present, t0, t1, t2, t3, &mut details);
         Some(Answer { number: door, details })
     }
 }

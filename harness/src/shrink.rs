@@ -39,20 +39,6 @@ fn smaller_cases(case: &Case) -> Vec<Case> {
             });
         }
     }
-    with(&|c| c.interactions.clear());
-    with(&|c| shorten(&mut c.interactions));
-    with(&|c| c.changes.clear());
-    with(&|c| shorten(&mut c.changes));
-    with(&|c| shorten(&mut c.terminals));
-    with(&|c| (c.prefixes, c.prefix_width) = (0, 1));
-    with(&|c| c.extra_columns = 0);
-    with(&|c| c.count = 0);
-    with(&|c| c.limit /= 2);
-    with(&|c| c.workspace = 640);
-    with(&|c| c.heights = c.tables.iter().map(|t| t.height).collect());
-    for i in 0..case.challenges.len() {
-        with(&|c| c.challenges[i] = 0);
-    }
     for (i, table) in case.tables.iter().enumerate() {
         for (smaller, dropped) in smaller_tables(table) {
             with(&|c| {
@@ -65,6 +51,21 @@ fn smaller_cases(case: &Case) -> Vec<Case> {
                 }
             });
         }
+    }
+    with(&|c| c.interactions.clear());
+    with(&|c| shorten(&mut c.interactions));
+    with(&|c| c.changes.clear());
+    with(&|c| shorten(&mut c.changes));
+    with(&|c| shorten(&mut c.terminals));
+    with(&|c| (c.prefixes, c.prefix_width) = (0, 1));
+    with(&|c| c.extra_columns = 0);
+    with(&|c| c.count = 0);
+    with(&|c| c.limit /= 2);
+    with(&|c| c.workspace = 640);
+    with(&|c| c.heights = c.tables.iter().map(|t| t.height).collect());
+    with(&|c| c.challenges.fill(0));
+    for i in 0..case.challenges.len().min(64) {
+        with(&|c| c.challenges[i] = 0);
     }
     cases
 }
@@ -97,6 +98,7 @@ fn smaller_tables(t: &Table) -> Vec<(Table, Option<usize>)> {
             }
         }
         with(None, &drop_last_column);
+        with(None, &drop_last_preprocessed_column);
     }
     with(None, &|t| (t.pre_width, t.pre_height, t.preprocessed) = (0, 0, vec![]));
     with(None, &|t| shorten(&mut t.public_values));
@@ -132,11 +134,22 @@ fn drop_tuple(lookup: &mut Lookup, k: usize) {
     }
 }
 
+/// The rows of a trace without the last of their columns.
+fn narrowed(words: &[u32], width: u64) -> Vec<u32> {
+    words.chunks_exact(width as usize).flat_map(|row| &row[..width as usize - 1]).copied().collect()
+}
+
 fn drop_last_column(t: &mut Table) {
-    let width = t.main_width as usize;
-    if 1 < width {
+    if 1 < t.main_width {
+        t.main = narrowed(&t.main, t.main_width);
         t.main_width -= 1;
-        t.main = t.main.chunks_exact(width).flat_map(|row| &row[..width - 1]).copied().collect();
+    }
+}
+
+fn drop_last_preprocessed_column(t: &mut Table) {
+    if 1 < t.pre_width {
+        t.preprocessed = narrowed(&t.preprocessed, t.pre_width);
+        t.pre_width -= 1;
     }
 }
 

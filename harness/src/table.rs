@@ -1,4 +1,5 @@
 //! A table in the port's flat words, and its lookups as records.
+use std::fmt;
 
 #[derive(Clone, Debug, Default, PartialEq, Eq)]
 pub struct Table {
@@ -153,6 +154,45 @@ impl Table {
             self.flags.extend(&r.flags);
             self.elements.extend(r.tuples.iter().flatten());
         }
+    }
+}
+
+/// A key and numbers, separated by blanks; nothing for an empty list.
+pub fn line<T: fmt::Display>(key: &str, numbers: &[T]) -> String {
+    if numbers.is_empty() {
+        return String::new();
+    }
+    let texts: Vec<String> = numbers.iter().map(ToString::to_string).collect();
+    format!("{key} {}\n", texts.join(" "))
+}
+
+impl Table {
+    /// The lists of the lookups, a line for each.
+    pub fn lookup_lines(&self, before: &str) -> String {
+        let key = |name: &str| format!("{before}{name}");
+        [
+            line(&key("lookups"), &self.lookups),
+            line(&key("names"), &self.names),
+            line(&key("tuples"), &self.tuples),
+            line(&key("multiplicities"), &self.multiplicities),
+            line(&key("flags"), &self.flags),
+            line(&key("elements"), &self.elements),
+        ]
+        .concat()
+    }
+}
+
+impl fmt::Display for Table {
+    fn fmt(&self, f: &mut fmt::Formatter<'_>) -> fmt::Result {
+        let lines = [
+            line("table", &[self.main_width, self.height, self.pre_width, self.pre_height]),
+            line("main", &self.main),
+            line("preprocessed", &self.preprocessed),
+            line("public", &self.public_values),
+            line("nodes", &self.nodes),
+            self.lookup_lines(""),
+        ];
+        f.write_str(&lines.concat())
     }
 }
 

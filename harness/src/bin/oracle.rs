@@ -82,6 +82,6 @@ fn report(name: &str, case: &Case, found: &Disagreement, port: Option<&dyn Port>
     let failing = |case: &Case| check(case, port, &mut Tally::default()).err().filter(|other| other.door == found.door);
     let small = shrink(case, &|case| failing(case).is_some());
     println!("{}", failing(&small).unwrap_or_else(|| Disagreement { door: found.door, text: found.text.clone() }).text);
-    println!("{small:#?}");
+    print!("{small}");
     ExitCode::FAILURE
 }

@@ -1,12 +1,11 @@
 //! Prints a fixed list of small tables with the crate's answers, to be replayed elsewhere. The header that it prints says how to read it.
-use std::fmt::Display;
 use std::process::ExitCode;
 
 use harness::compare::{self, Compared};
 use harness::generator::{self, Case};
 use harness::model::{self, Answer};
 use harness::plain::{self, Ext, Random};
-use harness::table::{Lookup, Table};
+use harness::table::{Lookup, Table, line};
 
 const HEADER: &str = "\
 # Answers of p3-lookup 0.8.0. A line is a key and decimal numbers, separated by blanks; empty lists are left out.
@@ -36,42 +35,15 @@ fn main() -> ExitCode {
     println!("{HEADER}");
     for (i, case) in cases().iter().enumerate() {
         println!("vector {i}");
-        print_inputs(case);
+        case.tables.iter().for_each(|t| print!("{t}"));
+        print!("{}", line("challenges", &case.challenges));
         print_answers(case);
     }
     ExitCode::SUCCESS
 }
 
-fn line<T: Display>(key: &str, numbers: &[T]) {
-    if !numbers.is_empty() {
-        let texts: Vec<String> = numbers.iter().map(ToString::to_string).collect();
-        println!("{key} {}", texts.join(" "));
-    }
-}
-
 fn answer_line(key: &str, answer: Answer, more: &[u64]) {
-    line(key, &[&[u64::from(answer.number)], &answer.details[..], more].concat());
-}
-
-fn lookup_lines(before: &str, t: &Table) {
-    line(&format!("{before}lookups"), &t.lookups);
-    line(&format!("{before}names"), &t.names);
-    line(&format!("{before}tuples"), &t.tuples);
-    line(&format!("{before}multiplicities"), &t.multiplicities);
-    line(&format!("{before}flags"), &t.flags);
-    line(&format!("{before}elements"), &t.elements);
-}
-
-fn print_inputs(case: &Case) {
-    for t in &case.tables {
-        line("table", &[t.main_width, t.height, t.pre_width, t.pre_height]);
-        line("main", &t.main);
-        line("preprocessed", &t.preprocessed);
-        line("public", &t.public_values);
-        line("nodes", &t.nodes);
-        lookup_lines("", t);
-    }
-    line("challenges", &case.challenges);
+    print!("{}", line(key, &[&[u64::from(answer.number)], &answer.details[..], more].concat()));
 }
 
 /// The answer, if the crate gives the same.
@@ -86,8 +58,8 @@ fn print_answers(case: &Case) {
         let (_, terminal) = model::generate(t, &case.challenges, &mut trace);
         answer_line("generate", answer, &[]);
         if answer.number == 0 && 0 < t.lookup_count() {
-            line("trace", &trace[..t.height as usize * 4 * (t.lookup_count() + 1)]);
-            line("terminal", &terminal.unwrap());
+            print!("{}", line("trace", &trace[..t.height as usize * 4 * (t.lookup_count() + 1)]));
+            print!("{}", line("terminal", &terminal.unwrap()));
             print_constraints(case);
         }
     }
@@ -103,7 +75,7 @@ fn print_answers(case: &Case) {
             answer_line("pack", answer, &[limit]);
             let mut packed = Table::default();
             packed.set_records(&model::pack(t, limit).1);
-            lookup_lines("packed-", &packed);
+            print!("{}", packed.lookup_lines("packed-"));
         }
     }
     if let Some(answer) = confirmed(compare::widths(case)) {
@@ -122,7 +94,7 @@ fn print_answers(case: &Case) {
         let mut workspace = vec![7; case.workspace];
         model::balance(&case.tables, &mut workspace);
         answer_line("balance", answer, &[case.workspace as u64]);
-        line("workspace", &workspace);
+        print!("{}", line("workspace", &workspace));
     }
 }
 

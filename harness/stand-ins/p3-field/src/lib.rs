@@ -69,7 +69,14 @@ impl<R: PrimeCharacteristicRing> Powers<R> {
 
 /// A ring that holds another, and works with its elements directly.
 pub trait Algebra<R>:
-    PrimeCharacteristicRing + From<R> + Add<R, Output = Self> + AddAssign<R> + Sub<R, Output = Self> + SubAssign<R> + Mul<R, Output = Self> + MulAssign<R>
+    PrimeCharacteristicRing
+    + From<R>
+    + Add<R, Output = Self>
+    + AddAssign<R>
+    + Sub<R, Output = Self>
+    + SubAssign<R>
+    + Mul<R, Output = Self>
+    + MulAssign<R>
 {
 }
 
