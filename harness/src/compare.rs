@@ -328,8 +328,7 @@ mod against_crate {
     }
 
     pub fn prefixes(case: &Case) -> (Answer, Checked) {
-        let element = |i: usize| case.challenges.get(4 * i..4 * i + 4).map_or([1, 2, 3, 4], |words| words.try_into().unwrap());
-        let (alpha, beta) = (element(0), element(1));
+        let (alpha, beta) = (case.challenge(0), case.challenge(1));
         let (answer, prefixes) = model::prefixes(alpha, beta, case.prefix_width, case.prefixes);
         let run = || oracle::prefixes(alpha, beta, case.prefix_width, case.prefixes);
         let checked = match answer.number {
@@ -408,9 +407,9 @@ fn check_port(case: &Case, port: &dyn Port, tally: &mut Tally) -> Result<(), Dis
     let answer = model::terminals(&case.terminals);
     run("terminals", port.terminals(&case.terminals).map(|ported| equal("answer", &answer, &ported)))?;
 
-    let element = |i: usize| case.challenges.get(4 * i..4 * i + 4).map_or([1, 2, 3, 4], |words| words.try_into().unwrap());
-    let answer = model::prefixes(element(0), element(1), case.prefix_width, case.prefixes);
-    let ported = port.prefixes(element(0), element(1), case.prefix_width, case.prefixes);
+    let (alpha, beta) = (case.challenge(0), case.challenge(1));
+    let answer = model::prefixes(alpha, beta, case.prefix_width, case.prefixes);
+    let ported = port.prefixes(alpha, beta, case.prefix_width, case.prefixes);
     run("prefixes", ported.map(|ported| equal("answer", &answer, &ported)))?;
 
     let (mut expected, mut workspace) = (vec![7; case.workspace], vec![7; case.workspace]);

@@ -33,6 +33,13 @@ pub struct Case {
     pub count: i32,
 }
 
+impl Case {
+    /// Challenge i, or some element where there is none.
+    pub fn challenge(&self, i: usize) -> Ext {
+        self.challenges.get(4 * i..4 * i + 4).map_or([1, 2, 3, 4], |words| words.try_into().unwrap())
+    }
+}
+
 /// The tables and challenges in lines, then what else there is.
 impl fmt::Display for Case {
     fn fmt(&self, f: &mut fmt::Formatter<'_>) -> fmt::Result {
@@ -83,7 +90,7 @@ impl Random {
             0..=4 => self.below(3) as u32,
             5 => u32::MAX - self.below(2) as u32,
             6 => P - self.below(2) as u32,
-            _ => self.next() as u32,
+            _ => self.draw() as u32,
         }
     }
 
@@ -153,6 +160,7 @@ impl Maker<'_> {
         t.main_width = 1 + r.below(3);
         t.pre_width = r.below(5).saturating_sub(2);
         t.pre_height = if t.pre_width == 0 { r.below(3) } else { height + r.below(6).saturating_sub(3) };
+        t.main = (0..t.main_width * height).map(|_| r.word()).collect();
         t.preprocessed = (0..t.pre_width * t.pre_height).map(|_| r.word()).collect();
         t.public_values = (0..r.below(3)).map(|_| r.word()).collect();
     }
@@ -233,7 +241,7 @@ impl Maker<'_> {
     fn lookup(&mut self) -> Lookup {
         let bus = (!self.random.one_in(4)).then(|| self.random.name());
         // Mostly one width for each bus.
-        let usual = bus.as_ref().map_or(1, Vec::len).min(4) as u64;
+        let usual = bus.as_ref().map_or(1, Vec::len).min(8) as u64;
         let width = if self.loose || self.random.one_in(12) { self.random.below(5) } else { usual };
         let exclusive = self.random.one_in(3);
         let branches = self.random.pick(&[0, 1, 1, 1, 1, 2, 2, 3]);
@@ -260,7 +268,9 @@ impl Maker<'_> {
     /// Lookups, most of them with an opposite, so that balance passes often.
     fn lookups(&mut self) -> Vec<Lookup> {
         let mut lookups = vec![];
-        for _ in 0..self.random.pick(&[0, 1, 1, 1, 2, 2, 3, 4]) {
+        let many = self.random.below(60);
+        let count = if self.random.one_in(200) { many } else { self.random.pick(&[0, 1, 1, 1, 2, 2, 3, 4]) };
+        for _ in 0..count {
             let lookup = self.lookup();
             let opposite = self.random.below(3);
             if opposite != 0 {
@@ -296,13 +306,11 @@ fn number_columns(lookups: &mut [Lookup]) {
     }
 }
 
-/// A table in which each refusal of 1 to 5 is absent.
+/// A table that none of refusals 1 to 5 meets, unless it has more lookups or tuples than the limits.
 pub fn table(random: &mut Random) -> Table {
     let loose = random.one_in(15);
     let mut maker = Maker { random, table: Table::default(), sizes: vec![], loose };
     maker.traces();
-    let words = maker.table.main_width * maker.table.height;
-    maker.table.main = (0..words).map(|_| maker.random.word()).collect();
     maker.nodes();
     let mut lookups = maker.lookups();
     number_columns(&mut lookups);
@@ -312,7 +320,7 @@ pub fn table(random: &mut Random) -> Table {
     for entry in table.lookups.chunks_exact_mut(LOOKUP_WORDS) {
         for mark in [0, 4] {
             if entry[mark] == 1 && maker.random.one_in(20) {
-                entry[mark] = maker.random.next() as u32 | 2;
+                entry[mark] = maker.random.draw() as u32 | 2;
             }
         }
     }
@@ -370,18 +378,34 @@ fn used(t: &Table) -> usize {
     if t.lookup_count() == 0 { 0 } else { t.height as usize * (t.lookup_count() + 1) * 4 }
 }
 
+/// Makes an alpha the combined value of one of its lookup's tuples on some row, so that a denominator is zero.
+fn meet_tuple(random: &mut Random, t: &Table, challenges: &mut [u32]) {
+    let lookup = random.below(t.lookup_count() as u64) as usize;
+    let tuples = &t.records()[lookup].tuples;
+    if !tuples.is_empty() {
+        let values = model::node_values(t, random.below(t.height) as usize);
+        let tuple: Vec<u32> = random.pick(tuples).iter().map(|n| values[*n as usize]).collect();
+        let pair = &mut challenges[8 * lookup..8 * lookup + 8];
+        let alpha = model::combined(&tuple, pair[4..].try_into().unwrap());
+        pair[..4].copy_from_slice(&alpha);
+    }
+}
+
 /// The tables with inputs for each door that none of refusals 1 to 12 meets.
 fn case_of(random: &mut Random, tables: Vec<Table>) -> Case {
     let n = tables[0].lookup_count();
     let shared = random.one_in(2).then(|| [random.challenge(), random.challenge()].concat());
     let pair = |random: &mut Random| shared.clone().unwrap_or_else(|| [random.challenge(), random.challenge()].concat());
-    let challenges: Vec<u32> = (0..n).flat_map(|_| pair(random)).collect();
+    let mut challenges: Vec<u32> = (0..n).flat_map(|_| pair(random)).collect();
+    if 0 < n && 0 < tables[0].height && random.one_in(10) {
+        meet_tuple(random, &tables[0], &mut challenges);
+    }
     let workspace = if random.one_in(6) { random.below(60) } else { 640 + random.below(12) };
     Case {
         buffer: used(&tables[0]) + random.below(8).saturating_sub(5) as usize,
         challenges,
         extra_columns: random.below(8).saturating_sub(5),
-        changes: (0..random.below(6).saturating_sub(3)).map(|_| (random.next() as usize, 1 + random.word() % (P - 1))).collect(),
+        changes: (0..random.below(6).saturating_sub(3)).map(|_| (random.draw() as usize, 1 + random.word() % (P - 1))).collect(),
         missing_words: 0,
         terminal_misplaced: false,
         limit: random.below(9),
@@ -396,7 +420,7 @@ fn case_of(random: &mut Random, tables: Vec<Table>) -> Case {
             0 => i32::MIN,
             1 => i32::MAX,
             2 => -(random.below(4) as i32),
-            _ => random.next() as i32,
+            _ => random.draw() as i32,
         },
         tables,
     }
@@ -454,7 +478,7 @@ pub fn damage(random: &mut Random, case: &mut Case) {
                     1 => shorten(&mut case.heights),
                     _ => case.heights.fill(height),
                 }
-                case.changes.push((random.next() as usize, P));
+                case.changes.push((random.draw() as usize, P));
             }
         }
     }
@@ -471,14 +495,14 @@ fn damage_table(random: &mut Random, t: &mut Table) {
         12 => damage_list(random, &mut t.multiplicities),
         13 => damage_list(random, &mut t.flags),
         14 => damage_list(random, &mut t.elements),
-        15 => t.names.push(random.next() as u8),
+        15 => t.names.push(random.draw() as u8),
         16 => shorten(&mut t.names),
-        17 => {
-            // Rows go from or come to the preprocessed trace, with its words.
+        // Rows go or come with their words.
+        17 if t.fits() => {
             t.pre_height = t.pre_height.saturating_sub(random.below(3)) + random.below(2);
             t.preprocessed.resize((t.pre_width * t.pre_height) as usize, 1);
         }
-        18 => {
+        18 if t.fits() => {
             t.height = t.height.saturating_sub(random.below(2)) + random.below(2);
             t.main.resize((t.main_width * t.height) as usize, 1);
         }
@@ -524,6 +548,7 @@ pub fn boundaries() -> Vec<(String, Case)> {
     let mut add = |name: String, tables: Vec<Table>, change: &dyn Fn(&mut Case)| {
         let mut case = case_of(&mut random, tables);
         case.workspace = 640;
+        case.challenges = (0..2 * case.tables[0].lookup_count()).flat_map(|_| random.element()).collect();
         case.heights = case.tables.iter().map(|t| t.height).collect();
         change(&mut case);
         cases.push((name, case));
@@ -619,6 +644,19 @@ pub fn boundaries() -> Vec<(String, Case)> {
             }),
             &same,
         );
+        // Not named by any lookup; squared so often, the degree of a tree passes every number.
+        for times in [7 + over, 100] {
+            add(
+                format!("a column squared {times} times, unused"),
+                table(&|t| {
+                    for _ in 0..times {
+                        let last = if t.node_count() == 3 { 0 } else { t.node_count() as u32 - 1 };
+                        t.add_node(11, last, last);
+                    }
+                }),
+                &same,
+            );
+        }
         let n = over as u64;
         add(format!("{} prefixes", 256 + n), table(&|_| ()), &|c| c.prefixes = 256 + n);
         add(format!("prefix width {}", 255 + n), table(&|_| ()), &|c| c.prefix_width = 255 + n);

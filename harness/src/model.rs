@@ -373,7 +373,7 @@ pub fn constraints(t: &Table, challenges: &[u32], width: u64, trace: &[u32], ter
         (5, &|| lookups_agree(t) && columns_in_position(t)),
         (8, &|| n == 0 || 8 * n <= challenges.len()),
         (9, &|| rows_enough(t)),
-        (10, &|| n == 0 || n as u64 + 1 <= width),
+        (10, &|| n == 0 || (n as u64) < width),
         (11, &|| terminal.is_some() == (0 < n)),
     ]);
     if number != 0 {

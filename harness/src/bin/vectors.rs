@@ -85,8 +85,7 @@ fn print_answers(case: &Case) {
         answer_line("bound", answer, &case.heights);
     }
     if let (Some(answer), true) = (confirmed(compare::prefixes(case)), 8 <= case.challenges.len()) {
-        let element = |i: usize| -> Ext { case.challenges[4 * i..4 * i + 4].try_into().unwrap() };
-        let (_, prefixes) = model::prefixes(element(0), element(1), case.prefix_width, case.prefixes);
+        let (_, prefixes) = model::prefixes(case.challenge(0), case.challenge(1), case.prefix_width, case.prefixes);
         let words: Vec<u64> = prefixes.iter().flatten().map(|w| u64::from(*w)).collect();
         answer_line("prefixes", answer, &[&[case.prefix_width, case.prefixes], &words[..]].concat());
     }
