@@ -71,12 +71,13 @@ pub fn asked(case: &Case) -> (u64, Vec<u32>, Option<Ext>) {
     let t = &case.tables[0];
     let n = t.lookup_count();
     let width = n as u64 + 1 + case.extra_columns;
-    let mut buffer = vec![0; case.buffer];
-    let (answer, terminal) = model::generate(t, &case.challenges, &mut buffer);
+    let challenges = &case.challenges[..case.challenges.len().min(8 * n)];
+    let mut buffer = vec![0; if t.fits() { 4 * (n + 1) * t.height as usize } else { 0 }];
+    let (answer, terminal) = model::generate(t, challenges, &mut buffer);
     let (rows, terminal) = match answer.number {
         0 => (buffer, terminal),
         13..=15 => {
-            let (rows, terminal) = model::satisfying(t, &case.challenges);
+            let (rows, terminal) = model::satisfying(t, challenges);
             (rows, Some(terminal))
         }
         _ => (vec![], (0 < n).then_some([0; 4])),
@@ -99,6 +100,14 @@ pub fn asked(case: &Case) -> (u64, Vec<u32>, Option<Ext>) {
     }
     trace.truncate(trace.len() - case.missing_words.min(trace.len()));
     (width, trace, terminal)
+}
+
+/// The same with rows of one column too few.
+fn asked_narrow(case: &Case) -> (u64, Vec<u32>, Option<Ext>) {
+    let (width, mut trace, terminal) = asked(case);
+    let narrow = case.tables[0].lookup_count();
+    trace.truncate(trace.len() / width as usize * narrow);
+    (narrow as u64, trace, terminal)
 }
 
 #[cfg(not(source))]
@@ -221,15 +230,12 @@ mod against_crate {
     /// A trace with one column too few: the crate panics where the port refuses.
     pub fn narrow_constraints(case: &Case) -> (Answer, Checked) {
         let t = &case.tables[0];
-        let (_, trace, terminal) = asked(case);
-        let width = t.lookup_count() as u64;
-        let length = if t.height < 2000 { (width * t.height * 4) as usize } else { 0 };
-        let narrow = &trace[..length.min(trace.len())];
-        let answer = model::constraints(t, &case.challenges, width, narrow, terminal);
+        let (width, trace, terminal) = asked_narrow(case);
+        let answer = model::constraints(t, &case.challenges, width, &trace, terminal);
         if answer.number != 10 || !oracle::takes(t) {
             return (answer, Ok(Compared::Untaken));
         }
-        (answer, panics(oracle::constraints(t, &case.challenges, width, narrow, terminal), ""))
+        (answer, panics(oracle::constraints(t, &case.challenges, width, &trace, terminal), ""))
     }
 
     pub fn degree(case: &Case, lookup: usize) -> (Answer, Checked) {
@@ -389,10 +395,11 @@ fn check_port(case: &Case, port: &dyn Port, tally: &mut Tally) -> Result<(), Dis
     });
     run("generation", ported)?;
 
-    let (width, trace, terminal) = asked(case);
-    let answer = model::constraints(t, &case.challenges, width, &trace, terminal);
-    let ported = port.constraints(t, &case.challenges, width, &trace, terminal);
-    run("constraints", ported.map(|ported| equal("answer", &answer, &ported)))?;
+    for (width, trace, terminal) in [asked(case), asked_narrow(case)] {
+        let answer = model::constraints(t, &case.challenges, width, &trace, terminal);
+        let ported = port.constraints(t, &case.challenges, width, &trace, terminal);
+        run("constraints", ported.map(|ported| equal("answer", &answer, &ported)))?;
+    }
 
     for lookup in 0..t.lookup_count() as u64 + 1 {
         let answer = model::degree(t, lookup, case.transition);

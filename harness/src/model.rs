@@ -353,13 +353,6 @@ pub fn generate(t: &Table, challenges: &[u32], trace: &mut [u32]) -> (Answer, Op
     (ACCEPTED, Some(accumulator))
 }
 
-/// The words of a row in a trace of `lookups` lookups and `height` rows; none past the last row or the words.
-pub fn row_part(words: &[u32], lookups: u64, height: u64, row: u64) -> &[u32] {
-    let width = u128::from(lookups + 1) * 4;
-    let (start, end) = (u128::from(row) * width, (u128::from(row) + 1) * width);
-    if lookups == 0 || height <= row || (words.len() as u128) < end { &[] } else { &words[start as usize..end as usize] }
-}
-
 pub fn constraints(t: &Table, challenges: &[u32], width: u64, trace: &[u32], terminal: Option<Ext>) -> Answer {
     let n = t.lookup_count();
     let number = first_refused(&[
