@@ -16,20 +16,16 @@ pub fn mul_word(a: u32, b: u32) -> u32 {
     reduce(product(a, b))
 }
 
-fn sub_word(a: u32, b: u32) -> u32 {
-    if a < b {
-        a + (P - b)
-    } else {
-        a - b
-    }
+pub fn add_word(a: u32, b: u32) -> u32 {
+    reduce(a as u64 + b as u64)
 }
 
-fn neg_word(a: u32) -> u32 {
-    if a == 0 {
-        0
-    } else {
-        P - a
-    }
+pub fn sub_word(a: u32, b: u32) -> u32 {
+    if a < b { a + (P - b) } else { a - b }
+}
+
+pub fn neg_word(a: u32) -> u32 {
+    if a == 0 { 0 } else { P - a }
 }
 
 fn dot2(a: u32, b: u32, c: u32, d: u32) -> u32 {
@@ -46,6 +42,22 @@ fn inv_word(a: u32) -> u32 {
         x = P % x;
     }
     t
+}
+
+pub fn lift(a: u32) -> Ext {
+    [a, 0, 0, 0]
+}
+
+pub fn add(a: Ext, b: Ext) -> Ext {
+    std::array::from_fn(|i| add_word(a[i], b[i]))
+}
+
+pub fn sub(a: Ext, b: Ext) -> Ext {
+    std::array::from_fn(|i| sub_word(a[i], b[i]))
+}
+
+pub fn scale(z: u32, a: Ext) -> Ext {
+    a.map(|word| mul_word(z, word))
 }
 
 #[inline]
@@ -85,7 +97,7 @@ pub fn inverse(a: Ext) -> Ext {
 pub struct Random(pub u64);
 
 impl Random {
-    pub fn next(&mut self) -> u64 {
+    pub fn draw(&mut self) -> u64 {
         self.0 ^= self.0 >> 12;
         self.0 ^= self.0 << 25;
         self.0 ^= self.0 >> 27;
@@ -93,7 +105,7 @@ impl Random {
     }
 
     pub fn below(&mut self, n: u64) -> u64 {
-        self.next() % n
+        self.draw() % n
     }
 
     pub fn element(&mut self) -> Ext {

@@ -1,0 +1,88 @@
+//! Compares the model of the specification with the crate's own source, and with the port where it is linked, on random, damaged and
+//! boundary tables. Prints what was run; exits with 1 at the first disagreement, made small, and with 2 where there is nothing
+//! to compare.
+//!
+//!     cargo run --release --offline --bin oracle -- --tables 100000 --seed 1
+use std::process::ExitCode;
+use std::time::Instant;
+
+use harness::compare::{Compared, Disagreement, Tally, check};
+use harness::generator::{self, Case};
+use harness::plain::Random;
+use harness::port::Port;
+use harness::shrink::shrink;
+
+fn argument(name: &str, otherwise: u64) -> u64 {
+    let arguments: Vec<String> = std::env::args().collect();
+    let place = arguments.iter().position(|a| a == name);
+    place.map_or(otherwise, |i| arguments.get(i + 1).and_then(|n| n.parse().ok()).unwrap_or_else(|| panic!("{name} takes a number")))
+}
+
+#[cfg(feature = "port")]
+fn port() -> Option<Box<dyn Port>> {
+    Some(Box::new(harness::port::Exported))
+}
+
+#[cfg(not(feature = "port"))]
+fn port() -> Option<Box<dyn Port>> {
+    None
+}
+
+fn main() -> ExitCode {
+    let (tables, seed) = (argument("--tables", 100_000), argument("--seed", 1));
+    let port = port();
+    let port = port.as_deref();
+    let with_or_without = |there: bool| if there { "with" } else { "without" };
+    println!("{} the crate's source, {} the port", with_or_without(cfg!(source)), with_or_without(port.is_some()));
+    if !cfg!(source) && port.is_none() {
+        println!("nothing to compare: set P3_LOOKUP_SRC to the source of p3-lookup 0.8.0, or build with --features port");
+        return ExitCode::from(2);
+    }
+
+    let start = Instant::now();
+    let mut tally = Tally::default();
+    let boundaries = generator::boundaries();
+    for (name, case) in &boundaries {
+        if let Err(found) = check(case, port, &mut tally) {
+            return report(name, case, &found, port);
+        }
+    }
+    let mut random = Random(seed.wrapping_mul(0x9E3779B97F4A7C15) | 1);
+    for i in 0..tables {
+        let mut case = generator::case(&mut random);
+        let damaged = i % 3 == 2;
+        if damaged {
+            generator::damage(&mut random, &mut case);
+        }
+        if let Err(found) = check(&case, port, &mut tally) {
+            return report(&format!("table {i} of seed {seed}"), &case, &found, port);
+        }
+    }
+    println!("{tables} random cases (a third of them damaged) of seed {seed} and {} at the limits, no disagreement", boundaries.len());
+    print_counts(&tally);
+    println!("{:.1} s", start.elapsed().as_secs_f64());
+    ExitCode::SUCCESS
+}
+
+fn print_counts(tally: &Tally) {
+    println!("door, number: the same / another of several faults first / the crate has no such limit / not for the crate");
+    let mut numbers: Vec<(&str, u32)> = tally.counts.keys().map(|(door, number, _)| (*door, *number)).collect();
+    numbers.dedup();
+    for (door, number) in numbers {
+        let count = |compared| tally.counts.get(&(door, number, compared)).copied().unwrap_or(0);
+        let [same, choice, limit, untaken] = [Compared::Same, Compared::Choice, Compared::Limit, Compared::Untaken].map(count);
+        println!("{door}, {number}: {same} / {choice} / {limit} / {untaken}");
+    }
+    for (door, count) in &tally.ported {
+        println!("{door}: {count} with the port");
+    }
+}
+
+fn report(name: &str, case: &Case, found: &Disagreement, port: Option<&dyn Port>) -> ExitCode {
+    println!("{name}: {} disagrees", found.door);
+    let failing = |case: &Case| check(case, port, &mut Tally::default()).err().filter(|other| other.door == found.door);
+    let small = shrink(case, &|case| failing(case).is_some());
+    println!("{}", failing(&small).unwrap_or_else(|| Disagreement { door: found.door, text: found.text.clone() }).text);
+    print!("{small}");
+    ExitCode::FAILURE
+}

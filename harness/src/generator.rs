@@ -1,0 +1,701 @@
+//! Random tables with what each door needs besides, damaged copies of them, and a fixed list of tables at the limits.
+use std::fmt;
+
+use crate::model;
+use crate::plain::{self, Ext, P, Random};
+use crate::table::{Interaction, LOOKUP_WORDS, Lookup, Part, Table, line};
+
+/// One input for each door. The doors of one table take the first.
+#[derive(Clone, Debug, Default, PartialEq)]
+pub struct Case {
+    pub tables: Vec<Table>,
+    pub challenges: Vec<u32>,
+    /// The words of generation's trace buffer.
+    pub buffer: usize,
+    /// How many more columns the constraints' trace has than it needs.
+    pub extra_columns: u64,
+    /// What is added to words of the constraints' trace and terminal: place (modulo the length) and addend.
+    pub changes: Vec<(usize, u32)>,
+    /// How many words the constraints' trace lacks.
+    pub missing_words: usize,
+    /// The constraints get a terminal where none belongs, and none where one does.
+    pub terminal_misplaced: bool,
+    /// Packing's degree limit.
+    pub limit: u64,
+    pub transition: u64,
+    /// The words of balance's workspace.
+    pub workspace: usize,
+    pub heights: Vec<u64>,
+    pub terminals: Vec<Option<Ext>>,
+    pub prefix_width: u64,
+    pub prefixes: u64,
+    pub interactions: Vec<Interaction>,
+    pub count: i32,
+}
+
+impl Case {
+    /// Challenge i, or some element where there is none.
+    pub fn challenge(&self, i: usize) -> Ext {
+        self.challenges.get(4 * i..4 * i + 4).map_or([1, 2, 3, 4], |words| words.try_into().unwrap())
+    }
+}
+
+/// The tables and challenges in lines, then what else there is.
+impl fmt::Display for Case {
+    fn fmt(&self, f: &mut fmt::Formatter<'_>) -> fmt::Result {
+        self.tables.iter().try_for_each(|t| t.fmt(f))?;
+        f.write_str(&line("challenges", &self.challenges))?;
+        f.write_str(&line("heights", &self.heights))?;
+        writeln!(f, "buffer {}, workspace {}, limit {}, t {}", self.buffer, self.workspace, self.limit, self.transition)?;
+        let Case { extra_columns, missing_words, terminal_misplaced, changes, .. } = self;
+        writeln!(
+            f,
+            "constraints: {extra_columns} more columns, {missing_words} words less, changes {changes:?}, misplaced {terminal_misplaced}"
+        )?;
+        writeln!(f, "terminals {:?}", self.terminals)?;
+        writeln!(f, "prefixes {} of width {}, count {}", self.prefixes, self.prefix_width, self.count)?;
+        writeln!(f, "interactions {:?}", self.interactions)
+    }
+}
+
+impl Random {
+    fn one_in(&mut self, n: u64) -> bool {
+        self.below(n) == 0
+    }
+
+    fn pick<T: Clone>(&mut self, list: &[T]) -> T {
+        list[self.below(list.len() as u64) as usize].clone()
+    }
+
+    /// Mostly small, so that tuples meet and denominators vanish.
+    fn word(&mut self) -> u32 {
+        match self.below(12) {
+            0..=7 => self.below(3) as u32,
+            8 => P - 1 - self.below(2) as u32,
+            9 => self.below(120) as u32,
+            _ => self.below(P.into()) as u32,
+        }
+    }
+
+    fn challenge(&mut self) -> Ext {
+        match self.below(12) {
+            0..=8 => self.element(),
+            9 | 10 => plain::lift(self.word()),
+            _ => std::array::from_fn(|_| self.below(2) as u32),
+        }
+    }
+
+    fn weight(&mut self) -> u32 {
+        match self.below(8) {
+            0..=4 => self.below(3) as u32,
+            5 => u32::MAX - self.below(2) as u32,
+            6 => P - self.below(2) as u32,
+            _ => self.draw() as u32,
+        }
+    }
+
+    fn name(&mut self) -> Vec<u8> {
+        let names: [&[u8]; 7] = [b"mem", b"mem", b"mem", b"a", b"a\0", b"", b"\xff\xfe0123456789abcd"];
+        self.pick(&names).to_vec()
+    }
+}
+
+const MOST_IN_TREE: u64 = 60;
+const MOST_DEGREE: u64 = 40;
+
+/// A table in the making: how large each node is as a tree, and its degree, stand beside it.
+struct Maker<'a> {
+    random: &'a mut Random,
+    table: Table,
+    sizes: Vec<(u64, u64)>,
+    /// Tuples of any width on any bus.
+    loose: bool,
+}
+
+impl Maker<'_> {
+    fn leaf(&mut self, kind: u32, a: u32) -> u32 {
+        let degree = if matches!(kind, 0 | 5) { 0 } else { 1 };
+        self.sizes.push((1, degree));
+        let unused = self.random.below(3) as u32;
+        self.table.add_node(kind, a, unused)
+    }
+
+    fn constant(&mut self, word: u32) -> u32 {
+        self.leaf(0, word)
+    }
+
+    /// A sum, difference, product or negation, unless it would be large.
+    fn combine(&mut self) {
+        let kind = 9 + self.random.below(4) as u32;
+        let n = self.sizes.len() as u64;
+        let (a, b) = (self.random.below(n) as u32, self.random.below(n) as u32);
+        let ((size_a, degree_a), (size_b, degree_b)) = (self.sizes[a as usize], self.sizes[b as usize]);
+        let degree = if kind == 11 { degree_a + degree_b } else { degree_a.max(degree_b) };
+        if size_a + size_b < MOST_IN_TREE && degree <= MOST_DEGREE {
+            self.sizes.push((1 + size_a + size_b, degree));
+            self.table.add_node(kind, a, b);
+        }
+    }
+
+    fn negation(&mut self, node: u32) -> u32 {
+        let size = self.sizes[node as usize];
+        self.sizes.push((size.0 + 1, size.1));
+        self.table.add_node(12, node, 0)
+    }
+
+    fn any_node(&mut self) -> u32 {
+        self.random.below(self.sizes.len() as u64) as u32
+    }
+
+    fn traces(&mut self) {
+        let r = &mut *self.random;
+        let height = match r.below(400) {
+            0 => r.pick(&[1023, 1024, 1025, 2047, 2048, 2049, 3072]),
+            1..=8 => 0,
+            9..=60 => 1,
+            _ => 2 + r.below(6),
+        };
+        let t = &mut self.table;
+        t.height = height;
+        t.main_width = 1 + r.below(3);
+        t.pre_width = r.below(5).saturating_sub(2);
+        t.pre_height = if t.pre_width == 0 { r.below(3) } else { height + r.below(6).saturating_sub(3) };
+        t.main = (0..t.main_width * height).map(|_| r.word()).collect();
+        t.preprocessed = (0..t.pre_width * t.pre_height).map(|_| r.word()).collect();
+        t.public_values = (0..r.below(3)).map(|_| r.word()).collect();
+    }
+
+    /// Leaves of each kind, then some larger expressions.
+    fn nodes(&mut self) {
+        for column in 0..self.table.main_width as u32 {
+            self.leaf(1, column);
+            if self.random.one_in(2) {
+                self.leaf(2, column);
+            }
+        }
+        for column in 0..self.table.pre_width as u32 {
+            self.leaf(3, column);
+            self.leaf(4, column);
+        }
+        for value in 0..self.table.public_values.len() as u32 {
+            self.leaf(5, value);
+        }
+        for kind in 6..9 {
+            if self.random.one_in(2) {
+                self.leaf(kind, 0);
+            }
+        }
+        for _ in 0..self.random.below(7) {
+            self.combine();
+        }
+    }
+
+    /// Flags for an exclusive lookup: mostly columns of their own with at most one 1 on a row.
+    fn flags(&mut self, branches: usize) -> Vec<u32> {
+        match self.random.below(8) {
+            0 => (0..branches).map(|_| self.any_node()).collect(),
+            1 => (0..branches)
+                .map(|k| {
+                    let word = u32::from(k == 0);
+                    self.constant(word)
+                })
+                .collect(),
+            2 if branches <= 2 => (0..branches as u32).map(|k| self.leaf(6 + k, 0)).collect(),
+            _ => {
+                let first = self.selectors(branches);
+                (first..first + branches as u32).map(|column| self.leaf(1, column)).collect()
+            }
+        }
+    }
+
+    /// New columns of the main trace, of which at most one is 1 on a row, a fault now and then aside.
+    fn selectors(&mut self, branches: usize) -> u32 {
+        let first = self.table.main_width as u32;
+        self.table.main_width += branches as u64;
+        let faulty = self.random.one_in(12);
+        for row in 0..self.table.height {
+            let chosen = self.random.below(branches as u64 + 1) as usize;
+            let row_end = (row as usize + 1) * self.table.main_width as usize - branches;
+            for k in 0..branches {
+                let fault = faulty && self.random.one_in(8);
+                let flag = if fault { self.random.below(3) as u32 } else { u32::from(k == chosen) };
+                self.table.main.insert(row_end + k, flag);
+            }
+        }
+        first
+    }
+
+    fn multiplicity(&mut self) -> u32 {
+        match self.random.below(10) {
+            0..=3 => self.constant(1),
+            4 => self.constant(P - 1),
+            5 => self.constant(0),
+            6 => {
+                let word = self.random.word();
+                self.constant(word)
+            }
+            _ => self.any_node(),
+        }
+    }
+
+    fn lookup(&mut self) -> Lookup {
+        let bus = (!self.random.one_in(4)).then(|| self.random.name());
+        // Mostly one width for each bus.
+        let usual = bus.as_ref().map_or(1, Vec::len).min(8) as u64;
+        let width = if self.loose || self.random.one_in(12) { self.random.below(5) } else { usual };
+        let exclusive = self.random.one_in(3);
+        let branches = self.random.pick(&[0, 1, 1, 1, 1, 2, 2, 3]);
+        let odd_one = self.random.one_in(40);
+        let mut lookup = Lookup { bus, weight: self.random.weight(), exclusive, ..Lookup::default() };
+        if exclusive {
+            lookup.flags = self.flags(branches);
+        }
+        for _ in 0..branches {
+            let width = if odd_one { self.random.below(4) } else { width };
+            lookup.tuples.push((0..width).map(|_| self.any_node()).collect());
+            let multiplicity = self.multiplicity();
+            lookup.multiplicities.push(multiplicity);
+        }
+        lookup
+    }
+
+    /// The same entries with the opposite sign.
+    fn opposite(&mut self, lookup: &Lookup) -> Lookup {
+        let multiplicities = lookup.multiplicities.iter().map(|m| self.negation(*m)).collect();
+        Lookup { multiplicities, weight: self.random.weight(), ..lookup.clone() }
+    }
+
+    /// Lookups, most of them with an opposite, so that balance passes often.
+    fn lookups(&mut self) -> Vec<Lookup> {
+        let mut lookups = vec![];
+        let many = self.random.below(60);
+        let count = if self.random.one_in(200) { many } else { self.random.pick(&[0, 1, 1, 1, 2, 2, 3, 4]) };
+        for _ in 0..count {
+            let lookup = self.lookup();
+            let opposite = self.random.below(3);
+            if opposite != 0 {
+                let opposite = self.opposite(&lookup);
+                if lookup.bus.is_some() {
+                    lookups.push(opposite);
+                    lookups.push(lookup);
+                } else {
+                    // A local balances alone.
+                    lookups.push(Lookup {
+                        tuples: [lookup.tuples, opposite.tuples].concat(),
+                        multiplicities: [lookup.multiplicities, opposite.multiplicities].concat(),
+                        flags: [lookup.flags, opposite.flags].concat(),
+                        ..opposite
+                    });
+                }
+            } else {
+                lookups.push(lookup);
+            }
+        }
+        // In any order.
+        for i in (1..lookups.len()).rev() {
+            let j = self.random.below(i as u64 + 1) as usize;
+            lookups.swap(i, j);
+        }
+        lookups
+    }
+}
+
+fn number_columns(lookups: &mut [Lookup]) {
+    for (i, lookup) in lookups.iter_mut().enumerate() {
+        lookup.column = i as u32;
+    }
+}
+
+/// A table that none of refusals 1 to 5 meets, unless it has more lookups or tuples than the limits.
+pub fn table(random: &mut Random) -> Table {
+    let loose = random.one_in(15);
+    let mut maker = Maker { random, table: Table::default(), sizes: vec![], loose };
+    maker.traces();
+    maker.nodes();
+    let mut lookups = maker.lookups();
+    number_columns(&mut lookups);
+    let mut table = maker.table;
+    table.set_records(&lookups);
+    // A mark word other than 0 counts as 1.
+    for entry in table.lookups.chunks_exact_mut(LOOKUP_WORDS) {
+        for mark in [0, 4] {
+            if entry[mark] == 1 && maker.random.one_in(20) {
+                entry[mark] = maker.random.draw() as u32 | 2;
+            }
+        }
+    }
+    table
+}
+
+/// A table whose bus entries are the opposites of another's.
+fn mirror(random: &mut Random, table: &Table) -> Table {
+    let mut mirror = table.clone();
+    let mut lookups = mirror.records();
+    lookups.retain(|lookup| lookup.bus.is_some());
+    for lookup in &mut lookups {
+        lookup.weight = random.weight();
+        for multiplicity in &mut lookup.multiplicities {
+            *multiplicity = mirror.add_node(12, *multiplicity, 0);
+        }
+    }
+    number_columns(&mut lookups);
+    mirror.set_records(&lookups);
+    mirror
+}
+
+fn interactions(random: &mut Random, nodes: usize) -> Vec<Interaction> {
+    if nodes == 0 {
+        return vec![];
+    }
+    let odd_one = random.one_in(10);
+    let part = |random: &mut Random| {
+        let node = |random: &mut Random| random.below(nodes as u64) as u32;
+        let width = if odd_one { random.below(3) } else { 2 };
+        Part { elements: (0..width).map(|_| node(random)).collect(), multiplicity: node(random), weight: random.weight() }
+    };
+    let interaction = |random: &mut Random| match random.below(3) {
+        0 => Interaction::Local((0..random.below(4)).map(|_| part(random)).collect()),
+        1 => Interaction::Global(random.name(), part(random)),
+        _ => {
+            let flag = |random: &mut Random| random.below(nodes as u64) as u32;
+            Interaction::Exclusive(random.name(), (0..random.below(4)).map(|_| (flag(random), part(random))).collect())
+        }
+    };
+    (0..random.below(6)).map(|_| interaction(random)).collect()
+}
+
+fn terminals(random: &mut Random) -> Vec<Option<Ext>> {
+    let mut terminals: Vec<Option<Ext>> = (0..random.below(4)).map(|_| (!random.one_in(3)).then(|| random.challenge())).collect();
+    if random.one_in(2) {
+        let sum = terminals.iter().flatten().copied().fold([0; 4], plain::add);
+        terminals.push(Some(plain::sub([0; 4], sum)));
+    }
+    terminals
+}
+
+/// The words that a table's trace has.
+fn used(t: &Table) -> usize {
+    if t.lookup_count() == 0 { 0 } else { t.height as usize * (t.lookup_count() + 1) * 4 }
+}
+
+/// Makes an alpha the combined value of one of its lookup's tuples on some row, so that a denominator is zero.
+fn meet_tuple(random: &mut Random, t: &Table, challenges: &mut [u32]) {
+    let lookup = random.below(t.lookup_count() as u64) as usize;
+    let tuples = &t.records()[lookup].tuples;
+    if !tuples.is_empty() {
+        let values = model::node_values(t, random.below(t.height) as usize);
+        let tuple: Vec<u32> = random.pick(tuples).iter().map(|n| values[*n as usize]).collect();
+        let pair = &mut challenges[8 * lookup..8 * lookup + 8];
+        let alpha = model::combined(&tuple, pair[4..].try_into().unwrap());
+        pair[..4].copy_from_slice(&alpha);
+    }
+}
+
+/// The tables with inputs for each door that none of refusals 1 to 12 meets.
+fn case_of(random: &mut Random, tables: Vec<Table>) -> Case {
+    let n = tables[0].lookup_count();
+    let shared = random.one_in(2).then(|| [random.challenge(), random.challenge()].concat());
+    let pair = |random: &mut Random| shared.clone().unwrap_or_else(|| [random.challenge(), random.challenge()].concat());
+    let mut challenges: Vec<u32> = (0..n).flat_map(|_| pair(random)).collect();
+    if 0 < n && 0 < tables[0].height && random.one_in(10) {
+        meet_tuple(random, &tables[0], &mut challenges);
+    }
+    let workspace = if random.one_in(6) { random.below(60) } else { 640 + random.below(12) };
+    Case {
+        buffer: used(&tables[0]) + random.below(8).saturating_sub(5) as usize,
+        challenges,
+        extra_columns: random.below(8).saturating_sub(5),
+        changes: (0..random.below(6).saturating_sub(3)).map(|_| (random.draw() as usize, 1 + random.word() % (P - 1))).collect(),
+        missing_words: 0,
+        terminal_misplaced: false,
+        limit: random.below(9),
+        transition: random.below(2),
+        workspace: if tables[0].height > 100 { 100_000 } else { workspace as usize },
+        heights: tables.iter().map(|t| if random.one_in(3) { random.below(1 << 20) } else { t.height }).collect(),
+        terminals: terminals(random),
+        prefix_width: 1 + random.below(9),
+        prefixes: random.below(6),
+        interactions: interactions(random, tables[0].node_count()),
+        count: match random.below(6) {
+            0 => i32::MIN,
+            1 => i32::MAX,
+            2 => -(random.below(4) as i32),
+            _ => random.draw() as i32,
+        },
+        tables,
+    }
+}
+
+pub fn case(random: &mut Random) -> Case {
+    let mut tables = vec![table(random)];
+    for _ in 0..random.pick(&[0, 0, 1, 1, 2]) {
+        let last = tables.last().unwrap().clone();
+        let next = if random.one_in(3) { table(random) } else { mirror(random, &last) };
+        tables.push(next);
+    }
+    case_of(random, tables)
+}
+
+/// Takes the last of a list, if there is one.
+pub fn shorten<T>(list: &mut Vec<T>) {
+    list.truncate(list.len().saturating_sub(1));
+}
+
+/// Breaks something: a word, a length, a size, or one of the doors' own inputs.
+pub fn damage(random: &mut Random, case: &mut Case) {
+    for _ in 0..1 + random.below(2) {
+        match random.below(16) {
+            0..=8 => {
+                let table = random.below(case.tables.len() as u64) as usize;
+                damage_table(random, &mut case.tables[table]);
+            }
+            9 => damage_list(random, &mut case.challenges),
+            10 => {
+                case.buffer = case.buffer.saturating_sub(1 + random.below(2) as usize);
+                case.terminal_misplaced = random.one_in(2);
+            }
+            11 => {
+                case.prefix_width = random.pick(&[0, 255, 256, u64::MAX]);
+                case.prefixes = random.pick(&[0, 256, 257, u64::MAX]);
+                case.transition = random.pick(&[0, 1, 2, u64::MAX]);
+                case.limit = random.pick(&[0, 1, u64::MAX]);
+            }
+            12 => case.workspace = random.below(40) as usize,
+            13 => {
+                // Whole challenges more or fewer.
+                let words = (case.challenges.len() + 12).saturating_sub(4 * random.below(6) as usize);
+                case.challenges.resize(words, 1);
+            }
+            14 => match random.below(3) {
+                0 => case.missing_words = 1 + random.below(4) as usize,
+                1 => case.terminals.push(Some([1, 2, random.pick(&[3, P]), 4])),
+                _ => case.terminals.resize(16 + random.below(2) as usize, None),
+            },
+            _ => {
+                let height = random.pick(&[0, 1, 1 << 20, (1 << 20) + 1, u64::MAX]);
+                match random.below(3) {
+                    0 => case.heights.push(height),
+                    1 => shorten(&mut case.heights),
+                    _ => case.heights.fill(height),
+                }
+                case.changes.push((random.draw() as usize, P));
+            }
+        }
+    }
+}
+
+fn damage_table(random: &mut Random, t: &mut Table) {
+    match random.below(20) {
+        0 => damage_list(random, &mut t.main),
+        1 => damage_list(random, &mut t.preprocessed),
+        2 => damage_list(random, &mut t.public_values),
+        3..=6 => damage_list(random, &mut t.nodes),
+        7..=10 => damage_list(random, &mut t.lookups),
+        11 => damage_list(random, &mut t.tuples),
+        12 => damage_list(random, &mut t.multiplicities),
+        13 => damage_list(random, &mut t.flags),
+        14 => damage_list(random, &mut t.elements),
+        15 => t.names.push(random.draw() as u8),
+        16 => shorten(&mut t.names),
+        // Rows go or come with their words.
+        17 if t.fits() => {
+            t.pre_height = t.pre_height.saturating_sub(random.below(3)) + random.below(2);
+            t.preprocessed.resize((t.pre_width * t.pre_height) as usize, 1);
+        }
+        18 if t.fits() => {
+            t.height = t.height.saturating_sub(random.below(2)) + random.below(2);
+            t.main.resize((t.main_width * t.height) as usize, 1);
+        }
+        _ => {
+            let size = random.pick(&[0, 1, 64, 65, 256, 257, 1 << 20, (1 << 20) + 1, 1 << 32, 1 << 63, u64::MAX]);
+            let place = random.below(4);
+            *[&mut t.main_width, &mut t.height, &mut t.pre_width, &mut t.pre_height][place as usize] = size;
+        }
+    }
+}
+
+fn damage_list(random: &mut Random, list: &mut Vec<u32>) {
+    let special = random.below(20) as u32;
+    let word = random.pick(&[0, 1, 2, 3, 13, P - 1, P, P + 1, u32::MAX, special]);
+    match random.below(8) {
+        0 => list.push(word),
+        1 => shorten(list),
+        _ if list.is_empty() => (),
+        _ => {
+            let place = random.below(list.len() as u64) as usize;
+            list[place] = word;
+        }
+    }
+}
+
+/// One lookup ("mem", one tuple of one column, multiplicity 1) over a main column.
+fn plain_table(height: u64) -> Table {
+    let mut t = Table { main_width: 1, height, ..Table::default() };
+    t.main = (0..height as u32).map(|row| row % 5).collect();
+    t.nodes = vec![1, 0, 0, 0, 1, 0, 12, 1, 0];
+    t.set_records(&[on_bus(0, vec![0], 1)]);
+    t
+}
+
+fn on_bus(column: u32, tuple: Vec<u32>, multiplicity: u32) -> Lookup {
+    Lookup { bus: Some(b"mem".to_vec()), weight: 1, column, tuples: vec![tuple], multiplicities: vec![multiplicity], ..Lookup::default() }
+}
+
+/// The limits of document 01, each met and passed by one, with a name.
+pub fn boundaries() -> Vec<(String, Case)> {
+    let mut random = Random(7);
+    let mut cases = vec![];
+    let mut add = |name: String, tables: Vec<Table>, change: &dyn Fn(&mut Case)| {
+        let mut case = case_of(&mut random, tables);
+        case.workspace = 640;
+        case.challenges = (0..2 * case.tables[0].lookup_count()).flat_map(|_| random.element()).collect();
+        case.heights = case.tables.iter().map(|t| t.height).collect();
+        change(&mut case);
+        cases.push((name, case));
+    };
+    let same = |_: &mut Case| ();
+    for over in 0..2 {
+        let table = |change: &dyn Fn(&mut Table)| {
+            let mut t = plain_table(3);
+            change(&mut t);
+            vec![t]
+        };
+        let n = model::TABLES + over;
+        add(format!("{n} tables"), vec![plain_table(2); n], &same);
+        let n = model::LOOKUPS + over;
+        add(
+            format!("{n} lookups"),
+            table(&|t| t.set_records(&(0..n as u32).map(|i| on_bus(i, vec![0], 1 + i % 2)).collect::<Vec<_>>())),
+            &same,
+        );
+        let n = model::TUPLES + over;
+        let many = Lookup { tuples: vec![vec![0]; n], multiplicities: vec![1; n], ..on_bus(0, vec![], 1) };
+        add(format!("{n} tuples"), table(&|t| t.set_records(std::slice::from_ref(&many))), &same);
+        let n = model::TUPLE_WORDS as usize + over;
+        add(format!("{n} words a tuple"), table(&|t| t.set_records(&[on_bus(0, vec![0; n], 1)])), &same);
+        let n = model::NODES + over;
+        add(
+            format!("{n} nodes"),
+            table(&|t| {
+                while t.node_count() < n {
+                    let last = t.node_count() as u32 - 1;
+                    t.add_node(9, last, 0);
+                }
+                t.set_records(&[on_bus(0, vec![t.node_count() as u32 - 1], 1)]);
+            }),
+            &same,
+        );
+        let n = model::MAIN_COLUMNS + over as u64;
+        add(
+            format!("{n} main columns"),
+            table(&|t| {
+                t.main_width = n;
+                t.main = (0..3 * n as u32).collect();
+                t.nodes[1] = n as u32 - 1;
+            }),
+            &same,
+        );
+        let n = model::PRE_COLUMNS + over as u64;
+        add(
+            format!("{n} preprocessed columns"),
+            table(&|t| {
+                (t.pre_width, t.pre_height) = (n, 3);
+                t.preprocessed = (0..3 * n as u32).collect();
+                t.nodes[0] = 4;
+                t.nodes[1] = n as u32 - 1;
+            }),
+            &same,
+        );
+        let n = model::PUBLIC_VALUES + over;
+        add(
+            format!("{n} public values"),
+            table(&|t| {
+                t.public_values = vec![2; n];
+                t.nodes[0] = 5;
+                t.nodes[1] = n as u32 - 1;
+            }),
+            &same,
+        );
+        let n = model::HEIGHT + over as u64;
+        add(format!("height {n}"), vec![plain_table(n)], &same);
+        add(
+            format!("preprocessed height {n}"),
+            table(&|t| {
+                (t.pre_width, t.pre_height) = (1, n);
+                t.preprocessed = vec![1; n as usize];
+            }),
+            &same,
+        );
+        let n = model::NAME_BYTES as usize + over;
+        add(format!("{n} bytes a name"), table(&|t| t.set_records(&[Lookup { bus: Some(vec![b'x'; n]), ..on_bus(0, vec![0], 1) }])), &same);
+        add(
+            format!("degree {}", 255 + over),
+            table(&|t| {
+                // Degrees 2, 4, .., 128 from node 3 on; their product with the column has degree 255.
+                for last in [0, 3, 4, 5, 6, 7, 8] {
+                    t.add_node(11, last, last);
+                }
+                for (a, b) in [(9, 8), (10, 7), (11, 6), (12, 5), (13, 4), (14, 3), (15, 0)] {
+                    t.add_node(11, a, b);
+                }
+                let last = t.node_count() as u32 - 1;
+                t.add_node(if over == 1 { 11 } else { 9 }, last, 0);
+                t.set_records(&[on_bus(0, vec![last + 1], 1)]);
+            }),
+            &same,
+        );
+        // Not named by any lookup; squared so often, the degree of a tree passes every number.
+        for times in [7 + over, 100] {
+            add(
+                format!("a column squared {times} times, unused"),
+                table(&|t| {
+                    for _ in 0..times {
+                        let last = if t.node_count() == 3 { 0 } else { t.node_count() as u32 - 1 };
+                        t.add_node(11, last, last);
+                    }
+                }),
+                &same,
+            );
+        }
+        let n = over as u64;
+        add(format!("{} prefixes", 256 + n), table(&|_| ()), &|c| c.prefixes = 256 + n);
+        add(format!("prefix width {}", 255 + n), table(&|_| ()), &|c| c.prefix_width = 255 + n);
+        add(format!("prefix width {n}"), table(&|_| ()), &|c| c.prefix_width = n);
+        add(format!("transition degree {}", 1 + n), table(&|_| ()), &|c| c.transition = 1 + n);
+        add(
+            format!("weights {} and 1 on a bus", u32::MAX - 1 + over as u32),
+            table(&|t| {
+                let heavy = Lookup { weight: u32::MAX - 1 + over as u32, ..on_bus(0, vec![0], 1) };
+                t.set_records(&[heavy, on_bus(1, vec![0], 2)]);
+            }),
+            &|c| c.limit = 9,
+        );
+        let sum = P - 1 + over as u32;
+        add(
+            format!("height sum {sum}"),
+            vec![{
+                let mut t = plain_table(1);
+                t.set_records(&[Lookup { weight: sum, ..on_bus(0, vec![0], 1) }]);
+                t
+            }],
+            &same,
+        );
+        add(format!("{} words for 3 slots", 30 - over), table(&|t| t.set_records(&[on_bus(0, vec![0], 1), on_bus(1, vec![0], 2)])), &|c| {
+            c.workspace = 30 - over
+        });
+        add(format!("trace buffer of {} words", 24 - over), table(&|_| ()), &|c| c.buffer = 24 - over);
+        add(format!("height {over}"), vec![plain_table(n)], &same);
+        add(
+            format!("preprocessed height {}", 3 - over),
+            table(&|t| {
+                (t.pre_width, t.pre_height) = (1, 3 - n);
+                t.preprocessed = vec![1; 3 - over];
+            }),
+            &same,
+        );
+    }
+    for height in [1023, 1024, 1025, 2048, 2049] {
+        add(format!("height {height}"), vec![plain_table(height)], &same);
+    }
+    cases
+}

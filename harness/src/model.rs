@@ -1,0 +1,678 @@
+//! Document 01 once more, as a plain program: an independent reading, to which the port and the crate are compared. It is written for
+//! reading, not for speed.
+use crate::plain::{self, Ext, P};
+use crate::table::{Entry, Interaction, LOOKUP_WORDS, Lookup, NODE_WORDS, Part, Table};
+
+/// A refusal's number and three details; number 0 where the call is accepted.
+#[derive(Clone, Copy, Debug, Default, PartialEq, Eq)]
+pub struct Answer {
+    pub number: u32,
+    pub details: [u64; 3],
+}
+
+pub const ACCEPTED: Answer = Answer { number: 0, details: [0; 3] };
+
+pub fn refused(number: u32) -> Answer {
+    Answer { number, details: [0; 3] }
+}
+
+fn with_details(number: u32, details: [usize; 3]) -> Answer {
+    Answer { number, details: details.map(|d| d as u64) }
+}
+
+pub const TABLES: usize = 16;
+pub const LOOKUPS: usize = 64;
+pub const TUPLES: usize = 64;
+pub const TUPLE_WORDS: u32 = 8;
+pub const NODES: usize = 1024;
+pub const MAIN_COLUMNS: u64 = 256;
+pub const PRE_COLUMNS: u64 = 64;
+pub const PUBLIC_VALUES: usize = 64;
+pub const HEIGHT: u64 = 1 << 20;
+pub const NAME_BYTES: u32 = 16;
+pub const PREFIXES: u64 = 256;
+pub const PREFIX_WIDTH: u64 = 255;
+pub const DEGREE: u64 = 255;
+
+/// The first number whose test fails, or 0. Tests are tried in the order given, so none sees words that an earlier one refuses.
+fn first_refused(tests: &[(u32, &dyn Fn() -> bool)]) -> u32 {
+    tests.iter().find(|(_, holds)| !holds()).map_or(0, |(number, _)| *number)
+}
+
+// Refusal 1.
+
+fn plan_sizes_fit(t: &Table) -> bool {
+    0 < t.main_width
+        && t.main_width <= MAIN_COLUMNS
+        && t.pre_width <= PRE_COLUMNS
+        && t.public_values.len() <= PUBLIC_VALUES
+        && t.nodes.len().is_multiple_of(NODE_WORDS)
+        && t.node_count() <= NODES
+        && lookup_sizes_fit(t)
+}
+
+fn lookup_sizes_fit(t: &Table) -> bool {
+    let entries = t.entries();
+    let total = |field: fn(&Entry) -> u32| entries.iter().map(|e| u64::from(field(e))).sum::<u64>();
+    let is = |length: usize, n: u64| length as u64 == n;
+    t.lookups.len().is_multiple_of(LOOKUP_WORDS)
+        && entries.len() <= LOOKUPS
+        && entries.iter().all(|e| e.name_length <= NAME_BYTES)
+        && t.tuples.len() <= TUPLES
+        && t.tuples.iter().all(|w| *w <= TUPLE_WORDS)
+        && is(t.names.len(), total(|e| e.name_length))
+        && is(t.tuples.len(), total(|e| e.tuples))
+        && is(t.multiplicities.len(), total(|e| e.multiplicities))
+        && is(t.flags.len(), total(|e| e.flags))
+        && is(t.elements.len(), t.tuples.iter().map(|w| u64::from(*w)).sum())
+}
+
+fn sizes_fit(t: &Table) -> bool {
+    plan_sizes_fit(t)
+        && t.height <= HEIGHT
+        && t.pre_height <= HEIGHT
+        && t.main.len() as u64 == t.main_width * t.height
+        && t.preprocessed.len() as u64 == t.pre_width * t.pre_height
+}
+
+// Refusals 2 to 5 and 9.
+
+fn words_below(words: &[u32]) -> bool {
+    words.iter().all(|w| *w < P)
+}
+
+pub fn constants_below(t: &Table) -> bool {
+    (0..t.node_count()).all(|i| t.node(i)[0] != 0 || t.node(i)[1] < P)
+}
+
+pub fn traces_below(t: &Table) -> bool {
+    words_below(&t.main) && words_below(&t.preprocessed) && words_below(&t.public_values)
+}
+
+pub fn nodes_known(t: &Table) -> bool {
+    (0..t.node_count()).all(|i| {
+        let [kind, a, b] = t.node(i);
+        let lower = |n: u32| (n as usize) < i;
+        match kind {
+            0 | 6 | 7 | 8 => true,
+            1 | 2 => u64::from(a) < t.main_width,
+            3 | 4 => u64::from(a) < t.pre_width,
+            5 => (a as usize) < t.public_values.len(),
+            9..=11 => lower(a) && lower(b),
+            12 => lower(a),
+            _ => false,
+        }
+    })
+}
+
+/// The degree of each node; sums of degrees stay below 2^64 by saturating.
+fn degrees(t: &Table, transition: u64) -> Vec<u64> {
+    let mut degrees: Vec<u64> = vec![];
+    for i in 0..t.node_count() {
+        let [kind, a, b] = t.node(i);
+        let of = |n: u32| degrees[n as usize];
+        let degree = match kind {
+            0 | 5 => 0,
+            8 => transition,
+            9 | 10 => of(a).max(of(b)),
+            11 => of(a).saturating_add(of(b)),
+            12 => of(a),
+            _ => 1,
+        };
+        degrees.push(degree);
+    }
+    degrees
+}
+
+fn degrees_low(t: &Table) -> bool {
+    degrees(t, 1).iter().all(|d| *d <= DEGREE)
+}
+
+fn list_lengths_agree(t: &Table) -> bool {
+    t.entries().iter().all(|e| e.multiplicities == e.tuples && e.flags == if e.exclusive { e.tuples } else { 0 })
+}
+
+fn nodes_present(t: &Table) -> bool {
+    let present = |list: &[u32]| list.iter().all(|n| (*n as usize) < t.node_count());
+    present(&t.multiplicities) && present(&t.flags) && present(&t.elements)
+}
+
+pub fn lookups_agree(t: &Table) -> bool {
+    list_lengths_agree(t) && nodes_present(t)
+}
+
+pub fn columns_in_position(t: &Table) -> bool {
+    t.entries().iter().enumerate().all(|(i, e)| e.column as usize == i)
+}
+
+pub fn preprocessed_enough(t: &Table) -> bool {
+    t.lookup_count() == 0 || t.pre_width == 0 || t.height <= t.pre_height
+}
+
+fn rows_enough(t: &Table) -> bool {
+    t.lookup_count() == 0 || (0 < t.height && preprocessed_enough(t))
+}
+
+// Rows.
+
+/// The value of each node on a row.
+pub fn node_values(t: &Table, row: usize) -> Vec<u32> {
+    let height = t.height as usize;
+    let next = (row + 1) % height;
+    let main = |row: usize, column: u32| t.main[row * t.main_width as usize + column as usize];
+    let preprocessed = |row: usize, column: u32| t.preprocessed[row * t.pre_width as usize + column as usize];
+    let mut values: Vec<u32> = vec![];
+    for i in 0..t.node_count() {
+        let [kind, a, b] = t.node(i);
+        let of = |n: u32| values[n as usize];
+        let value = match kind {
+            0 => a,
+            1 => main(row, a),
+            2 => main(next, a),
+            3 => preprocessed(row, a),
+            4 => preprocessed(next, a),
+            5 => t.public_values[a as usize],
+            6 => (row == 0).into(),
+            7 => (row + 1 == height).into(),
+            8 => (row + 1 < height).into(),
+            9 => plain::add_word(of(a), of(b)),
+            10 => plain::sub_word(of(a), of(b)),
+            11 => plain::mul_word(of(a), of(b)),
+            _ => plain::neg_word(of(a)),
+        };
+        values.push(value);
+    }
+    values
+}
+
+/// The sum of element j × beta^(k - 1 - j).
+pub fn combined(tuple: &[u32], beta: Ext) -> Ext {
+    let k = tuple.len();
+    let term = |j: usize| plain::scale(tuple[j], plain::power(beta, (k - 1 - j) as u32));
+    (0..k).map(term).fold([0; 4], plain::add)
+}
+
+/// A lookup with the values of its nodes on one row, and its challenges.
+struct Place<'a> {
+    lookup: &'a Lookup,
+    values: &'a [u32],
+    alpha: Ext,
+    beta: Ext,
+}
+
+impl Place<'_> {
+    fn value(&self, node: u32) -> u32 {
+        self.values[node as usize]
+    }
+
+    fn tuple(&self, k: usize) -> Vec<u32> {
+        self.lookup.tuples[k].iter().map(|n| self.value(*n)).collect()
+    }
+
+    fn multiplicity(&self, k: usize) -> u32 {
+        self.value(self.lookup.multiplicities[k])
+    }
+
+    fn flag(&self, k: usize) -> u32 {
+        self.value(self.lookup.flags[k])
+    }
+
+    fn denominator(&self, k: usize) -> Ext {
+        plain::sub(self.alpha, combined(&self.tuple(k), self.beta))
+    }
+
+    fn branches(&self) -> std::ops::Range<usize> {
+        0..self.lookup.tuples.len()
+    }
+
+    /// The tuples whose denominators are used: those with a multiplicity, or the chosen branch.
+    fn used(&self) -> Vec<usize> {
+        self.branches().filter(|k| if self.lookup.exclusive { self.flag(*k) == 1 } else { self.multiplicity(*k) != 0 }).collect()
+    }
+
+    /// 13, 14, 15, or 0.
+    fn fault(&self) -> u32 {
+        let flag = |k: usize| if self.lookup.exclusive { self.flag(k) } else { 0 };
+        if self.branches().any(|k| 1 < flag(k)) {
+            13
+        } else if 1 < self.branches().filter(|k| flag(*k) == 1).count() {
+            14
+        } else if self.used().iter().any(|k| self.denominator(*k) == [0; 4]) {
+            15
+        } else {
+            0
+        }
+    }
+
+    fn fraction(&self) -> Ext {
+        let quotient = |k: usize| plain::scale(self.multiplicity(k), plain::inverse(self.denominator(k)));
+        self.used().into_iter().map(quotient).fold([0; 4], plain::add)
+    }
+
+    /// Numerator and denominator as the constraints have them.
+    fn terms(&self) -> (Ext, Ext) {
+        let one = plain::lift(1);
+        if self.lookup.exclusive {
+            let mut numerator = 0;
+            let mut denominator = one;
+            for k in self.branches() {
+                let flag = self.flag(k);
+                numerator = plain::add_word(numerator, plain::mul_word(flag, self.multiplicity(k)));
+                denominator = plain::add(denominator, plain::scale(flag, plain::sub(self.denominator(k), one)));
+            }
+            return (plain::lift(numerator), denominator);
+        }
+        let mut numerator = [0; 4];
+        for k in self.branches() {
+            let others = self.branches().filter(|j| *j != k).map(|j| self.denominator(j)).fold(one, plain::mul);
+            numerator = plain::add(numerator, plain::scale(self.multiplicity(k), others));
+        }
+        (numerator, self.branches().map(|k| self.denominator(k)).fold(one, plain::mul))
+    }
+}
+
+fn element(words: &[u32], i: usize) -> Ext {
+    words[4 * i..4 * i + 4].try_into().unwrap()
+}
+
+/// Every fault of generation with its row and lookup, row by row, lookup by lookup.
+pub fn faults(t: &Table, challenges: &[u32]) -> Vec<(u32, usize, usize)> {
+    let records = t.records();
+    let mut faults = vec![];
+    for row in 0..t.height as usize {
+        let values = node_values(t, row);
+        for (i, lookup) in records.iter().enumerate() {
+            let place = Place { lookup, values: &values, alpha: element(challenges, 2 * i), beta: element(challenges, 2 * i + 1) };
+            let fault = place.fault();
+            if fault != 0 {
+                faults.push((fault, row, i));
+            }
+        }
+    }
+    faults
+}
+
+/// A trace and terminal that pass the constraints wherever no denominator is zero, also with flags that generation refuses.
+pub fn satisfying(t: &Table, challenges: &[u32]) -> (Vec<u32>, Ext) {
+    let records = t.records();
+    let (mut trace, mut accumulator) = (vec![], [0; 4]);
+    for row in 0..t.height as usize {
+        let values = node_values(t, row);
+        trace.extend(accumulator);
+        for (i, lookup) in records.iter().enumerate() {
+            let place = Place { lookup, values: &values, alpha: element(challenges, 2 * i), beta: element(challenges, 2 * i + 1) };
+            let (numerator, denominator) = place.terms();
+            let fraction = plain::mul(numerator, plain::inverse(denominator));
+            trace.extend(fraction);
+            accumulator = plain::add(accumulator, fraction);
+        }
+    }
+    (trace, accumulator)
+}
+
+// The doors.
+
+/// Generation: the trace buffer is written, the terminal given back.
+pub fn generate(t: &Table, challenges: &[u32], trace: &mut [u32]) -> (Answer, Option<Ext>) {
+    let n = t.lookup_count();
+    let used = || t.height * (n as u64 + 1) * 4;
+    let number = first_refused(&[
+        (1, &|| sizes_fit(t) && challenges.len().is_multiple_of(4)),
+        (2, &|| traces_below(t) && constants_below(t) && words_below(challenges)),
+        (3, &|| nodes_known(t)),
+        (4, &|| degrees_low(t)),
+        (5, &|| lookups_agree(t) && columns_in_position(t)),
+        (8, &|| n == 0 || challenges.len() == 8 * n),
+        (9, &|| rows_enough(t)),
+        (10, &|| n == 0 || used() <= trace.len() as u64),
+    ]);
+    if number != 0 {
+        return (refused(number), None);
+    }
+    if n == 0 {
+        return (ACCEPTED, None);
+    }
+    let trace = &mut trace[..used() as usize];
+    let records = t.records();
+    let mut accumulator = [0; 4];
+    for (row, words) in trace.chunks_exact_mut(4 * (n + 1)).enumerate() {
+        let values = node_values(t, row);
+        words[..4].copy_from_slice(&accumulator);
+        for (i, lookup) in records.iter().enumerate() {
+            let place = Place { lookup, values: &values, alpha: element(challenges, 2 * i), beta: element(challenges, 2 * i + 1) };
+            let fault = place.fault();
+            if fault != 0 {
+                trace.fill(0);
+                return (with_details(fault, [row, i, 0]), None);
+            }
+            let fraction = place.fraction();
+            words[4 * (i + 1)..4 * (i + 2)].copy_from_slice(&fraction);
+            accumulator = plain::add(accumulator, fraction);
+        }
+    }
+    (ACCEPTED, Some(accumulator))
+}
+
+pub fn constraints(t: &Table, challenges: &[u32], width: u64, trace: &[u32], terminal: Option<Ext>) -> Answer {
+    let n = t.lookup_count();
+    let number = first_refused(&[
+        (1, &|| sizes_fit(t) && challenges.len().is_multiple_of(4) && trace.len() as u128 == u128::from(width) * u128::from(t.height) * 4),
+        (2, &|| {
+            let terminal = terminal.unwrap_or_default();
+            traces_below(t) && constants_below(t) && words_below(challenges) && words_below(trace) && words_below(&terminal)
+        }),
+        (3, &|| nodes_known(t)),
+        (4, &|| degrees_low(t)),
+        (5, &|| lookups_agree(t) && columns_in_position(t)),
+        (8, &|| n == 0 || 8 * n <= challenges.len()),
+        (9, &|| rows_enough(t)),
+        (10, &|| n == 0 || (n as u64) < width),
+        (11, &|| terminal.is_some() == (0 < n)),
+    ]);
+    if number != 0 {
+        return refused(number);
+    }
+    let Some(terminal) = terminal else {
+        return ACCEPTED;
+    };
+    let records = t.records();
+    let cell = |row: usize, column: usize| element(trace, row * width as usize + column);
+    let last = t.height as usize - 1;
+    for row in 0..=last {
+        let values = node_values(t, row);
+        let mut sum = cell(row, 0);
+        let mut must_vanish = vec![];
+        for (i, lookup) in records.iter().enumerate() {
+            let place = Place { lookup, values: &values, alpha: element(challenges, 2 * i), beta: element(challenges, 2 * i + 1) };
+            let (numerator, denominator) = place.terms();
+            must_vanish.push((i, plain::sub(plain::mul(denominator, cell(row, i + 1)), numerator)));
+            sum = plain::add(sum, cell(row, i + 1));
+        }
+        if row == 0 {
+            must_vanish.push((n, cell(0, 0)));
+        }
+        if row < last {
+            must_vanish.push((n + 1, plain::sub(cell(row + 1, 0), sum)));
+        } else {
+            must_vanish.push((n + 2, plain::sub(terminal, sum)));
+        }
+        if let Some((place, _)) = must_vanish.iter().find(|(_, value)| *value != [0; 4]) {
+            return with_details(17, [row, *place, 0]);
+        }
+    }
+    ACCEPTED
+}
+
+/// Refusals 1 to 5 of the doors that take a table's widths, public values, nodes and lookups, but no traces.
+fn plan_refusal(t: &Table) -> u32 {
+    first_refused(&[
+        (1, &|| plan_sizes_fit(t)),
+        (2, &|| constants_below(t)),
+        (3, &|| nodes_known(t)),
+        (4, &|| degrees_low(t)),
+        (5, &|| lookups_agree(t)),
+    ])
+}
+
+fn lookup_degree(lookup: &Lookup, degrees: &[u64]) -> u64 {
+    let of = |node: &u32| degrees[*node as usize];
+    let combined: Vec<u64> = lookup.tuples.iter().map(|tuple| tuple.iter().map(of).max().unwrap_or(0)).collect();
+    let multiplicities: Vec<u64> = lookup.multiplicities.iter().map(of).collect();
+    let (denominator, numerators): (u64, Vec<u64>) = if lookup.exclusive {
+        let flags: Vec<u64> = lookup.flags.iter().map(of).collect();
+        (
+            flags.iter().zip(&combined).map(|(f, d)| f + d).max().unwrap_or(0),
+            flags.iter().zip(&multiplicities).map(|(f, m)| f + m).collect(),
+        )
+    } else {
+        let all: u64 = combined.iter().sum();
+        (all, multiplicities.iter().zip(&combined).map(|(m, d)| m + (all - d)).collect())
+    };
+    numerators.into_iter().fold(1 + denominator, u64::max)
+}
+
+pub fn degree(t: &Table, lookup: u64, transition: u64) -> (Answer, u64) {
+    let number = if 1 < transition || t.lookup_count() as u64 <= lookup { 1 } else { plan_refusal(t) };
+    if number != 0 {
+        return (refused(number), 0);
+    }
+    (ACCEPTED, lookup_degree(&t.records()[lookup as usize], &degrees(t, transition)))
+}
+
+/// The different buses of a list, by first appearance.
+fn buses<'a>(records: impl Iterator<Item = &'a Lookup>) -> Vec<&'a [u8]> {
+    let mut buses: Vec<&[u8]> = vec![];
+    for name in records.filter_map(|r| r.bus.as_deref()) {
+        if !buses.contains(&name) {
+            buses.push(name);
+        }
+    }
+    buses
+}
+
+/// Refusal 6 over a table: each bus, then its tuples. `seen` holds the widths of buses in tables before it.
+fn widths_differ(records: &[Lookup], seen: &mut Vec<(Vec<u8>, usize)>) -> Option<Answer> {
+    for bus in buses(records.iter()) {
+        for (i, record) in records.iter().enumerate().filter(|(_, r)| r.bus.as_deref() == Some(bus)) {
+            for actual in record.tuples.iter().map(Vec::len) {
+                match seen.iter().find(|(name, _)| name == bus) {
+                    None => seen.push((bus.to_vec(), actual)),
+                    Some((_, expected)) if *expected != actual => return Some(with_details(6, [i, *expected, actual])),
+                    Some(_) => (),
+                }
+            }
+        }
+    }
+    None
+}
+
+pub fn pack(t: &Table, limit: u64) -> (Answer, Vec<Lookup>) {
+    let number = plan_refusal(t);
+    if number != 0 {
+        return (refused(number), vec![]);
+    }
+    let records = t.records();
+    if let Some(answer) = widths_differ(&records, &mut vec![]) {
+        return (answer, vec![]);
+    }
+    let degrees = degrees(t, 0);
+    let additive = |r: &&Lookup| r.bus.is_some() && !r.exclusive;
+    let mut columns: Vec<Lookup> = records.iter().filter(|r| !additive(r)).cloned().collect();
+    for bus in buses(records.iter().filter(additive)) {
+        let first = columns.len();
+        for member in records.iter().filter(additive).filter(|r| r.bus.as_deref() == Some(bus)) {
+            let merged = columns.get(first..).and_then(<[Lookup]>::last).map(|open| Lookup {
+                tuples: [&open.tuples[..], &member.tuples].concat(),
+                multiplicities: [&open.multiplicities[..], &member.multiplicities].concat(),
+                ..open.clone()
+            });
+            match merged.filter(|merged| lookup_degree(merged, &degrees) <= limit) {
+                Some(merged) => {
+                    let Some(weight) = merged.weight.checked_add(member.weight) else {
+                        return (refused(7), vec![]);
+                    };
+                    *columns.last_mut().unwrap() = Lookup { weight, ..merged };
+                }
+                None => columns.push(member.clone()),
+            }
+        }
+    }
+    for (i, column) in columns.iter_mut().enumerate() {
+        column.column = i as u32;
+    }
+    (ACCEPTED, columns)
+}
+
+/// Building, over nodes that are there.
+pub fn build(interactions: &[Interaction]) -> (Answer, Vec<Lookup>) {
+    let locals = interactions.iter().filter(|i| matches!(i, Interaction::Local(_)));
+    let globals = interactions.iter().filter(|i| matches!(i, Interaction::Global(..)));
+    let exclusives = interactions.iter().filter(|i| matches!(i, Interaction::Exclusive(..)));
+    let mut built = vec![];
+    for (column, interaction) in locals.chain(globals).chain(exclusives).enumerate() {
+        let (bus, flags, parts): (Option<&Vec<u8>>, Vec<u32>, Vec<&Part>) = match interaction {
+            Interaction::Local(parts) => (None, vec![], parts.iter().collect()),
+            Interaction::Global(bus, part) => (Some(bus), vec![], vec![part]),
+            Interaction::Exclusive(bus, branches) => {
+                (Some(bus), branches.iter().map(|(f, _)| *f).collect(), branches.iter().map(|(_, part)| part).collect())
+            }
+        };
+        let weights = parts.iter().map(|part| u64::from(part.weight));
+        let exclusive = matches!(interaction, Interaction::Exclusive(..));
+        let weight = if exclusive { weights.max().unwrap_or(0) } else { weights.sum() };
+        if let (None, Some(first)) = (bus, parts.first()) {
+            let expected = first.elements.len();
+            if let Some(other) = parts.iter().find(|part| part.elements.len() != expected) {
+                return (with_details(6, [column, expected, other.elements.len()]), vec![]);
+            }
+        }
+        built.push(Lookup {
+            bus: bus.cloned(),
+            weight: weight.min(u32::MAX.into()) as u32,
+            column: column as u32,
+            exclusive,
+            tuples: parts.iter().map(|part| part.elements.clone()).collect(),
+            multiplicities: parts.iter().map(|part| part.multiplicity).collect(),
+            flags,
+        });
+    }
+    (ACCEPTED, built)
+}
+
+/// The word of a count's constant node, and its weight.
+pub fn count_of(n: i32) -> (u32, u32) {
+    let p = i64::from(P);
+    (((i64::from(n) % p + p) % p) as u32, n.unsigned_abs())
+}
+
+/// The widest bus tuple. Only the lookups of the tables are read.
+pub fn widths(tables: &[Table]) -> (Answer, u64) {
+    let number = first_refused(&[
+        (1, &|| tables.len() <= TABLES && tables.iter().all(lookup_sizes_fit)),
+        (5, &|| tables.iter().all(list_lengths_agree)),
+    ]);
+    if number != 0 {
+        return (refused(number), 0);
+    }
+    let mut seen = vec![];
+    for t in tables {
+        if let Some(answer) = widths_differ(&t.records(), &mut seen) {
+            return (answer, 0);
+        }
+    }
+    (ACCEPTED, seen.iter().map(|(_, width)| *width as u64).max().unwrap_or(0))
+}
+
+pub fn height_bound(tables: &[Table], heights: &[u64]) -> Answer {
+    let number = first_refused(&[
+        (1, &|| {
+            tables.len() <= TABLES
+                && heights.len() == tables.len()
+                && heights.iter().all(|h| *h <= HEIGHT)
+                && tables.iter().all(lookup_sizes_fit)
+        }),
+        (5, &|| tables.iter().all(list_lengths_agree)),
+    ]);
+    if number != 0 {
+        return refused(number);
+    }
+    let weight = |t: &Table| t.entries().iter().map(|e| u64::from(e.weight)).sum::<u64>();
+    let sum: u64 = tables.iter().zip(heights).map(|(t, h)| weight(t) * h).sum();
+    if sum < u64::from(P) { ACCEPTED } else { Answer { number: 19, details: [sum, 0, 0] } }
+}
+
+pub fn terminals(terminals: &[Option<Ext>]) -> Answer {
+    if TABLES < terminals.len() {
+        return refused(1);
+    }
+    let present = || terminals.iter().flatten();
+    if !present().all(|t| words_below(t)) {
+        return refused(2);
+    }
+    if present().copied().fold([0; 4], plain::add) == [0; 4] { ACCEPTED } else { refused(20) }
+}
+
+pub fn prefixes(alpha: Ext, beta: Ext, width: u64, count: u64) -> (Answer, Vec<Ext>) {
+    let number = first_refused(&[
+        (1, &|| width <= PREFIX_WIDTH && count <= PREFIXES),
+        (2, &|| words_below(&alpha) && words_below(&beta)),
+        (12, &|| width != 0),
+    ]);
+    if number != 0 {
+        return (refused(number), vec![]);
+    }
+    let gamma = plain::power(beta, width as u32);
+    (ACCEPTED, (1..=count).map(|i| plain::add(alpha, plain::scale(i as u32, gamma))).collect())
+}
+
+// Balance.
+
+pub const SLOT_WORDS: usize = 10;
+
+/// A group's lookups as (table, lookup): each local alone, then each bus over all tables by first appearance.
+pub fn groups(tables: &[Table]) -> Vec<Vec<(usize, usize)>> {
+    let records: Vec<Vec<Lookup>> = tables.iter().map(Table::records).collect();
+    let places = || (0..tables.len()).flat_map(|t| (0..records[t].len()).map(move |i| (t, i)));
+    let locals = places().filter(|(t, i)| records[*t][*i].bus.is_none()).map(|place| vec![place]);
+    let names = buses(records.iter().flatten());
+    let on_bus = names.iter().map(|name| places().filter(|(t, i)| records[*t][*i].bus.as_deref() == Some(name)).collect());
+    locals.chain(on_bus).collect()
+}
+
+/// Whether a tuple comes before another by the decimal texts of its words.
+fn before(a: &[u32], b: &[u32]) -> bool {
+    let texts = |tuple: &[u32]| tuple.iter().map(u32::to_string).collect::<Vec<_>>();
+    texts(a) < texts(b)
+}
+
+pub fn balance(tables: &[Table], workspace: &mut [u32]) -> Answer {
+    let number = first_refused(&[
+        (1, &|| tables.len() <= TABLES && tables.iter().all(sizes_fit)),
+        (2, &|| tables.iter().all(|t| traces_below(t) && constants_below(t))),
+        (3, &|| tables.iter().all(nodes_known)),
+        (4, &|| tables.iter().all(degrees_low)),
+        (5, &|| tables.iter().all(lookups_agree)),
+        (9, &|| tables.iter().all(preprocessed_enough)),
+    ]);
+    if number != 0 {
+        return refused(number);
+    }
+    let records: Vec<Vec<Lookup>> = tables.iter().map(Table::records).collect();
+    workspace.fill(0);
+    for (group, places) in groups(tables).into_iter().enumerate() {
+        let mut nets: Vec<(Vec<u32>, u32)> = vec![];
+        for (t, i) in places {
+            for row in 0..tables[t].height as usize {
+                let values = node_values(&tables[t], row);
+                let place = Place { lookup: &records[t][i], values: &values, alpha: [0; 4], beta: [0; 4] };
+                for k in place.branches() {
+                    let flag = if place.lookup.exclusive { place.flag(k) } else { 1 };
+                    let count = plain::mul_word(place.multiplicity(k), flag);
+                    let tuple = place.tuple(k);
+                    if count == 0 {
+                        continue;
+                    }
+                    match nets.iter_mut().find(|(seen, _)| *seen == tuple) {
+                        Some((_, net)) => *net = plain::add_word(*net, count),
+                        None => nets.push((tuple, count)),
+                    }
+                }
+            }
+        }
+        workspace.fill(0);
+        if workspace.len() / SLOT_WORDS < nets.len() {
+            return refused(16);
+        }
+        for (slot, (tuple, net)) in workspace.chunks_exact_mut(SLOT_WORDS).zip(&nets) {
+            slot[0] = tuple.len() as u32;
+            slot[1..=tuple.len()].copy_from_slice(tuple);
+            slot[9] = *net;
+        }
+        let unbalanced = nets.iter().enumerate().filter(|(_, (_, net))| *net != 0);
+        let first = unbalanced.reduce(|least, other| if before(&other.1.0, &least.1.0) { other } else { least });
+        if let Some((slot, (_, net))) = first {
+            return with_details(18, [group, slot, *net as usize]);
+        }
+    }
+    ACCEPTED
+}

@@ -1,0 +1,426 @@
+//! The oracle: p3-lookup's own source, run on a table. A panic comes back as its message.
+use std::cell::Cell;
+use std::panic::{self, AssertUnwindSafe};
+use std::sync::Once;
+
+use p3_air::{Air, AirBuilder, ExtensionBuilder, PermutationAirBuilder, RowWindow, SymbolicExpression};
+use p3_baby_bear::{BabyBear, Quartic};
+use p3_field::PrimeCharacteristicRing;
+use p3_lookup::builder::InteractionBuilder;
+use p3_lookup::challenges::Challenges;
+use p3_lookup::count::Count;
+use p3_lookup::debug_util::{LookupDebugInstance, check_lookups};
+use p3_lookup::logup::LogUpGadget;
+use p3_lookup::protocol::LookupProtocol;
+use p3_lookup::symbolic::InteractionSymbolicBuilder;
+use p3_lookup::types::{self, Kind, LookupError, LookupTerminal, Lookups};
+use p3_matrix::dense::RowMajorMatrix;
+use serde::Transparent;
+
+use crate::model;
+use crate::plain::Ext;
+use crate::table::{Interaction, Lookup, Part, Table};
+
+type Expression = SymbolicExpression<BabyBear>;
+
+/// What the crate answers, or the message of its panic.
+pub type Run<T> = Result<T, String>;
+
+thread_local! {
+    static CATCHING: Cell<bool> = const { Cell::new(false) };
+}
+
+/// Runs the crate; a panic is caught without a message on the screen.
+fn caught<T>(run: impl FnOnce() -> T) -> Run<T> {
+    static HOOK: Once = Once::new();
+    HOOK.call_once(|| {
+        let usual = panic::take_hook();
+        panic::set_hook(Box::new(move |info| {
+            if !CATCHING.get() {
+                usual(info);
+            }
+        }));
+    });
+    CATCHING.set(true);
+    let result = panic::catch_unwind(AssertUnwindSafe(run));
+    CATCHING.set(false);
+    result.map_err(|payload| match payload.downcast::<String>() {
+        Ok(message) => *message,
+        Err(payload) => payload.downcast::<&str>().map_or_else(|_| "a panic".into(), |message| message.to_string()),
+    })
+}
+
+/// Whether the crate can be given this table: the lists fit, each word is an element, each node and each list has a meaning. Limits aside.
+pub fn takes(t: &Table) -> bool {
+    t.fits() && model::traces_below(t) && model::constants_below(t) && model::nodes_known(t) && model::lookups_agree(t) && trees_small(t)
+}
+
+/// The crate's expressions are trees; a table of nodes can stand for one that is too large to walk.
+fn trees_small(t: &Table) -> bool {
+    let mut sizes: Vec<u64> = vec![];
+    for i in 0..t.node_count() {
+        let [kind, a, b] = t.node(i);
+        let of = |n: u32| sizes[n as usize];
+        let size = match kind {
+            9..=11 => of(a).saturating_add(of(b)).saturating_add(1),
+            12 => of(a).saturating_add(1),
+            _ => 1,
+        };
+        sizes.push(size);
+    }
+    sizes.iter().all(|size| *size <= 5_000)
+}
+
+// Translation.
+
+fn element(words: &[u32]) -> Quartic {
+    Quartic(std::array::from_fn(|i| BabyBear::new(words[i])))
+}
+
+fn elements(words: &[u32]) -> Vec<Quartic> {
+    words.chunks_exact(4).map(element).collect()
+}
+
+fn words(element: Quartic) -> Ext {
+    element.0.map(BabyBear::word)
+}
+
+fn field(words: &[u32]) -> Vec<BabyBear> {
+    words.iter().map(|w| BabyBear::new(*w)).collect()
+}
+
+/// The expression of each node.
+fn expressions(t: &Table) -> Vec<Expression> {
+    let mut made: Vec<Expression> = vec![];
+    for i in 0..t.node_count() {
+        let [kind, a, b] = t.node(i);
+        let of = |n: u32| made[n as usize].clone();
+        let column = a as usize;
+        let expression = match kind {
+            0 => Expression::constant(BabyBear::new(a)),
+            1 | 2 => Expression::main(kind == 2, column),
+            3 | 4 => Expression::preprocessed(kind == 4, column),
+            5 => Expression::public_value(column),
+            6 => Expression::first_row(),
+            7 => Expression::last_row(),
+            8 => Expression::transition(),
+            9 => of(a) + of(b),
+            10 => of(a) - of(b),
+            11 => of(a) * of(b),
+            _ => -of(a),
+        };
+        made.push(expression);
+    }
+    made
+}
+
+/// A bus name need not be a text: each byte becomes the character of its number.
+fn bus_name(bytes: &[u8]) -> String {
+    bytes.iter().map(|b| char::from(*b)).collect()
+}
+
+fn lookups(t: &Table, nodes: &[Expression]) -> Vec<types::Lookup<BabyBear>> {
+    let listed = |numbers: &[u32]| -> Vec<Expression> { numbers.iter().map(|n| nodes[*n as usize].clone()).collect() };
+    let lookup = |r: &Lookup| types::Lookup {
+        kind: r.bus.as_deref().map_or(Kind::Local, |name| Kind::Global(bus_name(name))),
+        elements: r.tuples.iter().map(|tuple| listed(tuple)).collect(),
+        multiplicities: listed(&r.multiplicities),
+        count_weight: r.weight,
+        column: r.column as usize,
+        flags: r.exclusive.then(|| listed(&r.flags)),
+    };
+    t.records().iter().map(lookup).collect()
+}
+
+/// Back again: an expression is the node that it was made from.
+fn records(lookups: &[types::Lookup<BabyBear>], nodes: &[Expression]) -> Vec<Lookup> {
+    let number = |e: &Expression| nodes.iter().position(|node| node.is(e)).expect("an expression of the table") as u32;
+    let numbers = |list: &[Expression]| -> Vec<u32> { list.iter().map(number).collect() };
+    let record = |l: &types::Lookup<BabyBear>| Lookup {
+        bus: match &l.kind {
+            Kind::Local => None,
+            Kind::Global(name) => Some(name.chars().map(|c| c as u8).collect()),
+        },
+        weight: l.count_weight,
+        column: l.column as u32,
+        exclusive: l.flags.is_some(),
+        tuples: l.elements.iter().map(|tuple| numbers(tuple)).collect(),
+        multiplicities: numbers(&l.multiplicities),
+        flags: l.flags.as_deref().map(numbers).unwrap_or_default(),
+    };
+    lookups.iter().map(record).collect()
+}
+
+fn wrapped(t: &Table, nodes: &[Expression]) -> Lookups<BabyBear> {
+    Lookups::wrap(lookups(t, nodes))
+}
+
+fn all_wrapped(tables: &[Table]) -> Vec<Lookups<BabyBear>> {
+    tables.iter().map(|t| wrapped(t, &expressions(t))).collect()
+}
+
+/// A table's traces and public values in the crate's types.
+struct Traces {
+    main: RowMajorMatrix<BabyBear>,
+    preprocessed: Option<RowMajorMatrix<BabyBear>>,
+    public_values: Vec<BabyBear>,
+}
+
+fn traces(t: &Table) -> Traces {
+    let matrix = |words: &[u32], width: u64| RowMajorMatrix::new(field(words), width as usize);
+    Traces {
+        main: matrix(&t.main, t.main_width),
+        preprocessed: (0 < t.pre_width).then(|| matrix(&t.preprocessed, t.pre_width)),
+        public_values: field(&t.public_values),
+    }
+}
+
+// The doors.
+
+/// `generate_permutation`: the trace's words and the terminal.
+pub fn generate(t: &Table, challenges: &[u32]) -> Run<(Vec<u32>, Option<Ext>)> {
+    let (traces, lookups, challenges) = (traces(t), lookups(t, &expressions(t)), elements(challenges));
+    caught(|| {
+        let Traces { main, preprocessed, public_values } = &traces;
+        let (trace, terminal) = LogUpGadget::new().generate_permutation(main, preprocessed, public_values, &lookups, &challenges);
+        (trace.values.into_iter().flat_map(words).collect(), terminal.map(|LookupTerminal(e)| words(e)))
+    })
+}
+
+/// A concrete row: each asserted value is kept.
+struct RowBuilder<'a> {
+    main: RowWindow<'a, BabyBear>,
+    preprocessed: RowWindow<'a, BabyBear>,
+    permutation: RowWindow<'a, Quartic>,
+    public_values: &'a [BabyBear],
+    challenges: &'a [Quartic],
+    terminal: &'a [Quartic],
+    row: usize,
+    height: usize,
+    asserted: Vec<Quartic>,
+}
+
+impl<'a> AirBuilder for RowBuilder<'a> {
+    type F = BabyBear;
+    type Expr = BabyBear;
+    type Var = BabyBear;
+    type PreprocessedWindow = RowWindow<'a, BabyBear>;
+    type MainWindow = RowWindow<'a, BabyBear>;
+    type PublicVar = BabyBear;
+    type PeriodicVar = BabyBear;
+
+    fn main(&self) -> Self::MainWindow {
+        self.main
+    }
+
+    fn preprocessed(&self) -> &Self::PreprocessedWindow {
+        &self.preprocessed
+    }
+
+    fn is_first_row(&self) -> BabyBear {
+        BabyBear::from_bool(self.row == 0)
+    }
+
+    fn is_last_row(&self) -> BabyBear {
+        BabyBear::from_bool(self.row + 1 == self.height)
+    }
+
+    fn is_transition(&self) -> BabyBear {
+        BabyBear::from_bool(self.row + 1 < self.height)
+    }
+
+    fn assert_zero<I: Into<BabyBear>>(&mut self, x: I) {
+        self.asserted.push(x.into().into());
+    }
+
+    fn public_values(&self) -> &[BabyBear] {
+        self.public_values
+    }
+}
+
+impl ExtensionBuilder for RowBuilder<'_> {
+    type EF = Quartic;
+    type ExprEF = Quartic;
+    type VarEF = Quartic;
+
+    fn assert_zero_ext<I: Into<Quartic>>(&mut self, x: I) {
+        self.asserted.push(x.into());
+    }
+}
+
+impl<'a> PermutationAirBuilder for RowBuilder<'a> {
+    type MP = RowWindow<'a, Quartic>;
+    type RandomVar = Quartic;
+    type PermutationVar = Quartic;
+
+    fn permutation(&self) -> Self::MP {
+        self.permutation
+    }
+
+    fn permutation_randomness(&self) -> &[Quartic] {
+        self.challenges
+    }
+
+    fn permutation_values(&self) -> &[Quartic] {
+        self.terminal
+    }
+}
+
+/// `eval_all` on every row: the first row and place whose value is not zero. Without rows it runs once, on empty ones.
+pub fn constraints(t: &Table, challenges: &[u32], width: u64, trace: &[u32], terminal: Option<Ext>) -> Run<Option<(usize, usize)>> {
+    let (traces, lookups, challenges) = (traces(t), lookups(t, &expressions(t)), elements(challenges));
+    let (trace, terminal): (Vec<Quartic>, Vec<Quartic>) = (elements(trace), terminal.iter().map(|e| element(e)).collect());
+    let height = t.height as usize;
+    let preprocessed = traces.preprocessed.as_ref().map_or(&[][..], |m| &m.values);
+    caught(|| {
+        for row in 0..height.max(1) {
+            let next = (row + 1) % height.max(1);
+            let mut builder = RowBuilder {
+                main: window(&traces.main.values, t.main_width, row, next),
+                preprocessed: window(preprocessed, t.pre_width, row, next),
+                permutation: window(&trace, width, row, next),
+                public_values: &traces.public_values,
+                challenges: &challenges,
+                terminal: &terminal,
+                row,
+                height,
+                asserted: vec![],
+            };
+            LogUpGadget::new().eval_all(&mut builder, &lookups);
+            if let Some(place) = builder.asserted.iter().position(|value| *value != Quartic::ZERO) {
+                return Some((row, place));
+            }
+        }
+        None
+    })
+}
+
+/// Two rows of a matrix; a row that is not there is empty.
+fn window<T>(values: &[T], width: u64, row: usize, next: usize) -> RowWindow<'_, T> {
+    let width = width as usize;
+    let part = |row: usize| values.get(row * width..(row + 1) * width).unwrap_or(&[]);
+    RowWindow::from_two_rows(part(row), part(next))
+}
+
+pub fn degree(t: &Table, lookup: usize, transition: usize) -> Run<u64> {
+    let lookups = lookups(t, &expressions(t));
+    caught(|| LogUpGadget::new().constraint_degree_with_transition(&lookups[lookup], transition) as u64)
+}
+
+pub fn pack(t: &Table, limit: u64) -> Run<Vec<Lookup>> {
+    let nodes = expressions(t);
+    let lookups = wrapped(t, &nodes);
+    caught(|| records(&lookups.pack_same_bus(&LogUpGadget::new(), usize::try_from(limit).unwrap_or(usize::MAX)), &nodes))
+}
+
+/// The widest bus tuple, or the two widths that differ.
+pub fn widths(tables: &[Table]) -> Run<Result<u64, (u64, u64)>> {
+    let lookups = all_wrapped(tables);
+    caught(|| match types::check_bus_widths(&lookups) {
+        Ok(widest) => Ok(widest as u64),
+        Err(LookupError::BusWidthMismatch { expected, actual, .. }) => Err((expected as u64, actual as u64)),
+        Err(other) => panic!("{other}"),
+    })
+}
+
+/// Accepted, or the sum that is too large.
+pub fn height_bound(tables: &[Table], heights: &[u64]) -> Run<Result<(), u128>> {
+    let lookups = all_wrapped(tables);
+    let heights: Vec<usize> = heights.iter().map(|h| *h as usize).collect();
+    caught(|| match types::check_multiplicity_height_bound(&lookups, &heights) {
+        Ok(()) => Ok(()),
+        Err(LookupError::MultiplicityHeightBoundExceeded { weighted_height_sum, .. }) => Err(weighted_height_sum.0),
+        Err(other) => panic!("{other}"),
+    })
+}
+
+/// Whether the sum of the terminals is zero.
+pub fn terminals(terminals: &[Option<Ext>]) -> Run<bool> {
+    let terminals: Vec<_> = terminals.iter().map(|t| t.map(|e| LookupTerminal(element(&e)))).collect();
+    caught(|| LogUpGadget::new().verify_terminal_sum(&terminals).is_ok())
+}
+
+pub fn prefixes(alpha: Ext, beta: Ext, width: u64, count: u64) -> Run<Vec<Ext>> {
+    let (alpha, beta) = (element(&alpha), element(&beta));
+    caught(|| Challenges::new(alpha, beta, width as usize, count as usize).bus_prefix.iter().map(|e| words(*e)).collect())
+}
+
+/// An AIR that says just these interactions.
+struct Spoken<'a> {
+    interactions: &'a [Interaction],
+    nodes: &'a [Expression],
+}
+
+impl Spoken<'_> {
+    fn node(&self, n: u32) -> Expression {
+        self.nodes[n as usize].clone()
+    }
+
+    fn fields(&self, part: &Part) -> Vec<Expression> {
+        part.elements.iter().map(|n| self.node(*n)).collect()
+    }
+
+    fn count(&self, part: &Part) -> Count<Expression> {
+        Count::bounded(self.node(part.multiplicity), part.weight)
+    }
+}
+
+impl Air<InteractionSymbolicBuilder<BabyBear, Quartic>> for Spoken<'_> {
+    fn eval(&self, builder: &mut InteractionSymbolicBuilder<BabyBear, Quartic>) {
+        for interaction in self.interactions {
+            match interaction {
+                Interaction::Local(parts) => builder.push_local_interaction(parts.iter().map(|p| (self.fields(p), self.count(p)))),
+                Interaction::Global(bus, part) => builder.push_interaction(&bus_name(bus), self.fields(part), self.count(part)),
+                Interaction::Exclusive(bus, branches) => {
+                    let branch = |(flag, part): &(u32, Part)| (self.node(*flag), self.count(part), self.fields(part));
+                    builder.push_exclusive_interaction(&bus_name(bus), branches.iter().map(branch));
+                }
+            }
+        }
+    }
+}
+
+/// `from_interactions`, reached through `from_air`.
+pub fn build(t: &Table, interactions: &[Interaction]) -> Run<Vec<Lookup>> {
+    let nodes = expressions(t);
+    let air = Spoken { interactions, nodes: &nodes };
+    caught(|| records(&Lookups::from_air::<Quartic, _>(&air), &nodes))
+}
+
+/// `Count` from a number: its constant's word and its weight; then the same of its negation, which must negate just that constant.
+pub fn count_of(n: i32) -> Run<(u32, u32)> {
+    caught(|| {
+        let (expression, weight) = Count::<Expression>::from(n).into_parts();
+        let (negated, same) = (-Count::bounded(expression.clone(), weight)).into_parts();
+        assert!(negated.as_negation().is_some_and(|e| e.is(&expression)) && same == weight);
+        (expression.as_constant().expect("a constant").word(), weight)
+    })
+}
+
+/// `check_lookups`: its panic's message where something is not balanced.
+pub fn balance(tables: &[Table]) -> Run<()> {
+    let traces: Vec<Traces> = tables.iter().map(traces).collect();
+    let lookups: Vec<_> = tables.iter().map(|t| lookups(t, &expressions(t))).collect();
+    let instance = |(t, lookups)| {
+        let t: &Traces = t;
+        let lookups: &Vec<_> = lookups;
+        LookupDebugInstance {
+            main_trace: &t.main,
+            preprocessed_trace: &t.preprocessed,
+            public_values: &t.public_values,
+            lookups,
+            permutation_challenges: &[],
+        }
+    };
+    let instances: Vec<_> = traces.iter().zip(&lookups).map(instance).collect();
+    caught(|| check_lookups(&instances))
+}
+
+/// How the crate names a group in the message of a panic.
+pub fn group_label(tables: &[Table], group: &[(usize, usize)]) -> String {
+    let (table, lookup) = group[0];
+    match &tables[table].records()[lookup].bus {
+        None => format!("instance {table} local lookup {lookup}"),
+        Some(name) => format!("global lookup '{}'", bus_name(name)),
+    }
+}

@@ -1,0 +1,2 @@
+//! Stand-in for `thiserror`: an error prints as its fields.
+pub use macros::Error;
