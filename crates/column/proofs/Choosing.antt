@@ -9,7 +9,7 @@ use native.Mathlib.Omega.{arith}
 use lib.Dec.{eqb, ltb}
 use lib.ListN.{length, take, drop}
 use Rattle.lists.specs.Count.{some-of, total}
-use Rattle.lists.specs.laws.Count.{eqb-true, eqb-false}
+use Rattle.lists.specs.laws.Count.{total-le}
 use Rattle.field.specs.declared.extension.Ext.{Ext}
 use Rattle.field.specs.Ext.{ws}
 use Rattle.field.specs.Element.{Word4, zero4, is-zero}
@@ -20,7 +20,7 @@ use Rattle.logup.specs.Tuple.{tuple, denominator, quotient4}
 use Rattle.logup.specs.Column.{Place, branches, multiplicity, flag, denom, used-denom, chosen, branch-fraction, branch-fault, additive-fraction, additive-fault, exclusive-fraction, exclusive-fault, fraction, fault}
 use Rattle.column.specs.Own.{own-place, Fits, faults, branch-code}
 use Rattle.column.specs.laws.Powers.{word-zero}
-use Rattle.column.specs.laws.Own.{total-le, start-next, own-multiplicity, own-flag}
+use Rattle.column.specs.laws.Own.{start-next, own-multiplicity, own-flag}
 use Rattle.column.proofs.Adding.{denom-is}
 
 -- the first k flags
@@ -153,6 +153,14 @@ one-chosen p w k c s h (wv, ev, ez) e =
     let q : chosen (flag c) (branches c) ≡ some k = code-some _ k (sym (s .chosen≡) ∙ h) in
     (wv, ev ∙ rw q, e ∙ rw (s .over≡, s .ones≡, q, ez))
 
+not-true : (b : Bool) → not b ≡ true → b ≡ false
+not-true true e = sym e
+not-true false e = refl
+
+not-false : (b : Bool) → not b ≡ false → b ≡ true
+not-false true e = refl
+not-false false e = sym e
+
 -- an additive lookup reads no flag
 additive-same : (p w : ℕ) (own widths mults flags nodes vals alpha beta : List ℕ)
     → additive-fraction p w (own-place own widths mults [] nodes vals alpha beta) ≡ additive-fraction p w (own-place own widths mults flags nodes vals alpha beta)
@@ -164,21 +172,24 @@ fault-same : (p w : ℕ) (own widths mults flags nodes vals alpha beta : List �
 unfolding additive-fault branches multiplicity used-denom denom tuple tuple-nodes tuple-width tuple-start multiplicity-node multiplicity-start total element-start
 fault-same p w own widths mults flags nodes vals alpha beta = refl
 
-pub is-additive : {v : List ℕ} {f : ℕ} (p w : ℕ) (own widths mults flags nodes vals alpha beta : List ℕ) → word own 4 ≡ 0
+pub is-additive : {v : List ℕ} {f : ℕ} {b : Bool} (p w : ℕ) (own widths mults flags nodes vals alpha beta : List ℕ) → b ≡ exclusive own 0 → not b ≡ true
     → Word4 p v × (v ≡ additive-fraction p w (own-place own widths mults [] nodes vals alpha beta)) × (f ≡ additive-fault p w (own-place own widths mults [] nodes vals alpha beta))
     → Word4 p v × (v ≡ fraction p w (own-place own widths mults flags nodes vals alpha beta)) × (f ≡ fault p w (own-place own widths mults flags nodes vals alpha beta))
 unfolding fraction fault
-is-additive p w own widths mults flags nodes vals alpha beta e (q, ev, ef) =
-    (q, ev ∙ additive-same p w own widths mults flags nodes vals alpha beta ∙ rw e, ef ∙ fault-same p w own widths mults flags nodes vals alpha beta ∙ rw e)
+is-additive {v} {f} {b} p w own widths mults flags nodes vals alpha beta eb t (q, ev, ef) =
+    (q, ev ∙ additive-same p w own widths mults flags nodes vals alpha beta ∙ rw no, ef ∙ fault-same p w own widths mults flags nodes vals alpha beta ∙ rw no)
+  where
+    no : exclusive own 0 ≡ false
+    no = sym eb ∙ not-true b t
 
-marked : (own : List ℕ) → (word own 4 ≡ 0 → ⊥) → exclusive own 0 ≡ true
-marked own n = rw (eqb-false n)
+pub flags-in : {b : Bool} (own flags : List ℕ) → b ≡ exclusive own 0 → not b ≡ false → length flags ≡ cond (exclusive own 0) (tuple-count own 0) 0 → tuple-count own 0 ≤ length flags
+flags-in {b} own flags eb t e = let q : length flags ≡ tuple-count own 0 = e ∙ ap (λ (x : Bool). cond x (tuple-count own 0) 0) (sym eb ∙ not-false b t) in omega arith
 
-pub flags-in : (own flags : List ℕ) → (word own 4 ≡ 0 → ⊥) → length flags ≡ cond (exclusive own 0) (tuple-count own 0) 0 → tuple-count own 0 ≤ length flags
-flags-in own flags n e = let q : length flags ≡ tuple-count own 0 = e ∙ ap (λ (b : Bool). cond b (tuple-count own 0) 0) (marked own n) in omega arith
-
-pub is-exclusive : {v : List ℕ} {f : ℕ} (p w : ℕ) (own widths mults flags nodes vals alpha beta : List ℕ) → (word own 4 ≡ 0 → ⊥)
+pub is-exclusive : {v : List ℕ} {f : ℕ} {b : Bool} (p w : ℕ) (own widths mults flags nodes vals alpha beta : List ℕ) → b ≡ exclusive own 0 → not b ≡ false
     → Word4 p v × (v ≡ exclusive-fraction p w (own-place own widths mults flags nodes vals alpha beta)) × (f ≡ exclusive-fault p w (own-place own widths mults flags nodes vals alpha beta))
     → Word4 p v × (v ≡ fraction p w (own-place own widths mults flags nodes vals alpha beta)) × (f ≡ fault p w (own-place own widths mults flags nodes vals alpha beta))
 unfolding fraction fault
-is-exclusive p w own widths mults flags nodes vals alpha beta n (q, ev, ef) = (q, ev ∙ rw (eqb-false n), ef ∙ rw (eqb-false n))
+is-exclusive {v} {f} {b} p w own widths mults flags nodes vals alpha beta eb t (q, ev, ef) = (q, ev ∙ rw yes, ef ∙ rw yes)
+  where
+    yes : exclusive own 0 ≡ true
+    yes = sym eb ∙ not-false b t

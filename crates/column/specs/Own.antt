@@ -4,20 +4,21 @@ use mathlib.Core.Path.{_≡_}
 use mathlib.Core.Bool.{Bool, cond}
 use mathlib.Core.Option.{Option, none, some}
 use mathlib.Core.List.{List, []}
-use Prim.Native.Nat.{ℕ, suc, _<_, _≤_}
+use Prim.Native.Nat.{ℕ, suc, _+_, _*_, _-_, _<_, _≤_}
 use lib.Dec.{eqb, ltb}
-use lib.ListN.{length}
+use lib.ListN.{length, take, drop}
 use Rattle.field.specs.Modulus.{Modulus, Certificate}
 use Rattle.field.specs.Element.{one4}
 use Rattle.expression.specs.Words.{word}
-use Rattle.lookup.specs.Lookups.{Lookups, tuple-count, element-start}
+use Rattle.expression.specs.Valid.{Below}
+use Rattle.lookup.specs.Lookups.{Lookups, lent-lookups, tuple-count, tuple-start, multiplicity-start, flag-start, element-start}
 use Rattle.logup.specs.Tuple.{denominator}
 use Rattle.logup.specs.Column.{Place}
 
 -- the lists that a fraction is read from: it reads no name
 abbrev pub lists : List ℕ → List ℕ → List ℕ → List ℕ → List ℕ → Lookups
 lists lookups tuples multiplicities flags elements =
-    record { lookups = lookups; names = []; tuples = tuples; multiplicities = multiplicities; flags = flags; elements = elements }
+    lent-lookups lookups [] tuples multiplicities flags elements
 
 -- the lookup with these parts, on a row with these values
 abbrev pub own-place : List ℕ → List ℕ → List ℕ → List ℕ → List ℕ → List ℕ → List ℕ → List ℕ → Place
@@ -29,7 +30,7 @@ pub record Able (p w : ℕ) (vals : List ℕ) : Type 0 where
   pub modulus : Modulus p
   pub low : w < p
   pub certificate : Certificate p w
-  pub below : (i : ℕ) → word vals i < p
+  pub below : Below p vals
 
 -- the parts, as they must be
 pub record Fits (own widths multiplicities nodes : List ℕ) : Type 0 where
@@ -51,3 +52,27 @@ branch-code (some k) = suc k
 -- 13, 14, 15 or 0
 abbrev pub faults : Bool → ℕ → Bool → ℕ
 faults over ones nil = cond over 13 (cond (ltb 1 ones) 14 (cond nil 15 0))
+
+-- the part of a list from a to e
+abbrev pub part : List ℕ → ℕ → ℕ → List ℕ
+part l a e = take (e - a) (drop a l)
+
+-- the own parts of lookup i of a table
+module _ (l : Lookups) (i : ℕ) where
+  abbrev pub own-words : List ℕ
+  own-words = part (l .lookups) (8 * i) (8 * i + 8)
+
+  abbrev pub own-widths : List ℕ
+  own-widths = part (l .tuples) (tuple-start (l .lookups) i) (tuple-start (l .lookups) (i + 1))
+
+  abbrev pub own-multiplicities : List ℕ
+  own-multiplicities = part (l .multiplicities) (multiplicity-start (l .lookups) i) (multiplicity-start (l .lookups) (i + 1))
+
+  abbrev pub own-flags : List ℕ
+  own-flags = part (l .flags) (flag-start (l .lookups) i) (flag-start (l .lookups) (i + 1))
+
+  abbrev pub own-nodes : List ℕ
+  own-nodes = part (l .elements) (element-start (l .tuples) (tuple-start (l .lookups) i)) (element-start (l .tuples) (tuple-start (l .lookups) (i + 1)))
+
+  abbrev pub parted : Lookups
+  parted = lists own-words own-widths own-multiplicities own-flags own-nodes

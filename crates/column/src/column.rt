@@ -17,8 +17,10 @@ ghost use Rattle.logup.specs.Column.{multiplicity, flag, chosen, denom, additiv
 ghost use Rattle.column.specs.Powers.{beta-of, Powers};
 ghost use Rattle.column.specs.Own.{own-place, Able, Fits, used-of, branch-code, faults};
 use crate::tuple;
+use expression::words::index;
 use field::extension;
 use field::extension::Ext;
+use lookup::types;
 
 // A quotient, and whether its denominator is 0.
 pub struct Share {
@@ -38,19 +40,20 @@ pub struct Flags {
     pub chosen: usize,
 }
 
-fn size(n: u32) -> usize
-    ensures { λ r. ⌜ (r ≡ n) × (r ≤ 4294967295) ⌝ }
-{
-    n as usize
-}
-
 // The word at i as a size.
 fn size_at(s: &[u32], i: usize) -> usize
     requires { ⌜ i < length (now s) ⌝ }
     ensures { λ r. ⌜ (r ≡ word (now (s .entry)) i) × (r ≤ 4294967295) ⌝ }
 {
-    let n = s[i];
-    size(n)
+    index(s[i])
+}
+
+// How many tuples a lookup has.
+fn count(own: &[u32]) -> usize
+    requires { ⌜ length (now own) ≡ 8 ⌝ }
+    ensures { λ r. ⌜ (r ≡ tuple-count (now (own .entry)) 0) × (r ≤ 4294967295) ⌝ }
+{
+    index(types::tuple_count(own, 0))
 }
 
 // m ÷ d, and 0 where d is 0.
@@ -143,7 +146,7 @@ pub fn additive(
         × (ws (r .value) ≡ additive-fraction p w (own-place (now (own .entry)) (now (widths .entry)) (now (multiplicities .entry)) [] (now (nodes .entry)) (now (vals .entry)) (ws alpha) (beta-of powers)))
         × (r .fault ≡ additive-fault p w (own-place (now (own .entry)) (now (widths .entry)) (now (multiplicities .entry)) [] (now (nodes .entry)) (now (vals .entry)) (ws alpha) (beta-of powers))) ⌝ }
 {
-    let n = size_at(own, 5);
+    let n = count(own);
     let mut at = 0;
     let mut sum = Ext {
         c0: 0,
@@ -274,7 +277,7 @@ pub fn exclusive(
         × (ws (r .value) ≡ exclusive-fraction p w (own-place (now (own .entry)) (now (widths .entry)) (now (multiplicities .entry)) (now (flags .entry)) (now (nodes .entry)) (now (vals .entry)) (ws alpha) (beta-of powers)))
         × (r .fault ≡ exclusive-fault p w (own-place (now (own .entry)) (now (widths .entry)) (now (multiplicities .entry)) (now (flags .entry)) (now (nodes .entry)) (now (vals .entry)) (ws alpha) (beta-of powers))) ⌝ }
 {
-    let n = size_at(own, 5);
+    let n = count(own);
     let f = read_flags(flags, vals, n);
     if f.chosen == 0 {
         return Fraction {
@@ -325,7 +328,7 @@ pub fn lookup(
         × (ws (r .value) ≡ fraction p w (own-place (now (own .entry)) (now (widths .entry)) (now (multiplicities .entry)) (now (flags .entry)) (now (nodes .entry)) (now (vals .entry)) (ws alpha) (beta-of powers)))
         × (r .fault ≡ fault p w (own-place (now (own .entry)) (now (widths .entry)) (now (multiplicities .entry)) (now (flags .entry)) (now (nodes .entry)) (now (vals .entry)) (ws alpha) (beta-of powers))) ⌝ }
 {
-    if own[4] == 0 {
+    if !types::exclusive(own, 0) {
         return additive(
             p,
             w,

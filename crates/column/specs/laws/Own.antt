@@ -7,20 +7,12 @@ use native.Mathlib.Numerals.{add-one}
 use native.Mathlib.Omega.{arith}
 use lib.ListN.{length, take, drop}
 use Rattle.lists.specs.Count.{total}
-use Rattle.lists.specs.laws.Count.{last-or-below}
+use Rattle.lists.specs.laws.Count.{total-le}
 use Rattle.expression.specs.Words.{word}
 use Rattle.lookup.specs.Lookups.{tuple-count, tuple-start, multiplicity-start, flag-start, element-start, tuple-width, multiplicity-node, flag-node, tuple-nodes}
 use Rattle.logup.specs.Tuple.{tuple}
 use Rattle.logup.specs.Column.{multiplicity, flag}
 use Rattle.column.specs.Own.{lists, own-place, Fits}
-
--- partial sums grow
-pub total-le : (f : ℕ → ℕ) (k n : ℕ) → k ≤ n → total f k ≤ total f n
-unfolding total
-total-le f k zero l = let e : k ≡ 0 = omega arith in rw e (omega arith)
-total-le f k (suc n) l =
-    last-or-below (λ (k : ℕ). total f k ≤ total f n + f n) (suc n) k (omega arith) (omega arith)
-    (λ j. omega (arith, total-le f k n (omega arith)))
 
 pub start-next : (widths : List ℕ) (k : ℕ) → element-start widths (k + 1) ≡ element-start widths k + word widths k
 unfolding element-start total

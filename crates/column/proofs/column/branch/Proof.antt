@@ -42,7 +42,7 @@ denominator-requires : tie.Need-denominator-requires
 denominator-requires c κs = (c .before .before .before .before .before .before .before .before .before .before .before .pre .0, c .before .before .before .before .before .before .before .before .before .before .before .pre .1, c .before .before .before .before .before .before .before .before .before .before .before .pre .2, nodes-few _ (c .before .before .before .before .before .before .before .before .before .before .before .pre .3) (c .before .before .before .before .before .before .before .before .before .before .before .pre .4) (c .before .before .before .before .start-of .ensures) (c .before .before .before .size-at .ensures .0))
 
 divided-requires : tie.Need-divided-requires
-divided-requires c κs = (c .before .before .before .before .before .before .before .before .before .before .before .before .pre .0 .modulus, c .before .before .before .before .before .before .before .before .before .before .before .before .pre .0 .low, c .before .before .before .before .before .before .before .before .before .before .before .before .pre .0 .certificate, subst (λ (n : ℕ). n < c .before .before .before .before .before .before .before .before .before .before .before .before .args .p) (sym (c .before .before .value .ensures)) (c .before .before .before .before .before .before .before .before .before .before .before .before .pre .0 .below _), c .denominator .ensures .0)
+divided-requires c κs = (c .before .before .before .before .before .before .before .before .before .before .before .before .pre .0 .modulus, c .before .before .before .before .before .before .before .before .before .before .before .before .pre .0 .low, c .before .before .before .before .before .before .before .before .before .before .before .before .pre .0 .certificate, subst (λ (n : ℕ). n < c .before .before .before .before .before .before .before .before .before .before .before .before .args .p) (sym (c .before .before .value .ensures)) (c .before .before .before .before .before .before .before .before .before .before .before .before .pre .0 .below .each _), c .denominator .ensures .0)
 
 returns : tie.Need-returns
 returns c = branch-is _ _ _ _ _ _ _ (c .before .before .before .before .before .before .before .before .before .before .before .before .before .pre .3) (c .before .before .before .before .before .before .start-of .ensures) (c .before .before .before .before .before .size-at .ensures .0) (c .before .before .before .value .ensures) (c .before .denominator .ensures .1) (c .divided .ensures)

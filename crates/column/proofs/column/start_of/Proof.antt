@@ -1,7 +1,6 @@
 use Rattle.column.proofs.Choosing.{seeking-in}
 use native.Mathlib.Omega.{arith}
 use Prim.Native.Nat.{_-_}
-use Rattle.column.specs.laws.Own.{total-le, start-next}
 use Rattle.column.proofs.Choosing.{Seeking, seeking-begins, seeking-turn, seeking-ends}
 use borrow.Author.Needs.{needs}
 use Rattle.column.proofs.column.start_of.Statement.{statement}

@@ -37,7 +37,7 @@ array-copy-out-power : tie.Need-array-copy-out-power Inv-loop μ-loop
 array-copy-out-power c = search needs
 
 scaled-requires : tie.Need-scaled-requires Inv-loop μ-loop
-scaled-requires c κs = (c .before .before .before .before .before .before .before .pre .0 .modulus, subst (λ (n : ℕ). n < c .before .before .before .before .before .before .before .args .p) (sym (c .before .value .ensures)) (c .before .before .before .before .before .before .before .pre .0 .below _), power-taken (c .before .before .before .before .loop .inv) (omega (arith, c .before .before .before .before .before .before .before .pre .0 .modulus .big)) (search needs))
+scaled-requires c κs = (c .before .before .before .before .before .before .before .pre .0 .modulus, subst (λ (n : ℕ). n < c .before .before .before .before .before .before .before .args .p) (sym (c .before .value .ensures)) (c .before .before .before .before .before .before .before .pre .0 .below .each _), power-taken (c .before .before .before .before .loop .inv) (omega (arith, c .before .before .before .before .before .before .before .pre .0 .modulus .big)) (search needs))
 
 add-requires : tie.Need-add-requires Inv-loop μ-loop
 add-requires c κs = search needs
