@@ -66,9 +66,12 @@ pub record Seeking (widths nodes : List ℕ) (k at j : ℕ) : Type 0 where
   pub last-in : element-start widths k ≤ length nodes
   pub at≡ : at ≡ element-start widths j
 
-pub seeking-begins : {widths nodes : List ℕ} {k : ℕ} → k ≤ length widths → element-start widths k ≤ length nodes → Seeking widths nodes k 0 0
+pub seeking-begins : {widths nodes : List ℕ} {k at j : ℕ} → j ≤ k → k ≤ length widths → element-start widths k ≤ length nodes → at ≡ element-start widths j → Seeking widths nodes k at j
+seeking-begins l h g e = record { within = l; enough = h; last-in = g; at≡ = e }
+
+pub start-zero : (widths : List ℕ) → 0 ≡ element-start widths 0
 unfolding element-start total
-seeking-begins h g = record { within = zero-le; enough = h; last-in = g; at≡ = refl }
+start-zero widths = refl
 
 pub seeking-turn : {widths nodes : List ℕ} {k at j r : ℕ} → Seeking widths nodes k at j → j < k → r ≡ word widths j → Seeking widths nodes k (at + r) (j + 1)
 seeking-turn {widths} {j = j} s h e = record { within = omega arith; enough = s .enough; last-in = s .last-in; at≡ = ap₂ _+_ (s .at≡) e ∙ sym (start-next widths j) }

@@ -206,14 +206,14 @@ fn read_flags(flags: &[u32], vals: &[u32], n: usize) -> Flags
     Flags { over, ones, chosen }
 }
 
-// Where the nodes of tuple k begin in the lookup's node list.
-fn start_of(widths: &[u32], nodes: &[u32], k: usize) -> usize
-    requires { ⌜ (k ≤ length (now widths)) × (element-start (now widths) k ≤ length (now nodes)) ⌝ }
-    ensures { λ r. ⌜ r ≡ element-start (now (widths .entry)) k ⌝ }
+// Where the nodes of tuple `to` begin, from where those of tuple `from` begin.
+pub fn start_of(widths: &[u32], nodes: &[u32], from: usize, start: usize, to: usize) -> usize
+    requires { ⌜ (from ≤ to) × (to ≤ length (now widths)) × (element-start (now widths) to ≤ length (now nodes)) × (start ≡ element-start (now widths) from) ⌝ }
+    ensures { λ r. ⌜ r ≡ element-start (now (widths .entry)) to ⌝ }
 {
-    let mut at = 0;
-    let mut j = 0;
-    while j < k {
+    let mut at = start;
+    let mut j = from;
+    while j < to {
         at = at + size_at(widths, j);
         j += 1;
     }
@@ -239,7 +239,7 @@ fn branch(
         × (ws (r .value) ≡ quotient4 p w (multiplicity (own-place (now (own .entry)) (now (widths .entry)) (now (multiplicities .entry)) (now (flags .entry)) (now (nodes .entry)) (now (vals .entry)) (ws alpha) (beta-of powers)) k) (denom p w (own-place (now (own .entry)) (now (widths .entry)) (now (multiplicities .entry)) (now (flags .entry)) (now (nodes .entry)) (now (vals .entry)) (ws alpha) (beta-of powers)) k))
         × (r .zero ≡ is-zero (denom p w (own-place (now (own .entry)) (now (widths .entry)) (now (multiplicities .entry)) (now (flags .entry)) (now (nodes .entry)) (now (vals .entry)) (ws alpha) (beta-of powers)) k)) ⌝ }
 {
-    let at = start_of(widths, nodes, k);
+    let at = start_of(widths, nodes, 0, 0, k);
     let end = at + size_at(widths, k);
     let m = tuple::value(vals, multiplicities[k]);
     let d = tuple::denominator(p, w, powers, alpha, vals, &nodes[at..end]);

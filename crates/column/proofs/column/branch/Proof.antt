@@ -1,3 +1,5 @@
+use Rattle.column.proofs.Choosing.{start-zero}
+use Prim.Native.Nat.{zero-le}
 use Prim.Native.Nat.{ℕ, _<_}
 use native.Mathlib.Omega.{arith}
 use mathlib.Core.Path.{sym, subst}
@@ -9,7 +11,7 @@ use Rattle.column.proofs.column.branch.Statement.{statement}
 use Rattle.column.proofs.column.branch.Tie as tie
 
 start-of-requires : tie.Need-start-of-requires
-start-of-requires c κs = (omega (arith, c .before .before .before .before .before .before .pre .3 .tuples, c .before .before .before .before .before .before .pre .4), start-in _ (c .before .before .before .before .before .before .pre .3) (omega (arith, c .before .before .before .before .before .before .pre .4)))
+start-of-requires c κs = (zero-le, omega (arith, c .before .before .before .before .before .before .pre .3 .tuples, c .before .before .before .before .before .before .pre .4), start-in _ (c .before .before .before .before .before .before .pre .3) (omega (arith, c .before .before .before .before .before .before .pre .4)), start-zero _)
 
 size-at-requires : tie.Need-size-at-requires
 size-at-requires c κs = search needs

@@ -7,13 +7,13 @@ use Rattle.column.proofs.column.start_of.Statement.{statement}
 use Rattle.column.proofs.column.start_of.Tie as tie
 
 abbrev Inv-loop : tie.InvT-loop
-Inv-loop widths nodes k at₀ j₀ at j = Seeking widths nodes k at j
+Inv-loop widths nodes from start to at₀ j₀ at j = Seeking widths nodes to at j
 
 abbrev μ-loop : tie.MeasureT-loop
-μ-loop widths nodes k at₀ j₀ at j = k - j
+μ-loop widths nodes from start to at₀ j₀ at j = to - j
 
 loop-holds : tie.Need-loop-holds Inv-loop μ-loop
-loop-holds c = seeking-begins (c .before .before .pre .0) (c .before .before .pre .1)
+loop-holds c = seeking-begins (c .before .before .pre .0) (c .before .before .pre .1) (c .before .before .pre .2) (c .before .before .pre .3)
 
 size-at-requires : tie.Need-size-at-requires Inv-loop μ-loop
 size-at-requires c κs = search needs
