@@ -19,7 +19,7 @@ use Rattle.column.specs.Powers.{beta-of}
 use Rattle.column.specs.Own.{lists, own-place, Fits, used-of}
 use Rattle.column.specs.laws.Powers.{word-zero}
 use Rattle.column.specs.laws.Own.{start-next, start-in, own-multiplicity, own-tuple}
-use Rattle.column.specs.declared.column.Share.{Share}
+use Rattle.column.specs.declared.fractions.Share.{Share}
 
 -- the nodes of tuple k are in the node list, and few
 pub nodes-in : {own widths mults nodes : List ℕ} {at r : ℕ} (k : ℕ) → Fits own widths mults nodes → k < tuple-count own 0 → at ≡ element-start widths k → r ≡ word widths k

@@ -1,0 +1,4 @@
+pub mod Starting
+pub mod Lining
+pub mod Rowing
+pub mod Parting

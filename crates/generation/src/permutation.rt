@@ -1,0 +1,1 @@
+// The door of generation and the row reader.
