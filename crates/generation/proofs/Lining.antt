@@ -54,7 +54,7 @@ lining-begins {p} {lookups = lookups} {tuples} c big e l =
 pub lining-turn : {p w : ℕ} {lookups tuples mults flags elements cs vals : List ℕ} {r n : ℕ} {d out : List ℕ} {sum sum′ v : Ext} {verdict verdict′ : Verdict} {at end : Starts} {word i f : ℕ} (ys : List ℕ) (x : Verdict)
     → Lining p w lookups tuples mults flags elements cs vals r d n out sum verdict at word i → i < n → Stands lookups tuples (i + 1) end
     → Word4 p (ws v) × (ws v ≡ fraction-at p w (lent-lookups lookups [] tuples mults flags elements) cs (λ _. vals) 0 i)
-      × (f ≡ fault p w (place p w (lent-lookups lookups [] tuples mults flags elements) cs (λ _. vals) 0 i))
+    × (f ≡ fault p w (place p w (lent-lookups lookups [] tuples mults flags elements) cs (λ _. vals) 0 i))
     → ys ≡ ws v → Word4 p (ws sum′) × (ws sum′ ≡ add4 p (ws sum) (ws v)) → refusal x ≡ fault-refusal f r i → refusal verdict′ ≡ or-else (refusal verdict) (refusal x)
     → Lining p w lookups tuples mults flags elements cs vals r d n (putMid word (word + 4 - word) out ys) sum′ verdict′ end (word + 4) (i + 1)
 unfolding sum4 first fraction-at fault-at place
@@ -83,13 +83,16 @@ lining-turn {p} {w} {lookups} {tuples} {mults} {flags} {elements} {cs} {vals} {r
 pub lining-ends : {p w : ℕ} {lookups tuples mults flags elements cs vals : List ℕ} {r n : ℕ} {d out : List ℕ} {sum : Ext} {verdict : Verdict} {at : Starts} {word i : ℕ}
     → Lining p w lookups tuples mults flags elements cs vals r d n out sum verdict at word i → n ≤ i
     → Word4 p (ws sum) × (ws sum ≡ row-sum p w (lent-lookups lookups [] tuples mults flags elements) cs (λ _. vals) r)
-      × (refusal verdict ≡ row-fault p w (lent-lookups lookups [] tuples mults flags elements) cs (λ _. vals) r)
-      × (out ≡ joined (fraction-at p w (lent-lookups lookups [] tuples mults flags elements) cs (λ _. vals) r) 0 (lookup-count lookups))
+    × (refusal verdict ≡ row-fault p w (lent-lookups lookups [] tuples mults flags elements) cs (λ _. vals) r)
+    × (out ≡ joined (fraction-at p w (lent-lookups lookups [] tuples mults flags elements) cs (λ _. vals) r) 0 (lookup-count lookups))
 unfolding row-sum row-fault
 lining-ends {p} {w} {lookups} {tuples} {mults} {flags} {elements} {cs} {vals} {r} {n} {i = i} s h =
-    let e : i ≡ lookup-count lookups = omega (arith, s .within, s .count) in
-    (s .word4, s .sum≡ ∙ ap (sum4 p _) e, s .verdict≡ ∙ ap (first _) e,
-    filled-whole (s .out≡) (omega (arith, s .word≡, s .size)) ∙ ap (joined (fraction-at p w (lent-lookups lookups [] tuples mults flags elements) cs (λ _. vals) r) 0) e)
+    let e : i ≡ lookup-count lookups = omega (arith, s .within, s .count) in (
+      s .word4,
+      s .sum≡ ∙ ap (sum4 p _) e,
+      s .verdict≡ ∙ ap (first _) e,
+      filled-whole (s .out≡) (omega (arith, s .word≡, s .size)) ∙ ap (joined (fraction-at p w (lent-lookups lookups [] tuples mults flags elements) cs (λ _. vals) r) 0) e,
+    )
 
 pub word-in : {p w : ℕ} {lookups tuples mults flags elements cs vals : List ℕ} {r n : ℕ} {d out : List ℕ} {sum : Ext} {verdict : Verdict} {at : Starts} {word i : ℕ}
     → Lining p w lookups tuples mults flags elements cs vals r d n out sum verdict at word i → i < n → word + 4 ≤ length out

@@ -58,8 +58,10 @@ tabling-turn {p} {w} {cs} {n} {d} {table} {i} {beta} ys s h eb ey =
   where
     next : 32 * i + 32 ≡ 32 * (i + 1)
     next = omega arith
+
     is : ys ≡ joined (power4 p w (element cs (2 * i + 1))) 0 8
     is = ey ∙ ap (λ (b : List ℕ). joined (power4 p w b) 0 8) eb
+
     grown : Filled d (joined (λ i. joined (power4 p w (element cs (2 * i + 1))) 0 8) 0 (i + 1)) (32 * i + 32) (putMid (32 * i) (32 * i + 32 - 32 * i) table ys)
     grown =
         filled-part ys (s .out≡) (omega arith) (omega (arith, s .room)) (ap length is ∙ row-size p w (λ i. element cs (2 * i + 1)) n i ∙ omega arith)
@@ -118,7 +120,7 @@ module _ {p w : ℕ} {l : Lookups} {cs : List ℕ} {values : ℕ → List ℕ} {
 
   pub running-turn : {acc′ sum : Ext} {verdict′ : Verdict} (ys : List ℕ) (fault : Verdict) → j < k
       → Word4 p (ws sum) × (ws sum ≡ row-sum p w l cs values (from + j)) × (refusal fault ≡ row-fault p w l cs values (from + j))
-        × (ys ≡ ws acc ++ joined (fraction-at p w l cs values (from + j)) 0 (lookup-count (l .lookups)))
+      × (ys ≡ ws acc ++ joined (fraction-at p w l cs values (from + j)) 0 (lookup-count (l .lookups)))
       → Word4 p (ws acc′) × (ws acc′ ≡ add4 p (ws acc) (ws sum)) → refusal verdict′ ≡ or-else (refusal verdict) (refusal fault)
       → Running p w l cs values wd from k d (putMid at (at + wd - at) out ys) acc′ verdict′ (at + wd) (j + 1)
   unfolding accumulator sum4 first row-words
@@ -139,10 +141,13 @@ module _ {p w : ℕ} {l : Lookups} {cs : List ℕ} {values : ℕ → List ℕ} {
     where
       next : from + (j + 1) ≡ suc (from + j)
       next = omega arith
+
       words : ys ≡ row-words p w l cs values (from + j)
       words = ey ∙ ap (λ (a : List ℕ). a ++ joined (fraction-at p w l cs values (from + j)) 0 (lookup-count (l .lookups))) (s .acc≡)
+
       long : length ys ≡ at + wd - at
       long = ap length ey ∙ simp length-append (omega (arith, fractions-length p w l cs values (from + j) (lookup-count (l .lookups)), s .wide))
+
       grown : Filled d (joined (row-words p w l cs values) from (j + 1)) (at + wd) (putMid at (at + wd - at) out ys)
       grown =
           filled-part ys (s .out≡) (omega arith) (omega (arith, running-in h, s .len)) long
@@ -150,12 +155,16 @@ module _ {p w : ℕ} {l : Lookups} {cs : List ℕ} {values : ℕ → List ℕ} {
 
   pub running-ends : k ≤ j
       → Word4 p (ws acc) × (ws acc ≡ accumulator p w l cs values (from + k)) × (refusal verdict ≡ first (row-fault p w l cs values) (from + k))
-        × (out ≡ joined (row-words p w l cs values) from k) × (length out ≡ length d)
+      × (out ≡ joined (row-words p w l cs values) from k) × (length out ≡ length d)
   running-ends h =
       let e : j ≡ k = omega (arith, s .within) in
-      let a : length d ≡ at = s .size ∙ ap (λ (x : ℕ). x * wd) (sym e) ∙ sym (s .at≡) in
-      (s .word4, s .acc≡ ∙ ap (λ (x : ℕ). accumulator p w l cs values (from + x)) e, s .verdict≡ ∙ ap (λ (x : ℕ). first (row-fault p w l cs values) (from + x)) e,
-      filled-whole (s .out≡) (omega (arith, a)) ∙ ap (joined (row-words p w l cs values) from) e, s .len)
+      let a : length d ≡ at = s .size ∙ ap (λ (x : ℕ). x * wd) (sym e) ∙ sym (s .at≡) in (
+        s .word4,
+        s .acc≡ ∙ ap (λ (x : ℕ). accumulator p w l cs values (from + x)) e,
+        s .verdict≡ ∙ ap (λ (x : ℕ). first (row-fault p w l cs values) (from + x)) e,
+        filled-whole (s .out≡) (omega (arith, a)) ∙ ap (joined (row-words p w l cs values) from) e,
+        s .len,
+      )
 
 -- r rows of the whole
 pub record Going (p w : ℕ) (l : Lookups) (cs : List ℕ) (values : ℕ → List ℕ) (wd height : ℕ) (d out : List ℕ) (progress : Progress) (at r : ℕ) : Type 0 where
@@ -213,7 +222,7 @@ module _ {p w : ℕ} {l : Lookups} {cs : List ℕ} {values : ℕ → List ℕ} {
 
   pub going-turn : (next : Progress) (ys : List ℕ)
       → Word4 p (ws (next .accumulator)) × (ws (next .accumulator) ≡ accumulator p w l cs values (r + (e - r))) × (refusal (next .verdict) ≡ first (row-fault p w l cs values) (r + (e - r)))
-        × (ys ≡ joined (row-words p w l cs values) r (e - r)) × (length ys ≡ length (take (at + (e - r) * wd - at) (drop at out)))
+      × (ys ≡ joined (row-words p w l cs values) r (e - r)) × (length ys ≡ length (take (at + (e - r) * wd - at) (drop at out)))
       → Going p w l cs values wd height d (putMid at (at + (e - r) * wd - at) out ys) next (at + (e - r) * wd) e
   going-turn next ys (q, ea, ev, ey, el) =
       record {
@@ -239,13 +248,16 @@ module _ {p w : ℕ} {l : Lookups} {cs : List ℕ} {values : ℕ → List ℕ} {
 pub going-ends : {p w : ℕ} {l : Lookups} {cs : List ℕ} {values : ℕ → List ℕ} {wd height : ℕ} {d out : List ℕ} {progress : Progress} {at r : ℕ}
     → Going p w l cs values wd height d out progress at r → height ≤ r
     → Word4 p (ws (progress .accumulator)) × (ws (progress .accumulator) ≡ accumulator p w l cs values height) × (refusal (progress .verdict) ≡ first-fault p w l cs values height)
-      × (out ≡ trace p w l cs values height ++ drop (used (l .lookups) height) d)
+    × (out ≡ trace p w l cs values height ++ drop (used (l .lookups) height) d)
 unfolding trace first-fault
 going-ends {p} {w} {l} {cs} {values} {wd} {height} {d} {at = at} {r = r} s h =
     let e : r ≡ height = omega (arith, s .within) in
-    let a : at ≡ used (l .lookups) height = s .at≡ ∙ ap₂ _*_ e (s .wide) ∙ used-is (l .lookups) height in
-    (s .word4, s .acc≡ ∙ ap (accumulator p w l cs values) e, s .verdict≡ ∙ ap (first (row-fault p w l cs values)) e,
-    s .out≡ .is ∙ ap₂ (λ (x y : ℕ). joined (row-words p w l cs values) 0 x ++ drop y d) e a)
+    let a : at ≡ used (l .lookups) height = s .at≡ ∙ ap₂ _*_ e (s .wide) ∙ used-is (l .lookups) height in (
+      s .word4,
+      s .acc≡ ∙ ap (accumulator p w l cs values) e,
+      s .verdict≡ ∙ ap (first (row-fault p w l cs values)) e,
+      s .out≡ .is ∙ ap₂ (λ (x y : ℕ). joined (row-words p w l cs values) 0 x ++ drop y d) e a,
+    )
 
 -- zeros
 pub record Zeroed (d b : List ℕ) (j : ℕ) : Type 0 where

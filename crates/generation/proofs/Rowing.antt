@@ -51,16 +51,19 @@ fractions-length p w l cs values r n = joined-length (fraction-at p w l cs value
 pub row-is : {acc sum : Ext} {b ys zs : List ℕ} (p w : ℕ) (nodes : List ℕ) (t : Traces) (r : ℕ) (l : Lookups) (cs d : List ℕ) (verdict : Verdict)
     → b ≡ row-values p nodes t r ++ replicate (1024 - node-count nodes) 0 → length d ≡ 4 * lookup-count (l .lookups) + 4 → ys ≡ ws acc
     → Word4 p (ws sum) × (ws sum ≡ row-sum p w l cs (λ _. take (node-count nodes - 0) b) r)
-      × (refusal verdict ≡ row-fault p w l cs (λ _. take (node-count nodes - 0) b) r)
-      × (zs ≡ joined (fraction-at p w l cs (λ _. take (node-count nodes - 0) b) r) 0 (lookup-count (l .lookups)))
+    × (refusal verdict ≡ row-fault p w l cs (λ _. take (node-count nodes - 0) b) r)
+    × (zs ≡ joined (fraction-at p w l cs (λ _. take (node-count nodes - 0) b) r) 0 (lookup-count (l .lookups)))
     → Word4 p (ws sum) × (ws sum ≡ row-sum p w l cs (row-values p nodes t) r)
-      × (refusal verdict ≡ row-fault p w l cs (row-values p nodes t) r)
-      × (putMid 4 (length d - 4) (putMid 0 (4 - 0) d ys) zs ≡ ws acc ++ joined (fraction-at p w l cs (row-values p nodes t) r) 0 (lookup-count (l .lookups)))
+    × (refusal verdict ≡ row-fault p w l cs (row-values p nodes t) r)
+    × (putMid 4 (length d - 4) (putMid 0 (4 - 0) d ys) zs ≡ ws acc ++ joined (fraction-at p w l cs (row-values p nodes t) r) 0 (lookup-count (l .lookups)))
 unfolding row-sum row-fault fault-at fraction-at place
-row-is {acc} {sum} {b} {ys} {zs} p w nodes t r l cs d verdict e h y (q, es, ev, ez) =
-    (q, es ∙ ap (λ (v : List ℕ). row-sum p w l cs (λ _. v) r) vals, ev ∙ ap (λ (v : List ℕ). row-fault p w l cs (λ _. v) r) vals,
-    put-rest {acc = acc} {ys = ys} {zs = zs} d (lookup-count (l .lookups)) h y (fractions-length p w l cs (row-values p nodes t) r (lookup-count (l .lookups)))
-    (ez ∙ ap (λ (v : List ℕ). joined (fraction-at p w l cs (λ _. v) r) 0 (lookup-count (l .lookups))) vals))
+row-is {acc} {sum} {b} {ys} {zs} p w nodes t r l cs d verdict e h y (q, es, ev, ez) = (
+  q,
+  es ∙ ap (λ (v : List ℕ). row-sum p w l cs (λ _. v) r) vals,
+  ev ∙ ap (λ (v : List ℕ). row-fault p w l cs (λ _. v) r) vals,
+  put-rest {acc = acc} {ys = ys} {zs = zs} d (lookup-count (l .lookups)) h y (fractions-length p w l cs (row-values p nodes t) r (lookup-count (l .lookups)))
+      (ez ∙ ap (λ (v : List ℕ). joined (fraction-at p w l cs (λ _. v) r) 0 (lookup-count (l .lookups))) vals),
+)
   where
     vals : take (node-count nodes - 0) b ≡ row-values p nodes t r
     vals = vals-are p nodes t r e

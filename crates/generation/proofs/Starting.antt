@@ -45,25 +45,26 @@ module _ {lookups tuples mults flags elements : List ℕ} {i : ℕ} {at : Starts
 
   pub next-is : {k m f e : ℕ} → k ≡ tuple-count lookups i → m ≡ multiplicity-count lookups i → f ≡ flag-count lookups i → e ≡ element-start tuples (at .tuple + k)
       → Stands lookups tuples (i + 1) (record { tuple = at .tuple + k; multiplicity = at .multiplicity + m; flag = at .flag + f; element = e })
-        × Spans tuples mults flags elements at (record { tuple = at .tuple + k; multiplicity = at .multiplicity + m; flag = at .flag + f; element = e })
+      × Spans tuples mults flags elements at (record { tuple = at .tuple + k; multiplicity = at .multiplicity + m; flag = at .flag + f; element = e })
   unfolding tuple-start multiplicity-start flag-start element-start
-  next-is {k} {m} {f} {e} ek em ef ee =
-      (record {
-        tuple≡ = ap₂ _+_ (a .tuple≡) ek ∙ sym (total-one (tuple-count lookups) i);
-        multiplicity≡ = ap₂ _+_ (a .multiplicity≡) em ∙ sym (total-one (multiplicity-count lookups) i);
-        flag≡ = ap₂ _+_ (a .flag≡) ef ∙ sym (total-one (flag-count lookups) i);
-        element≡ = ee ∙ ap (element-start tuples) (ap₂ _+_ (a .tuple≡) ek ∙ sym (total-one (tuple-count lookups) i));
-      },
-      record {
-        tuple-le = omega arith;
-        tuple-in = omega (arith, tuple-room);
-        multiplicity-le = omega arith;
-        multiplicity-in = omega (arith, multiplicity-room);
-        flag-le = omega arith;
-        flag-in = omega (arith, flag-room);
-        element-le = omega (arith, element-from, total-le (word tuples) (at .tuple) (at .tuple + k) (omega arith));
-        element-in = omega (arith, element-room ek);
-      })
+  next-is {k} {m} {f} {e} ek em ef ee = (
+    record {
+      tuple≡ = ap₂ _+_ (a .tuple≡) ek ∙ sym (total-one (tuple-count lookups) i);
+      multiplicity≡ = ap₂ _+_ (a .multiplicity≡) em ∙ sym (total-one (multiplicity-count lookups) i);
+      flag≡ = ap₂ _+_ (a .flag≡) ef ∙ sym (total-one (flag-count lookups) i);
+      element≡ = ee ∙ ap (element-start tuples) (ap₂ _+_ (a .tuple≡) ek ∙ sym (total-one (tuple-count lookups) i));
+    },
+    record {
+      tuple-le = omega arith;
+      tuple-in = omega (arith, tuple-room);
+      multiplicity-le = omega arith;
+      multiplicity-in = omega (arith, multiplicity-room);
+      flag-le = omega arith;
+      flag-in = omega (arith, flag-room);
+      element-le = omega (arith, element-from, total-le (word tuples) (at .tuple) (at .tuple + k) (omega arith));
+      element-in = omega (arith, element-room ek);
+    },
+  )
 
 -- the powers of lookup i's beta
 pub powers-are : {p w i : ℕ} {lookups tuples mults flags elements cs table : List ℕ} (ps : List (List ℕ)) → Ready p w lookups tuples mults flags elements cs table → i < lookup-count lookups
@@ -91,17 +92,18 @@ module _ {lookups tuples mults flags elements : List ℕ} {i : ℕ} {at end : St
 
   pub one-is : {v alpha beta : List ℕ} {f : ℕ} (p w : ℕ) (cs vals : List ℕ) → alpha ≡ element cs (2 * i) → beta ≡ element cs (2 * i + 1)
       → Word4 p v
-        × (v ≡ fraction p w (own-place (part lookups (8 * i) (8 * i + 8)) (part tuples (at .tuple) (end .tuple)) (part mults (at .multiplicity) (end .multiplicity)) (part flags (at .flag) (end .flag)) (part elements (at .element) (end .element)) vals alpha beta))
-        × (f ≡ fault p w (own-place (part lookups (8 * i) (8 * i + 8)) (part tuples (at .tuple) (end .tuple)) (part mults (at .multiplicity) (end .multiplicity)) (part flags (at .flag) (end .flag)) (part elements (at .element) (end .element)) vals alpha beta))
+      × (v ≡ fraction p w (own-place (part lookups (8 * i) (8 * i + 8)) (part tuples (at .tuple) (end .tuple)) (part mults (at .multiplicity) (end .multiplicity)) (part flags (at .flag) (end .flag)) (part elements (at .element) (end .element)) vals alpha beta))
+      × (f ≡ fault p w (own-place (part lookups (8 * i) (8 * i + 8)) (part tuples (at .tuple) (end .tuple)) (part mults (at .multiplicity) (end .multiplicity)) (part flags (at .flag) (end .flag)) (part elements (at .element) (end .element)) vals alpha beta))
       → Word4 p v × (v ≡ fraction-at p w (lent-lookups lookups [] tuples mults flags elements) cs (λ _. vals) 0 i)
-        × (f ≡ fault p w (place p w (lent-lookups lookups [] tuples mults flags elements) cs (λ _. vals) 0 i))
+      × (f ≡ fault p w (place p w (lent-lookups lookups [] tuples mults flags elements) cs (λ _. vals) 0 i))
   unfolding fraction-at place
-  one-is {v} {alpha} {beta} {f} p w cs vals ea eb (q, ev, ef) =
-      (q,
-      ev ∙ ap (fraction p w) moved ∙ fraction-same (parted-same whole (s .nodes) (s .fitting) (s .agreeing) i h p w vals (element cs (2 * i)) (element cs (2 * i + 1)))
-      ∙ unnamed-fraction p w lookups (s .names) tuples mults flags elements cs (λ _. vals) 0 i,
-      ef ∙ ap (fault p w) moved ∙ fault-same (parted-same whole (s .nodes) (s .fitting) (s .agreeing) i h p w vals (element cs (2 * i)) (element cs (2 * i + 1)))
-      ∙ unnamed-fault p w lookups (s .names) tuples mults flags elements cs (λ _. vals) 0 i)
+  one-is {v} {alpha} {beta} {f} p w cs vals ea eb (q, ev, ef) = (
+    q,
+    ev ∙ ap (fraction p w) moved ∙ fraction-same (parted-same whole (s .nodes) (s .fitting) (s .agreeing) i h p w vals (element cs (2 * i)) (element cs (2 * i + 1)))
+        ∙ unnamed-fraction p w lookups (s .names) tuples mults flags elements cs (λ _. vals) 0 i,
+    ef ∙ ap (fault p w) moved ∙ fault-same (parted-same whole (s .nodes) (s .fitting) (s .agreeing) i h p w vals (element cs (2 * i)) (element cs (2 * i + 1)))
+        ∙ unnamed-fault p w lookups (s .names) tuples mults flags elements cs (λ _. vals) 0 i,
+  )
     where
       moved : own-place (part lookups (8 * i) (8 * i + 8)) (part tuples (at .tuple) (end .tuple)) (part mults (at .multiplicity) (end .multiplicity)) (part flags (at .flag) (end .flag)) (part elements (at .element) (end .element)) vals alpha beta
           ≡ own-place (part lookups (8 * i) (8 * i + 8)) (part tuples (tuple-start lookups i) (tuple-start lookups (i + 1))) (part mults (multiplicity-start lookups i) (multiplicity-start lookups (i + 1)))

@@ -41,17 +41,36 @@ pub fn write_table(p: u32, w: u32, challenges: &[u32], n: usize, table: &mut [u3
 }
 
 // k rows from row `from` on, with the accumulator before them.
-pub fn rows(p: u32, w: u32, shape: Shape, main: &[u32], preprocessed: &[u32], public_values: &[u32], nodes: &[u32], lookups: &[u32], tuples: &[u32], multiplicities: &[u32], flags: &[u32], elements: &[u32], challenges: &[u32], table: &[u32], from: usize, k: usize, before: Progress, out: &mut [u32]) -> Progress
+pub fn rows(
+    p: u32,
+    w: u32,
+    shape: Shape,
+    main: &[u32],
+    preprocessed: &[u32],
+    public_values: &[u32],
+    nodes: &[u32],
+    lookups: &[u32],
+    tuples: &[u32],
+    multiplicities: &[u32],
+    flags: &[u32],
+    elements: &[u32],
+    challenges: &[u32],
+    table: &[u32],
+    from: usize,
+    k: usize,
+    before: Progress,
+    out: &mut [u32],
+) -> Progress
     requires { ⌜ Ready p w (now lookups) (now tuples) (now multiplicities) (now flags) (now elements) (now challenges) (now table)
-      × Evaluable p (lent-traces shape (now main) (now preprocessed) (now «public_values»)) (now nodes) × (from + k ≤ shape .height) × (shape .height ≤ 1048576)
-      × (length (now out) ≡ k * (4 * lookup-count (now lookups) + 4)) × Word4 p (ws (before .accumulator))
-      × (ws (before .accumulator) ≡ accumulator p w (lent-lookups (now lookups) [] (now tuples) (now multiplicities) (now flags) (now elements)) (now challenges) (lent-values p shape (now main) (now preprocessed) (now «public_values») (now nodes)) from)
-      × (refusal (before .verdict) ≡ first (row-fault p w (lent-lookups (now lookups) [] (now tuples) (now multiplicities) (now flags) (now elements)) (now challenges) (lent-values p shape (now main) (now preprocessed) (now «public_values») (now nodes))) from) ⌝ }
+        × Evaluable p (lent-traces shape (now main) (now preprocessed) (now «public_values»)) (now nodes) × (from + k ≤ shape .height) × (shape .height ≤ 1048576)
+        × (length (now out) ≡ k * (4 * lookup-count (now lookups) + 4)) × Word4 p (ws (before .accumulator))
+        × (ws (before .accumulator) ≡ accumulator p w (lent-lookups (now lookups) [] (now tuples) (now multiplicities) (now flags) (now elements)) (now challenges) (lent-values p shape (now main) (now preprocessed) (now «public_values») (now nodes)) from)
+        × (refusal (before .verdict) ≡ first (row-fault p w (lent-lookups (now lookups) [] (now tuples) (now multiplicities) (now flags) (now elements)) (now challenges) (lent-values p shape (now main) (now preprocessed) (now «public_values») (now nodes))) from) ⌝ }
     ensures { λ a. ⌜ Word4 p (ws (a .accumulator))
-      × (ws (a .accumulator) ≡ accumulator p w (lent-lookups (now (lookups .entry)) [] (now (tuples .entry)) (now (multiplicities .entry)) (now (flags .entry)) (now (elements .entry))) (now (challenges .entry)) (lent-values p shape (now (main .entry)) (now (preprocessed .entry)) (now («public_values» .entry)) (now (nodes .entry))) (from + k))
-      × (refusal (a .verdict) ≡ first (row-fault p w (lent-lookups (now (lookups .entry)) [] (now (tuples .entry)) (now (multiplicities .entry)) (now (flags .entry)) (now (elements .entry))) (now (challenges .entry)) (lent-values p shape (now (main .entry)) (now (preprocessed .entry)) (now («public_values» .entry)) (now (nodes .entry)))) (from + k))
-      × (now (out .exit) ≡ joined (row-words p w (lent-lookups (now (lookups .entry)) [] (now (tuples .entry)) (now (multiplicities .entry)) (now (flags .entry)) (now (elements .entry))) (now (challenges .entry)) (lent-values p shape (now (main .entry)) (now (preprocessed .entry)) (now («public_values» .entry)) (now (nodes .entry)))) from k)
-      × (length (now (out .exit)) ≡ length (now (out .entry))) ⌝ }
+        × (ws (a .accumulator) ≡ accumulator p w (lent-lookups (now (lookups .entry)) [] (now (tuples .entry)) (now (multiplicities .entry)) (now (flags .entry)) (now (elements .entry))) (now (challenges .entry)) (lent-values p shape (now (main .entry)) (now (preprocessed .entry)) (now («public_values» .entry)) (now (nodes .entry))) (from + k))
+        × (refusal (a .verdict) ≡ first (row-fault p w (lent-lookups (now (lookups .entry)) [] (now (tuples .entry)) (now (multiplicities .entry)) (now (flags .entry)) (now (elements .entry))) (now (challenges .entry)) (lent-values p shape (now (main .entry)) (now (preprocessed .entry)) (now («public_values» .entry)) (now (nodes .entry)))) (from + k))
+        × (now (out .exit) ≡ joined (row-words p w (lent-lookups (now (lookups .entry)) [] (now (tuples .entry)) (now (multiplicities .entry)) (now (flags .entry)) (now (elements .entry))) (now (challenges .entry)) (lent-values p shape (now (main .entry)) (now (preprocessed .entry)) (now («public_values» .entry)) (now (nodes .entry)))) from k)
+        × (length (now (out .exit)) ≡ length (now (out .entry))) ⌝ }
 {
     let width = 4 * (lookups.len() / 8) + 4;
     let mut accumulator = before.accumulator;
@@ -60,7 +79,25 @@ pub fn rows(p: u32, w: u32, shape: Shape, main: &[u32], preprocessed: &[u32], pu
     let mut j = 0;
     while j < k {
         let end = at + width;
-        let line = row::row(p, w, shape, main, preprocessed, public_values, nodes, lookups, tuples, multiplicities, flags, elements, challenges, table, from + j, accumulator, &mut out[at..end]);
+        let line = row::row(
+            p,
+            w,
+            shape,
+            main,
+            preprocessed,
+            public_values,
+            nodes,
+            lookups,
+            tuples,
+            multiplicities,
+            flags,
+            elements,
+            challenges,
+            table,
+            from + j,
+            accumulator,
+            &mut out[at..end],
+        );
         let sum = line.sum;
         let fault = line.verdict;
         accumulator = extension::add(p, accumulator, sum);
@@ -68,7 +105,10 @@ pub fn rows(p: u32, w: u32, shape: Shape, main: &[u32], preprocessed: &[u32], pu
         at = end;
         j += 1;
     }
-    Progress { accumulator, verdict }
+    Progress {
+        accumulator,
+        verdict,
+    }
 }
 
 // Where the part that starts at row r ends: 1,024 rows on, or at the last row.
@@ -80,14 +120,30 @@ fn part_end(r: usize, height: usize) -> usize
 }
 
 // All rows, part by part.
-pub fn parts(p: u32, w: u32, shape: Shape, main: &[u32], preprocessed: &[u32], public_values: &[u32], nodes: &[u32], lookups: &[u32], tuples: &[u32], multiplicities: &[u32], flags: &[u32], elements: &[u32], challenges: &[u32], table: &[u32], out: &mut [u32]) -> Progress
+pub fn parts(
+    p: u32,
+    w: u32,
+    shape: Shape,
+    main: &[u32],
+    preprocessed: &[u32],
+    public_values: &[u32],
+    nodes: &[u32],
+    lookups: &[u32],
+    tuples: &[u32],
+    multiplicities: &[u32],
+    flags: &[u32],
+    elements: &[u32],
+    challenges: &[u32],
+    table: &[u32],
+    out: &mut [u32],
+) -> Progress
     requires { ⌜ Ready p w (now lookups) (now tuples) (now multiplicities) (now flags) (now elements) (now challenges) (now table)
-      × Evaluable p (lent-traces shape (now main) (now preprocessed) (now «public_values»)) (now nodes)
-      × (shape .height ≤ 1048576) × (used (now lookups) (shape .height) ≤ length (now out)) ⌝ }
+        × Evaluable p (lent-traces shape (now main) (now preprocessed) (now «public_values»)) (now nodes)
+        × (shape .height ≤ 1048576) × (used (now lookups) (shape .height) ≤ length (now out)) ⌝ }
     ensures { λ a. ⌜ Word4 p (ws (a .accumulator))
-      × (ws (a .accumulator) ≡ accumulator p w (lent-lookups (now (lookups .entry)) [] (now (tuples .entry)) (now (multiplicities .entry)) (now (flags .entry)) (now (elements .entry))) (now (challenges .entry)) (lent-values p shape (now (main .entry)) (now (preprocessed .entry)) (now («public_values» .entry)) (now (nodes .entry))) (shape .height))
-      × (refusal (a .verdict) ≡ first-fault p w (lent-lookups (now (lookups .entry)) [] (now (tuples .entry)) (now (multiplicities .entry)) (now (flags .entry)) (now (elements .entry))) (now (challenges .entry)) (lent-values p shape (now (main .entry)) (now (preprocessed .entry)) (now («public_values» .entry)) (now (nodes .entry))) (shape .height))
-      × (now (out .exit) ≡ trace p w (lent-lookups (now (lookups .entry)) [] (now (tuples .entry)) (now (multiplicities .entry)) (now (flags .entry)) (now (elements .entry))) (now (challenges .entry)) (lent-values p shape (now (main .entry)) (now (preprocessed .entry)) (now («public_values» .entry)) (now (nodes .entry))) (shape .height) ++ drop (used (now (lookups .entry)) (shape .height)) (now (out .entry))) ⌝ }
+        × (ws (a .accumulator) ≡ accumulator p w (lent-lookups (now (lookups .entry)) [] (now (tuples .entry)) (now (multiplicities .entry)) (now (flags .entry)) (now (elements .entry))) (now (challenges .entry)) (lent-values p shape (now (main .entry)) (now (preprocessed .entry)) (now («public_values» .entry)) (now (nodes .entry))) (shape .height))
+        × (refusal (a .verdict) ≡ first-fault p w (lent-lookups (now (lookups .entry)) [] (now (tuples .entry)) (now (multiplicities .entry)) (now (flags .entry)) (now (elements .entry))) (now (challenges .entry)) (lent-values p shape (now (main .entry)) (now (preprocessed .entry)) (now («public_values» .entry)) (now (nodes .entry))) (shape .height))
+        × (now (out .exit) ≡ trace p w (lent-lookups (now (lookups .entry)) [] (now (tuples .entry)) (now (multiplicities .entry)) (now (flags .entry)) (now (elements .entry))) (now (challenges .entry)) (lent-values p shape (now (main .entry)) (now (preprocessed .entry)) (now («public_values» .entry)) (now (nodes .entry))) (shape .height) ++ drop (used (now (lookups .entry)) (shape .height)) (now (out .entry))) ⌝ }
 {
     let width = 4 * (lookups.len() / 8) + 4;
     let height = shape.height;
@@ -106,7 +162,26 @@ pub fn parts(p: u32, w: u32, shape: Shape, main: &[u32], preprocessed: &[u32], p
         let e = part_end(r, height);
         let k = e - r;
         let end = at + k * width;
-        progress = rows(p, w, shape, main, preprocessed, public_values, nodes, lookups, tuples, multiplicities, flags, elements, challenges, table, r, k, progress, &mut out[at..end]);
+        progress = rows(
+            p,
+            w,
+            shape,
+            main,
+            preprocessed,
+            public_values,
+            nodes,
+            lookups,
+            tuples,
+            multiplicities,
+            flags,
+            elements,
+            challenges,
+            table,
+            r,
+            k,
+            progress,
+            &mut out[at..end],
+        );
         at = end;
         r = e;
     }

@@ -53,7 +53,15 @@ fn verdict_of(fault: u32, row: usize, lookup: usize) -> Verdict
 }
 
 // Where the next lookup's parts begin.
-fn next_starts(lookups: &[u32], tuples: &[u32], multiplicities: &[u32], flags: &[u32], elements: &[u32], i: usize, at: Starts) -> Starts
+fn next_starts(
+    lookups: &[u32],
+    tuples: &[u32],
+    multiplicities: &[u32],
+    flags: &[u32],
+    elements: &[u32],
+    i: usize,
+    at: Starts,
+) -> Starts
     requires { ⌜ Lists (now lookups) (now tuples) (now multiplicities) (now flags) (now elements) × (i < lookup-count (now lookups)) × Stands (now lookups) (now tuples) i at ⌝ }
     ensures { λ r. ⌜ Stands (now (lookups .entry)) (now (tuples .entry)) (i + 1) r × Spans (now (tuples .entry)) (now (multiplicities .entry)) (now (flags .entry)) (now (elements .entry)) at r ⌝ }
 {
@@ -71,13 +79,27 @@ fn next_starts(lookups: &[u32], tuples: &[u32], multiplicities: &[u32], flags: &
 }
 
 // Lookup i by its own parts, with its own challenges.
-fn one(p: u32, w: u32, lookups: &[u32], tuples: &[u32], multiplicities: &[u32], flags: &[u32], elements: &[u32], challenges: &[u32], table: &[u32], vals: &[u32], i: usize, at: Starts, end: Starts) -> Fraction
+fn one(
+    p: u32,
+    w: u32,
+    lookups: &[u32],
+    tuples: &[u32],
+    multiplicities: &[u32],
+    flags: &[u32],
+    elements: &[u32],
+    challenges: &[u32],
+    table: &[u32],
+    vals: &[u32],
+    i: usize,
+    at: Starts,
+    end: Starts,
+) -> Fraction
     requires { ⌜ Ready p w (now lookups) (now tuples) (now multiplicities) (now flags) (now elements) (now challenges) (now table)
-      × Below p (now vals) × (i < lookup-count (now lookups)) × Stands (now lookups) (now tuples) i at × Stands (now lookups) (now tuples) (i + 1) end
-      × Spans (now tuples) (now multiplicities) (now flags) (now elements) at end ⌝ }
+        × Below p (now vals) × (i < lookup-count (now lookups)) × Stands (now lookups) (now tuples) i at × Stands (now lookups) (now tuples) (i + 1) end
+        × Spans (now tuples) (now multiplicities) (now flags) (now elements) at end ⌝ }
     ensures { λ r. ⌜ Word4 p (ws (r .value))
-      × (ws (r .value) ≡ fraction-at p w (lent-lookups (now (lookups .entry)) [] (now (tuples .entry)) (now (multiplicities .entry)) (now (flags .entry)) (now (elements .entry))) (now (challenges .entry)) (λ _. now (vals .entry)) 0 i)
-      × (r .fault ≡ fault p w (place p w (lent-lookups (now (lookups .entry)) [] (now (tuples .entry)) (now (multiplicities .entry)) (now (flags .entry)) (now (elements .entry))) (now (challenges .entry)) (λ _. now (vals .entry)) 0 i)) ⌝ }
+        × (ws (r .value) ≡ fraction-at p w (lent-lookups (now (lookups .entry)) [] (now (tuples .entry)) (now (multiplicities .entry)) (now (flags .entry)) (now (elements .entry))) (now (challenges .entry)) (λ _. now (vals .entry)) 0 i)
+        × (r .fault ≡ fault p w (place p w (lent-lookups (now (lookups .entry)) [] (now (tuples .entry)) (now (multiplicities .entry)) (now (flags .entry)) (now (elements .entry))) (now (challenges .entry)) (λ _. now (vals .entry)) 0 i)) ⌝ }
 {
     let powers = tuple::load_powers(table, i);
     let alpha = extension::load(challenges, 2 * i);
@@ -105,13 +127,26 @@ fn one(p: u32, w: u32, lookups: &[u32], tuples: &[u32], multiplicities: &[u32], 
 }
 
 // The fractions of row r into `out`.
-fn write_fractions(p: u32, w: u32, lookups: &[u32], tuples: &[u32], multiplicities: &[u32], flags: &[u32], elements: &[u32], challenges: &[u32], table: &[u32], vals: &[u32], r: usize, out: &mut [u32]) -> Line
+fn write_fractions(
+    p: u32,
+    w: u32,
+    lookups: &[u32],
+    tuples: &[u32],
+    multiplicities: &[u32],
+    flags: &[u32],
+    elements: &[u32],
+    challenges: &[u32],
+    table: &[u32],
+    vals: &[u32],
+    r: usize,
+    out: &mut [u32],
+) -> Line
     requires { ⌜ Ready p w (now lookups) (now tuples) (now multiplicities) (now flags) (now elements) (now challenges) (now table)
-      × Below p (now vals) × (length (now out) ≡ 4 * lookup-count (now lookups)) ⌝ }
+        × Below p (now vals) × (length (now out) ≡ 4 * lookup-count (now lookups)) ⌝ }
     ensures { λ a. ⌜ Word4 p (ws (a .sum))
-      × (ws (a .sum) ≡ row-sum p w (lent-lookups (now (lookups .entry)) [] (now (tuples .entry)) (now (multiplicities .entry)) (now (flags .entry)) (now (elements .entry))) (now (challenges .entry)) (λ _. now (vals .entry)) r)
-      × (refusal (a .verdict) ≡ row-fault p w (lent-lookups (now (lookups .entry)) [] (now (tuples .entry)) (now (multiplicities .entry)) (now (flags .entry)) (now (elements .entry))) (now (challenges .entry)) (λ _. now (vals .entry)) r)
-      × (now (out .exit) ≡ joined (fraction-at p w (lent-lookups (now (lookups .entry)) [] (now (tuples .entry)) (now (multiplicities .entry)) (now (flags .entry)) (now (elements .entry))) (now (challenges .entry)) (λ _. now (vals .entry)) r) 0 (lookup-count (now (lookups .entry)))) ⌝ }
+        × (ws (a .sum) ≡ row-sum p w (lent-lookups (now (lookups .entry)) [] (now (tuples .entry)) (now (multiplicities .entry)) (now (flags .entry)) (now (elements .entry))) (now (challenges .entry)) (λ _. now (vals .entry)) r)
+        × (refusal (a .verdict) ≡ row-fault p w (lent-lookups (now (lookups .entry)) [] (now (tuples .entry)) (now (multiplicities .entry)) (now (flags .entry)) (now (elements .entry))) (now (challenges .entry)) (λ _. now (vals .entry)) r)
+        × (now (out .exit) ≡ joined (fraction-at p w (lent-lookups (now (lookups .entry)) [] (now (tuples .entry)) (now (multiplicities .entry)) (now (flags .entry)) (now (elements .entry))) (now (challenges .entry)) (λ _. now (vals .entry)) r) 0 (lookup-count (now (lookups .entry)))) ⌝ }
 {
     let n = lookups.len() / 8;
     let mut sum = Ext {
@@ -131,7 +166,21 @@ fn write_fractions(p: u32, w: u32, lookups: &[u32], tuples: &[u32], multipliciti
     let mut i = 0;
     while i < n {
         let end = next_starts(lookups, tuples, multiplicities, flags, elements, i, at);
-        let a = one(p, w, lookups, tuples, multiplicities, flags, elements, challenges, table, vals, i, at, end);
+        let a = one(
+            p,
+            w,
+            lookups,
+            tuples,
+            multiplicities,
+            flags,
+            elements,
+            challenges,
+            table,
+            vals,
+            i,
+            at,
+            end,
+        );
         let value = a.value;
         extension::store(&mut out[word..word + 4], value);
         sum = extension::add(p, sum, value);
@@ -144,19 +193,59 @@ fn write_fractions(p: u32, w: u32, lookups: &[u32], tuples: &[u32], multipliciti
 }
 
 // Row r: its node values, then the accumulator and the fractions into `out`.
-pub fn row(p: u32, w: u32, shape: Shape, main: &[u32], preprocessed: &[u32], public_values: &[u32], nodes: &[u32], lookups: &[u32], tuples: &[u32], multiplicities: &[u32], flags: &[u32], elements: &[u32], challenges: &[u32], table: &[u32], r: usize, accumulator: Ext, out: &mut [u32]) -> Line
+pub fn row(
+    p: u32,
+    w: u32,
+    shape: Shape,
+    main: &[u32],
+    preprocessed: &[u32],
+    public_values: &[u32],
+    nodes: &[u32],
+    lookups: &[u32],
+    tuples: &[u32],
+    multiplicities: &[u32],
+    flags: &[u32],
+    elements: &[u32],
+    challenges: &[u32],
+    table: &[u32],
+    r: usize,
+    accumulator: Ext,
+    out: &mut [u32],
+) -> Line
     requires { ⌜ Ready p w (now lookups) (now tuples) (now multiplicities) (now flags) (now elements) (now challenges) (now table)
-      × Evaluable p (lent-traces shape (now main) (now preprocessed) (now «public_values»)) (now nodes) × (r < shape .height)
-      × (length (now out) ≡ 4 * lookup-count (now lookups) + 4) ⌝ }
+        × Evaluable p (lent-traces shape (now main) (now preprocessed) (now «public_values»)) (now nodes) × (r < shape .height)
+        × (length (now out) ≡ 4 * lookup-count (now lookups) + 4) ⌝ }
     ensures { λ a. ⌜ Word4 p (ws (a .sum))
-      × (ws (a .sum) ≡ row-sum p w (lent-lookups (now (lookups .entry)) [] (now (tuples .entry)) (now (multiplicities .entry)) (now (flags .entry)) (now (elements .entry))) (now (challenges .entry)) (lent-values p shape (now (main .entry)) (now (preprocessed .entry)) (now («public_values» .entry)) (now (nodes .entry))) r)
-      × (refusal (a .verdict) ≡ row-fault p w (lent-lookups (now (lookups .entry)) [] (now (tuples .entry)) (now (multiplicities .entry)) (now (flags .entry)) (now (elements .entry))) (now (challenges .entry)) (lent-values p shape (now (main .entry)) (now (preprocessed .entry)) (now («public_values» .entry)) (now (nodes .entry))) r)
-      × (now (out .exit) ≡ ws accumulator ++ joined (fraction-at p w (lent-lookups (now (lookups .entry)) [] (now (tuples .entry)) (now (multiplicities .entry)) (now (flags .entry)) (now (elements .entry))) (now (challenges .entry)) (lent-values p shape (now (main .entry)) (now (preprocessed .entry)) (now («public_values» .entry)) (now (nodes .entry))) r) 0 (lookup-count (now (lookups .entry)))) ⌝ }
+        × (ws (a .sum) ≡ row-sum p w (lent-lookups (now (lookups .entry)) [] (now (tuples .entry)) (now (multiplicities .entry)) (now (flags .entry)) (now (elements .entry))) (now (challenges .entry)) (lent-values p shape (now (main .entry)) (now (preprocessed .entry)) (now («public_values» .entry)) (now (nodes .entry))) r)
+        × (refusal (a .verdict) ≡ row-fault p w (lent-lookups (now (lookups .entry)) [] (now (tuples .entry)) (now (multiplicities .entry)) (now (flags .entry)) (now (elements .entry))) (now (challenges .entry)) (lent-values p shape (now (main .entry)) (now (preprocessed .entry)) (now («public_values» .entry)) (now (nodes .entry))) r)
+        × (now (out .exit) ≡ ws accumulator ++ joined (fraction-at p w (lent-lookups (now (lookups .entry)) [] (now (tuples .entry)) (now (multiplicities .entry)) (now (flags .entry)) (now (elements .entry))) (now (challenges .entry)) (lent-values p shape (now (main .entry)) (now (preprocessed .entry)) (now («public_values» .entry)) (now (nodes .entry))) r) 0 (lookup-count (now (lookups .entry)))) ⌝ }
 {
     let mut vals = [0u32; 1024];
-    traits::row_values(p, shape, main, preprocessed, public_values, nodes, r, &mut vals);
+    traits::row_values(
+        p,
+        shape,
+        main,
+        preprocessed,
+        public_values,
+        nodes,
+        r,
+        &mut vals,
+    );
     let count = nodes.len() / 3;
     let width = out.len();
     extension::store(&mut out[0..4], accumulator);
-    write_fractions(p, w, lookups, tuples, multiplicities, flags, elements, challenges, table, &vals[0..count], r, &mut out[4..width])
+    write_fractions(
+        p,
+        w,
+        lookups,
+        tuples,
+        multiplicities,
+        flags,
+        elements,
+        challenges,
+        table,
+        &vals[0..count],
+        r,
+        &mut out[4..width],
+    )
 }

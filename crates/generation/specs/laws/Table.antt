@@ -66,5 +66,6 @@ module _ (p w : ℕ) (beta : ℕ → List ℕ) (n : ℕ) where
     where
       zeroth : 4 * (8 * i + e) ≡ 4 * (8 * i + e) + 0
       zeroth = omega arith
+
       first : at powers-table (4 * (8 * i + e)) ≡ at (power4 p w (beta i) e) 0
       first = ap (at powers-table) zeroth ∙ table-at i e 0 h k (omega arith)

@@ -12,29 +12,29 @@ module _ (p w : ℕ) (lookups names tuples multiplicities flags elements challen
   pub unnamed-fraction : (r i : ℕ) → fraction-at p w (lent-lookups lookups names tuples multiplicities flags elements) challenges values r i
       ≡ fraction-at p w (lent-lookups lookups [] tuples multiplicities flags elements) challenges values r i
   unfolding place fraction-at fraction additive-fraction exclusive-fraction branches multiplicity flag denom used-denom chosen tuple tuple-nodes tuple-width tuple-start
-    multiplicity-node multiplicity-start flag-node flag-start element-start total
+      multiplicity-node multiplicity-start flag-node flag-start element-start total
   unnamed-fraction r i = refl
 
   pub unnamed-fault : (r i : ℕ) → fault p w (place p w (lent-lookups lookups names tuples multiplicities flags elements) challenges values r i)
       ≡ fault p w (place p w (lent-lookups lookups [] tuples multiplicities flags elements) challenges values r i)
   unfolding place fault additive-fault exclusive-fault branches multiplicity flag denom used-denom chosen tuple tuple-nodes tuple-width tuple-start
-    multiplicity-node multiplicity-start flag-node flag-start element-start total
+      multiplicity-node multiplicity-start flag-node flag-start element-start total
   unnamed-fault r i = refl
 
   pub unnamed-accumulator : (r : ℕ) → accumulator p w (lent-lookups lookups names tuples multiplicities flags elements) challenges values r
       ≡ accumulator p w (lent-lookups lookups [] tuples multiplicities flags elements) challenges values r
   unfolding accumulator row-sum place fraction-at fraction additive-fraction exclusive-fraction branches multiplicity flag denom used-denom chosen tuple tuple-nodes tuple-width tuple-start
-    multiplicity-node multiplicity-start flag-node flag-start element-start total
+      multiplicity-node multiplicity-start flag-node flag-start element-start total
   unnamed-accumulator r = refl
 
   pub unnamed-trace : (height : ℕ) → trace p w (lent-lookups lookups names tuples multiplicities flags elements) challenges values height
       ≡ trace p w (lent-lookups lookups [] tuples multiplicities flags elements) challenges values height
   unfolding trace row-words accumulator row-sum place fraction-at fraction additive-fraction exclusive-fraction branches multiplicity flag denom used-denom chosen tuple tuple-nodes tuple-width
-    tuple-start multiplicity-node multiplicity-start flag-node flag-start element-start total joined
+      tuple-start multiplicity-node multiplicity-start flag-node flag-start element-start total joined
   unnamed-trace height = refl
 
   pub unnamed-first-fault : (height : ℕ) → first-fault p w (lent-lookups lookups names tuples multiplicities flags elements) challenges values height
       ≡ first-fault p w (lent-lookups lookups [] tuples multiplicities flags elements) challenges values height
   unfolding first-fault row-fault fault-at place fault additive-fault exclusive-fault branches multiplicity flag denom used-denom chosen tuple tuple-nodes tuple-width tuple-start
-    multiplicity-node multiplicity-start flag-node flag-start element-start total first
+      multiplicity-node multiplicity-start flag-node flag-start element-start total first
   unnamed-first-fault height = refl

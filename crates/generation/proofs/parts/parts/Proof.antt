@@ -8,10 +8,6 @@ use Rattle.generation.proofs.Parting.{Going, going-begins, going-in, go
 use borrow.Author.Needs.{needs}
 use Rattle.generation.proofs.parts.parts.Statement.{statement}
 use Rattle.generation.proofs.parts.parts.Tie as tie
-use Rattle.generation.proofs.parts.parts.Reads as reads
-use Rattle.generation.proofs.parts.parts.Lts as lts
-use Rattle.generation.proofs.parts.part_end.Reads as part-end-reads
-use Rattle.generation.proofs.parts.rows.Reads as rows-reads
 
 abbrev Inv-loop : tie.InvT-loop
 Inv-loop p w shape main preprocessed public-values nodes lookups tuples multiplicities flags elements challenges table out₀ width height progress₀ at₀ r₀ out progress at r = Going p w (lent-lookups lookups [] tuples multiplicities flags elements) challenges (lent-values p shape main preprocessed public-values nodes) width height out₀ out progress at r
@@ -19,67 +15,51 @@ Inv-loop p w shape main preprocessed public-values nodes lookups tuples multipli
 abbrev μ-loop : tie.MeasureT-loop
 μ-loop p w shape main preprocessed public-values nodes lookups tuples multiplicities flags elements challenges table out₀ width height progress₀ at₀ r₀ out progress at r = height - r
 
--- src/parts.rt:92:17
 mul-width : tie.Need-mul-width Inv-loop μ-loop
 mul-width c = search needs
 
--- src/parts.rt:92:17
 add-width : tie.Need-add-width Inv-loop μ-loop
 add-width c = search needs
 
--- src/parts.rt:105:5
 loop-holds : tie.Need-loop-holds Inv-loop μ-loop
 loop-holds c = going-begins (search needs) (c .before .before .before .before .before .before .before .before .before .before .before .before .pre .2) refl (c .before .before .before .before .before .before .before .before .before .before .before .before .pre .3) (omega (arith, c .before .before .before .before .before .before .before .before .before .before .before .before .pre .0 .field .modulus .big))
 
--- src/parts.rt:106:13
 part-end-requires : tie.Need-part-end-requires Inv-loop μ-loop
 part-end-requires c κs = search needs
 
--- src/parts.rt:107:17
 sub-k : tie.Need-sub-k Inv-loop μ-loop
 sub-k c = search needs
 
--- src/parts.rt:108:24
 mul-end : tie.Need-mul-end Inv-loop μ-loop
 mul-end c = omega (arith, going-in _ (c .before .before .loop .inv) (c .part-end .ensures .0) (c .part-end .ensures .1), c .before .before .loop .inv .cap, c .before .before .loop .inv .len)
 
--- src/parts.rt:108:19
 add-end : tie.Need-add-end Inv-loop μ-loop
 add-end c = omega (arith, going-in _ (c .before .before .loop .inv) (c .part-end .ensures .0) (c .part-end .ensures .1), c .before .before .loop .inv .cap, c .before .before .loop .inv .len)
 
--- src/parts.rt:109:165
 mul-rows : tie.Need-mul-rows Inv-loop μ-loop
 mul-rows c = omega (arith, going-in _ (c .before .before .loop .inv) (c .part-end .ensures .0) (c .part-end .ensures .1), c .before .before .loop .inv .cap, c .before .before .loop .inv .len)
 
--- src/parts.rt:109:165
 sub-rows : tie.Need-sub-rows Inv-loop μ-loop
 sub-rows c = omega arith
 
--- src/parts.rt:109:165
 part-rows-start : tie.Need-part-rows-start Inv-loop μ-loop
 part-rows-start c = search needs
 
--- src/parts.rt:109:165
 part-rows-end : tie.Need-part-rows-end Inv-loop μ-loop
 part-rows-end c = going-in _ (c .before .before .loop .inv) (c .part-end .ensures .0) (c .part-end .ensures .1)
 
--- src/parts.rt:109:9
 rows-requires : tie.Need-rows-requires Inv-loop μ-loop
 rows-requires c κs = (c .before .before .before .before .before .before .before .before .before .before .before .before .before .before .before .before .pre .0, c .before .before .before .before .before .before .before .before .before .before .before .before .before .before .before .before .pre .1, omega (arith, c .before .part-end .ensures .0, c .before .part-end .ensures .1), c .before .before .before .before .before .before .before .before .before .before .before .before .before .before .before .before .pre .2, going-part _ (c .before .before .before .loop .inv) (c .before .part-end .ensures .0) (c .before .part-end .ensures .1), c .before .before .before .loop .inv .word4, c .before .before .before .loop .inv .acc≡, c .before .before .before .loop .inv .verdict≡)
 
--- src/parts.rt:105:5
 loop-less : tie.Need-loop-less Inv-loop μ-loop
 loop-less c = omega (arith, c .before .before .before .before .part-end .ensures .0, c .before .before .before .before .part-end .ensures .1)
 
--- src/parts.rt:105:5
 loop-again : tie.Need-loop-again Inv-loop μ-loop
 loop-again c = going-turn _ (c .before .before .before .before .before .before .loop .inv) (c .before .before .before .before .part-end .ensures .0) (c .before .before .before .before .part-end .ensures .1) (c .before .before .rows .result) _ (c .before .before .rows .ensures)
 
--- src/parts.rt:83:1
 same-length : tie.Need-same-length Inv-loop μ-loop
 same-length c = omega (arith, c .before .loop .inv .len)
 
--- src/parts.rt:83:1
 returns : tie.Need-returns Inv-loop μ-loop
 returns c = going-ends (c .before .loop .inv) (search needs)
 

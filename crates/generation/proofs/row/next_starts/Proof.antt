@@ -4,55 +4,37 @@ use Rattle.generation.proofs.Starting.{tuple-room, multiplicity-room, f
 use borrow.Author.Needs.{needs}
 use Rattle.generation.proofs.row.next_starts.Statement.{statement}
 use Rattle.generation.proofs.row.next_starts.Tie as tie
-use Rattle.generation.proofs.row.next_starts.Reads as reads
-use Rattle.generation.proofs.row.next_starts.Lts as lts
-use Rattle.column.proofs.fractions.start_of.Reads as start-of-reads
-use Rattle.expression.proofs.words.index.Reads as index-reads
-use Rattle.lookup.proofs.types.flag_count.Reads as flag-count-reads
-use Rattle.lookup.proofs.types.multiplicity_count.Reads as multiplicity-count-reads
-use Rattle.lookup.proofs.types.tuple_count.Reads as tuple-count-reads
 
--- src/row.rt:61:27
 tuple-count-requires : tie.Need-tuple-count-requires
 tuple-count-requires c κs = search needs
 
--- src/row.rt:61:21
 index-requires : tie.Need-index-requires
 index-requires c κs = search needs
 
--- src/row.rt:61:14
 add-to : tie.Need-add-to
 add-to c = omega (arith, tuple-room (c .before .before .before .before .before .before .before .pre .0) (c .before .before .before .before .before .before .before .pre .1) (c .before .before .before .before .before .before .before .pre .2), c .index .ensures .0, c .before .tuple-count .ensures)
 
--- src/row.rt:62:48
 multiplicity-count-requires : tie.Need-multiplicity-count-requires
 multiplicity-count-requires c κs = search needs
 
--- src/row.rt:62:42
 index-requires-2 : tie.Need-index-requires-2
 index-requires-2 c κs = search needs
 
--- src/row.rt:62:24
 add-multiplicity : tie.Need-add-multiplicity
 add-multiplicity c = omega (arith, multiplicity-room (c .before .before .before .before .before .before .before .before .before .before .pre .0) (c .before .before .before .before .before .before .before .before .before .before .pre .1) (c .before .before .before .before .before .before .before .before .before .before .pre .2), c .before .index2 .ensures .0, c .before .before .multiplicity-count .ensures)
 
--- src/row.rt:63:32
 flag-count-requires : tie.Need-flag-count-requires
 flag-count-requires c κs = search needs
 
--- src/row.rt:63:26
 index-requires-3 : tie.Need-index-requires-3
 index-requires-3 c κs = search needs
 
--- src/row.rt:63:16
 add-flag : tie.Need-add-flag
 add-flag c = omega (arith, flag-room (c .before .before .before .before .before .before .before .before .before .before .before .before .before .pre .0) (c .before .before .before .before .before .before .before .before .before .before .before .before .before .pre .1) (c .before .before .before .before .before .before .before .before .before .before .before .before .before .pre .2), c .before .index3 .ensures .0, c .before .before .flag-count .ensures)
 
--- src/row.rt:64:9
 start-of-requires : tie.Need-start-of-requires
 start-of-requires c κs = (omega arith, omega (arith, tuple-room (c .before .before .before .before .before .before .before .before .before .before .before .before .before .pre .0) (c .before .before .before .before .before .before .before .before .before .before .before .before .before .pre .1) (c .before .before .before .before .before .before .before .before .before .before .before .before .before .pre .2), c .before .before .before .before .before .before .index .ensures .0, c .before .before .before .before .before .before .before .tuple-count .ensures), element-room (c .before .before .before .before .before .before .before .before .before .before .before .before .before .pre .0) (c .before .before .before .before .before .before .before .before .before .before .before .before .before .pre .1) (c .before .before .before .before .before .before .before .before .before .before .before .before .before .pre .2) (c .before .before .before .before .before .before .index .ensures .0 ∙ c .before .before .before .before .before .before .before .tuple-count .ensures), element-from (c .before .before .before .before .before .before .before .before .before .before .before .before .before .pre .0) (c .before .before .before .before .before .before .before .before .before .before .before .before .before .pre .1) (c .before .before .before .before .before .before .before .before .before .before .before .before .before .pre .2))
 
--- src/row.rt:56:1
 returns : tie.Need-returns
 returns c = next-is (c .before .before .before .before .before .before .before .before .before .before .before .before .before .before .pre .0) (c .before .before .before .before .before .before .before .before .before .before .before .before .before .before .pre .1) (c .before .before .before .before .before .before .before .before .before .before .before .before .before .before .pre .2) (c .before .before .before .before .before .before .before .index .ensures .0 ∙ c .before .before .before .before .before .before .before .before .tuple-count .ensures) (c .before .before .before .before .before .index2 .ensures .0 ∙ c .before .before .before .before .before .before .multiplicity-count .ensures) (c .before .before .index3 .ensures .0 ∙ c .before .before .before .flag-count .ensures) (c .start-of .ensures)
 

@@ -1,27 +1,20 @@
 use borrow.Author.Tests.{ne-eqb}
 use Rattle.logup.specs.Rows.{fault-refusal}
-use borrow.Author.Needs.{needs}
 use Rattle.generation.proofs.row.verdict_of.Statement.{statement}
 use Rattle.generation.proofs.row.verdict_of.Tie as tie
-use Rattle.generation.proofs.row.verdict_of.Reads as reads
-use Rattle.generation.proofs.row.verdict_of.Lts as lts
 
--- src/row.rt:44:1
 returns : tie.Need-returns
 unfolding fault-refusal
 returns c = rw (c .match .keys1)
 
--- src/row.rt:44:1
 returns-2 : tie.Need-returns-2
 unfolding fault-refusal
 returns-2 c = rw (c .match .keys2)
 
--- src/row.rt:44:1
 returns-3 : tie.Need-returns-3
 unfolding fault-refusal
 returns-3 c = rw (c .match .keys3)
 
--- src/row.rt:44:1
 returns-4 : tie.Need-returns-4
 unfolding fault-refusal
 returns-4 c = let r = c .match .rest in simp (ne-eqb _ _ (r .1), ne-eqb _ _ (r .0 .1), ne-eqb _ _ (r .0 .0 .1))
