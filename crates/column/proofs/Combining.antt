@@ -1,0 +1,74 @@
+-- The turns of the loop over a tuple's elements.
+use mathlib.Core.Path.{_≡_, refl, sym, ap, ap₂, _∙_, subst}
+use mathlib.Core.List.{List, [], _∷_, map}
+use Prim.Native.Nat.{ℕ, zero, suc, _+_, _-_, _<_, _≤_, zero-le}
+use native.Mathlib.Numerals.{add-one}
+use native.Mathlib.Omega.{arith}
+use lib.ListN.{length, getD}
+use Rattle.field.specs.declared.extension.Ext.{Ext}
+use Rattle.field.specs.Ext.{ws}
+use Rattle.field.specs.Element.{Word4, zero4, add4, scale4, power4, sum4}
+use Rattle.expression.specs.Words.{word}
+use Rattle.logup.specs.Tuple.{exponent, combine}
+use Rattle.column.specs.Powers.{beta-of, Powers}
+use Rattle.column.specs.laws.Powers.{word-zero, power-at, power-word}
+
+-- element j with its power
+abbrev term : ℕ → ℕ → List ℕ → List ℕ → ℕ → List ℕ
+term p w beta es j = scale4 p (word es j) (power4 p w beta (exponent (length es) j))
+
+pub record Combining (p w : ℕ) (ps : List (List ℕ)) (vals nodes : List ℕ) (k j : ℕ) (sum : Ext) : Type 0 where
+  pub powers : Powers p w ps
+  pub small : k ≤ 8
+  pub size : k ≡ length nodes
+  pub within : j ≤ k
+  pub word4 : Word4 p (ws sum)
+  pub sum≡ : ws sum ≡ sum4 p (term p w (beta-of ps) (map (word vals) nodes)) j
+
+pub combining-begins : {p w : ℕ} {ps : List (List ℕ)} {vals nodes : List ℕ} {k : ℕ} {sum : Ext} → 1 < p → Powers p w ps → k ≤ 8 → k ≡ length nodes → ws sum ≡ zero4
+    → Combining p w ps vals nodes k 0 sum
+unfolding sum4
+combining-begins {p} h pw sm l e = record { powers = pw; small = sm; size = l; within = zero-le; word4 = subst (Word4 p) (sym e) (word-zero p h); sum≡ = e }
+
+map-length : (f : ℕ → ℕ) (l : List ℕ) → length (map f l) ≡ length l
+map-length f [] = refl
+map-length f (x ∷ l) = ap suc (map-length f l)
+
+map-at : (f : ℕ → ℕ) (l : List ℕ) (j : ℕ) → j < length l → word (map f l) j ≡ f (word l j)
+map-at f [] j h = absurd (omega arith)
+map-at f (x ∷ l) zero h = refl
+map-at f (x ∷ l) (suc j) h = map-at f l j (omega arith)
+
+pub combining-turn : {p w : ℕ} {ps : List (List ℕ)} {vals nodes : List ℕ} {k j v : ℕ} {sum next m : Ext} → Combining p w ps vals nodes k j sum → j < k
+    → v ≡ word vals (word nodes j) → ws m ≡ scale4 p v (getD ps (k - 1 - j) []) → Word4 p (ws next) × (ws next ≡ add4 p (ws sum) (ws m))
+    → Combining p w ps vals nodes k (j + 1) next
+unfolding sum4
+combining-turn {p} {w} {ps} {vals} {nodes} {k} {j} {v} {sum} {next} {m} s h ev em (q, e) =
+    record {
+      powers = s .powers;
+      small = s .small;
+      size = s .size;
+      within = omega arith;
+      word4 = q;
+      sum≡ = rw (add-one j) (e ∙ ap₂ (add4 p) (s .sum≡) (em ∙ ap₂ (scale4 p) value power));
+    }
+  where
+    len : length (map (word vals) nodes) ≡ k
+    len = map-length (word vals) nodes ∙ sym (s .size)
+
+    power : getD ps (k - 1 - j) [] ≡ power4 p w (beta-of ps) (exponent (length (map (word vals) nodes)) j)
+    power = power-at p w ps (k - 1 - j) (s .powers) (omega (arith, s .small)) ∙ ap (λ (n : ℕ). power4 p w (beta-of ps) (exponent n j)) (sym len)
+
+    value : v ≡ word (map (word vals) nodes) j
+    value = ev ∙ sym (map-at (word vals) nodes j (omega (arith, s .size)))
+
+pub combining-ends : {p w : ℕ} {ps : List (List ℕ)} {vals nodes : List ℕ} {k j : ℕ} {sum : Ext} → Combining p w ps vals nodes k j sum → k ≤ j
+    → Word4 p (ws sum) × (ws sum ≡ combine p w (beta-of ps) (map (word vals) nodes))
+unfolding combine
+combining-ends {p} {w} {ps} {vals} {nodes} {k} {j} s h =
+    let e : j ≡ length nodes = omega (arith, s .within, s .size) in
+    (s .word4, s .sum≡ ∙ ap (sum4 p (term p w (beta-of ps) (map (word vals) nodes))) (e ∙ sym (map-length (word vals) nodes)))
+
+-- the power that a turn takes
+pub power-taken : {p w : ℕ} {ps : List (List ℕ)} {vals nodes : List ℕ} {k j : ℕ} {sum : Ext} → Combining p w ps vals nodes k j sum → 1 < p → j < k → Word4 p (getD ps (k - 1 - j) [])
+power-taken {p} {w} {ps} {k = k} {j} s big h = power-word p w ps (k - 1 - j) big (s .powers) (omega (arith, s .small))

@@ -1,0 +1,76 @@
+use native.Mathlib.Omega.{arith}
+use Prim.Native.Nat.{ℕ, _-_, _<_}
+use mathlib.Core.Path.{refl, sym, subst}
+use Rattle.column.proofs.Combining.{Combining, combining-begins, combining-turn, combining-ends, power-taken}
+use borrow.Author.Needs.{needs}
+use Rattle.column.proofs.tuple.combine.Statement.{statement}
+use Rattle.column.proofs.tuple.combine.Tie as tie
+
+abbrev Inv-loop : tie.InvT-loop
+Inv-loop p w vals nodes powers k sum₀ j₀ sum j = Combining p w powers vals nodes k j sum
+
+abbrev μ-loop : tie.MeasureT-loop
+μ-loop p w vals nodes powers k sum₀ j₀ sum j = k - j
+
+loop-holds : tie.Need-loop-holds Inv-loop μ-loop
+loop-holds c = combining-begins (omega (arith, c .before .before .pre .0 .modulus .big)) (c .before .before .pre .1) (c .before .before .pre .2) refl refl
+
+mul-value : tie.Need-mul-value Inv-loop μ-loop
+mul-value c = search needs
+
+shared-slice-read-value : tie.Need-shared-slice-read-value Inv-loop μ-loop
+shared-slice-read-value c = search needs
+
+value-requires : tie.Need-value-requires Inv-loop μ-loop
+value-requires c κs = search needs
+
+sub-power : tie.Need-sub-power Inv-loop μ-loop
+sub-power c = search needs
+
+sub-power-2 : tie.Need-sub-power-2 Inv-loop μ-loop
+sub-power-2 c = search needs
+
+mul-power : tie.Need-mul-power Inv-loop μ-loop
+mul-power c = search needs
+
+array-copy-out-power : tie.Need-array-copy-out-power Inv-loop μ-loop
+array-copy-out-power c = search needs
+
+scaled-requires : tie.Need-scaled-requires Inv-loop μ-loop
+scaled-requires c κs = (c .before .before .before .before .before .before .before .pre .0 .modulus, subst (λ (n : ℕ). n < c .before .before .before .before .before .before .before .args .p) (sym (c .before .value .ensures)) (c .before .before .before .before .before .before .before .pre .0 .below .each _), power-taken (c .before .before .before .before .loop .inv) (omega (arith, c .before .before .before .before .before .before .before .pre .0 .modulus .big)) (search needs))
+
+add-requires : tie.Need-add-requires Inv-loop μ-loop
+add-requires c κs = search needs
+
+add-j : tie.Need-add-j Inv-loop μ-loop
+add-j c = search needs
+
+loop-less : tie.Need-loop-less Inv-loop μ-loop
+loop-less c = search needs
+
+loop-again : tie.Need-loop-again Inv-loop μ-loop
+loop-again c = combining-turn (c .before .before .before .before .before .before .loop .inv) (search needs) (c .before .before .before .value .ensures) (c .before .scaled .ensures .1) (c .add .ensures)
+
+returns : tie.Need-returns Inv-loop μ-loop
+returns c = combining-ends (c .before .loop .inv) (search needs)
+
+pub combine-spec : {M : Type 1} → statement M
+combine-spec =
+    tie.close
+    (tie.spec
+    Inv-loop
+    μ-loop
+    loop-holds
+    mul-value
+    shared-slice-read-value
+    value-requires
+    sub-power
+    sub-power-2
+    mul-power
+    array-copy-out-power
+    scaled-requires
+    add-requires
+    add-j
+    loop-less
+    loop-again
+    returns)

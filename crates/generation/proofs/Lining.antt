@@ -1,0 +1,123 @@
+-- The turns of the loop over the lookups of a row.
+use mathlib.Core.Path.{_≡_, refl, sym, ap, ap₂, _∙_, subst}
+use mathlib.Core.Bool.{Bool, true, false, cond}
+use mathlib.Core.Option.{Option, none, some}
+use mathlib.Core.List.{List, [], _∷_, _++_}
+use Prim.Native.Nat.{ℕ, zero, suc, _+_, _*_, _-_, _<_, _≤_, zero-le}
+use native.Mathlib.Nat.{zero-add}
+use native.Mathlib.Numerals.{add-one}
+use native.Mathlib.Omega.{arith}
+use lib.ListN.{length, take, drop, length-append}
+use borrow.Rule.Slice.PartMut.{putMid}
+use Rattle.lists.specs.Count.{total, or-else, first, joined}
+use Rattle.lists.specs.laws.Count.{first-one, joined-one}
+use Rattle.lists.specs.laws.Filled.{Filled, filled-none, filled-part, filled-whole}
+use Rattle.lists.specs.laws.Parts.{part-length}
+use Rattle.field.specs.declared.extension.Ext.{Ext}
+use Rattle.field.specs.Ext.{ws}
+use Rattle.field.specs.Element.{Word4, zero4, add4, scale4, sum4}
+use Rattle.expression.specs.Refusal.{refusal}
+use Rattle.expression.specs.declared.refusal.Refusal.{Refusal}
+use Rattle.expression.specs.declared.refusal.Verdict.{Verdict}
+use Rattle.expression.specs.declared.refusal.Verdict.the-variants.{Accepted}
+use Rattle.lookup.specs.Lookups.{Lookups, lent-lookups, lookup-count, exclusive, tuple-start, multiplicity-start, flag-start, element-start}
+use Rattle.logup.specs.Tuple.{quotient4}
+use Rattle.logup.specs.Column.{Place, branches, multiplicity, flag, used-denom, chosen, branch-fraction, exclusive-fraction, additive-fraction, fraction, fault}
+use Rattle.logup.specs.Rows.{fault-refusal, place, fraction-at, row-sum, fault-at, row-fault}
+use Rattle.column.specs.laws.Powers.{word-zero}
+use Rattle.generation.specs.Ready.{Stands}
+use Rattle.generation.specs.declared.row.Starts.{Starts}
+
+pub record Lining (p w : ℕ) (lookups tuples mults flags elements cs vals : List ℕ) (r : ℕ) (d : List ℕ) (n : ℕ) (out : List ℕ) (sum : Ext) (verdict : Verdict) (at : Starts) (word i : ℕ) : Type 0 where
+  pub cap : 4 * length d < 18446744073709551616
+  pub count : n ≡ lookup-count lookups
+  pub within : i ≤ n
+  pub stands : Stands lookups tuples i at
+  pub word≡ : word ≡ 4 * i
+  pub size : length d ≡ 4 * n
+  pub len : length out ≡ 4 * n
+  pub out≡ : Filled d (joined (fraction-at p w (lent-lookups lookups [] tuples mults flags elements) cs (λ _. vals) r) 0 i) word out
+  pub word4 : Word4 p (ws sum)
+  pub sum≡ : ws sum ≡ sum4 p (fraction-at p w (lent-lookups lookups [] tuples mults flags elements) cs (λ _. vals) r) i
+  pub verdict≡ : refusal verdict ≡ first (fault-at p w (lent-lookups lookups [] tuples mults flags elements) cs (λ _. vals) r) i
+
+stands-zero : (lookups tuples : List ℕ) → Stands lookups tuples 0 (record { tuple = 0; multiplicity = 0; flag = 0; element = 0 })
+unfolding tuple-start multiplicity-start flag-start element-start total
+stands-zero lookups tuples = record { tuple≡ = refl; multiplicity≡ = refl; flag≡ = refl; element≡ = refl }
+
+pub lining-begins : {p w : ℕ} {lookups tuples mults flags elements cs vals : List ℕ} {r n : ℕ} {d : List ℕ} → 4 * length d < 18446744073709551616 → 1 < p → n ≡ lookup-count lookups → length d ≡ 4 * lookup-count lookups
+    → Lining p w lookups tuples mults flags elements cs vals r d n d (record { c0 = 0; c1 = 0; c2 = 0; c3 = 0 }) Accepted (record { tuple = 0; multiplicity = 0; flag = 0; element = 0 }) 0 0
+unfolding joined first sum4
+lining-begins {p} {lookups = lookups} {tuples} c big e l =
+    record { cap = c; count = e; within = zero-le; stands = stands-zero lookups tuples; word≡ = refl; size = omega arith; len = omega arith; out≡ = filled-none; word4 = word-zero p big; sum≡ = refl; verdict≡ = refl }
+
+pub lining-turn : {p w : ℕ} {lookups tuples mults flags elements cs vals : List ℕ} {r n : ℕ} {d out : List ℕ} {sum sum′ v : Ext} {verdict verdict′ : Verdict} {at end : Starts} {word i f : ℕ} (ys : List ℕ) (x : Verdict)
+    → Lining p w lookups tuples mults flags elements cs vals r d n out sum verdict at word i → i < n → Stands lookups tuples (i + 1) end
+    → Word4 p (ws v) × (ws v ≡ fraction-at p w (lent-lookups lookups [] tuples mults flags elements) cs (λ _. vals) 0 i)
+    × (f ≡ fault p w (place p w (lent-lookups lookups [] tuples mults flags elements) cs (λ _. vals) 0 i))
+    → ys ≡ ws v → Word4 p (ws sum′) × (ws sum′ ≡ add4 p (ws sum) (ws v)) → refusal x ≡ fault-refusal f r i → refusal verdict′ ≡ or-else (refusal verdict) (refusal x)
+    → Lining p w lookups tuples mults flags elements cs vals r d n (putMid word (word + 4 - word) out ys) sum′ verdict′ end (word + 4) (i + 1)
+unfolding sum4 first fraction-at fault-at place
+lining-turn {p} {w} {lookups} {tuples} {mults} {flags} {elements} {cs} {vals} {r} {n} {d} {out} {sum} {sum′} {v} {verdict} {verdict′} {at} {end} {word} {i} {f} ys x s h st (q, ev, ef) ey (qs, es) ex eo =
+    record {
+      cap = s .cap;
+      count = s .count;
+      within = omega arith;
+      stands = st;
+      word≡ = omega (arith, s .word≡);
+      size = s .size;
+      len = grown .len ∙ s .size;
+      out≡ = grown;
+      word4 = qs;
+      sum≡ = rw (add-one i) (es ∙ ap₂ (add4 p) (s .sum≡) ev);
+      verdict≡ = rw (add-one i) (eo ∙ ap₂ or-else (s .verdict≡) (ex ∙ ap (λ (n : ℕ). fault-refusal n r i) ef));
+    }
+  where
+    grown : Filled d (joined (fraction-at p w (lent-lookups lookups [] tuples mults flags elements) cs (λ _. vals) r) 0 (i + 1)) (word + 4) (putMid word (word + 4 - word) out ys)
+    grown =
+        filled-part ys (s .out≡) (omega arith) (omega (arith, s .size, s .word≡)) (ap length ey ∙ omega arith)
+        (joined-one (fraction-at p w (lent-lookups lookups [] tuples mults flags elements) cs (λ _. vals) r) 0 i
+        ∙ ap (λ (y : List ℕ). joined (fraction-at p w (lent-lookups lookups [] tuples mults flags elements) cs (λ _. vals) r) 0 i ++ y)
+        (ap (fraction-at p w (lent-lookups lookups [] tuples mults flags elements) cs (λ _. vals) r) (zero-add i) ∙ sym ev ∙ sym ey))
+
+pub lining-ends : {p w : ℕ} {lookups tuples mults flags elements cs vals : List ℕ} {r n : ℕ} {d out : List ℕ} {sum : Ext} {verdict : Verdict} {at : Starts} {word i : ℕ}
+    → Lining p w lookups tuples mults flags elements cs vals r d n out sum verdict at word i → n ≤ i
+    → Word4 p (ws sum) × (ws sum ≡ row-sum p w (lent-lookups lookups [] tuples mults flags elements) cs (λ _. vals) r)
+    × (refusal verdict ≡ row-fault p w (lent-lookups lookups [] tuples mults flags elements) cs (λ _. vals) r)
+    × (out ≡ joined (fraction-at p w (lent-lookups lookups [] tuples mults flags elements) cs (λ _. vals) r) 0 (lookup-count lookups))
+unfolding row-sum row-fault
+lining-ends {p} {w} {lookups} {tuples} {mults} {flags} {elements} {cs} {vals} {r} {n} {i = i} s h =
+    let e : i ≡ lookup-count lookups = omega (arith, s .within, s .count) in (
+      s .word4,
+      s .sum≡ ∙ ap (sum4 p _) e,
+      s .verdict≡ ∙ ap (first _) e,
+      filled-whole (s .out≡) (omega (arith, s .word≡, s .size)) ∙ ap (joined (fraction-at p w (lent-lookups lookups [] tuples mults flags elements) cs (λ _. vals) r) 0) e,
+    )
+
+pub word-in : {p w : ℕ} {lookups tuples mults flags elements cs vals : List ℕ} {r n : ℕ} {d out : List ℕ} {sum : Ext} {verdict : Verdict} {at : Starts} {word i : ℕ}
+    → Lining p w lookups tuples mults flags elements cs vals r d n out sum verdict at word i → i < n → word + 4 ≤ length out
+word-in s h = omega (arith, s .word≡, s .len)
+
+pub word-part : {p w : ℕ} {lookups tuples mults flags elements cs vals : List ℕ} {r n : ℕ} {d out : List ℕ} {sum : Ext} {verdict : Verdict} {at : Starts} {word i : ℕ}
+    → Lining p w lookups tuples mults flags elements cs vals r d n out sum verdict at word i → i < n → length (take (word + 4 - word) (drop word out)) ≡ 4
+word-part {out = out} {word = word} s h = part-length out word (word + 4) (omega arith) (word-in s h) ∙ omega arith
+
+-- a fraction is four words
+option-four : (p w : ℕ) (c : Place) (o : Option ℕ) → length (branch-fraction p w c o) ≡ 4
+unfolding quotient4 scale4
+option-four p w c none = refl
+option-four p w c (some k) = refl
+
+sum-four : (p : ℕ) (f : ℕ → List ℕ) (n : ℕ) → length (sum4 p f n) ≡ 4
+unfolding sum4 add4
+sum-four p f zero = refl
+sum-four p f (suc n) = refl
+
+cond-four : (b : Bool) (x y : List ℕ) → length x ≡ 4 → length y ≡ 4 → length (cond b x y) ≡ 4
+cond-four true x y h k = h
+cond-four false x y h k = k
+
+pub fraction-four : (p w : ℕ) (c : Place) → length (fraction p w c) ≡ 4
+unfolding fraction exclusive-fraction additive-fraction
+fraction-four p w c =
+    cond-four (exclusive (c .lookups .lookups) (c .lookup)) _ _ (option-four p w c (chosen (flag c) (branches c))) (sum-four p (λ k. quotient4 p w (multiplicity c k) (used-denom p w c k)) (branches c))
