@@ -10,8 +10,8 @@ use Rattle.expression.specs.Node.{node}
 use Rattle.expression.specs.Window.{Window}
 use Rattle.expression.specs.Values.{node-value, values}
 use Rattle.expression.specs.Valid.{Slots}
-use Rattle.expression.specs.laws.Below.{below-set, below-zeros}
-use Rattle.expression.specs.laws.Values.{values-one, drop-zeros}
+use Rattle.expression.specs.laws.Below.{below-set, below-zeros, drop-zeros}
+use Rattle.expression.specs.laws.Values.{values-one}
 use Rattle.expression.specs.declared.node.Node.{Node}
 use Rattle.expression.specs.declared.node.Node.the-variants.{Constant, Main, Preprocessed, PublicValue, FirstRow, LastRow, Transition, Sum, Difference, Product, Negation, Unknown}
 

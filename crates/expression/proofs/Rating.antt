@@ -14,9 +14,8 @@ use Rattle.expression.specs.Words.{all-within}
 use Rattle.expression.specs.Node.{node}
 use Rattle.expression.specs.Degree.{node-degree, degrees}
 use Rattle.expression.specs.Valid.{Slots}
-use Rattle.expression.specs.laws.Below.{below-set, below-zeros}
+use Rattle.expression.specs.laws.Below.{below-set, below-zeros, drop-zeros}
 use Rattle.expression.specs.laws.Degree.{degrees-one, degree-pad, within-snoc}
-use Rattle.expression.specs.laws.Values.{drop-zeros}
 use Rattle.expression.specs.declared.node.Node.{Node}
 
 -- the tests of the first i degrees gave ok; while it holds, the degrees stand in b, which was zeros

@@ -1,6 +1,5 @@
 pub mod Words
 pub mod Refusal
-pub mod Answer
 pub mod Limits
 pub mod Node
 pub mod Window

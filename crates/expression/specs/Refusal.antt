@@ -5,6 +5,7 @@ use mathlib.Core.Option.{Option, none, some}
 use mathlib.Core.List.{List, [], _∷_}
 use Rattle.expression.specs.declared.refusal.Refusal.{Refusal}
 use Rattle.expression.specs.declared.refusal.Refusal.the-variants.{SizeAtOdds, WordTooLarge, NodeInvalid, DegreeTooHigh, LookupInvalid, WidthsDiffer, WeightTooLarge, ChallengesMissing, RowsMissing, TraceTooSmall, TerminalMisplaced, WidthZero, FlagNotBinary, TwoFlags, DenominatorZero, WorkspaceFull, ConstraintNotZero, NetNotZero, HeightSumTooLarge, TerminalsNotZero}
+use Rattle.expression.specs.declared.refusal.ThreeDetails.{ThreeDetails}
 use Rattle.expression.specs.declared.refusal.Verdict.{Verdict}
 use Rattle.expression.specs.declared.refusal.Verdict.the-variants.{Accepted, Refused}
 
@@ -51,6 +52,10 @@ details (ConstraintNotZero row place) = row ∷ place ∷ 0 ∷ []
 details (NetNotZero group slot net) = group ∷ slot ∷ net ∷ []
 details (HeightSumTooLarge sum) = sum ∷ 0 ∷ 0 ∷ []
 details TerminalsNotZero = 0 ∷ 0 ∷ 0 ∷ []
+
+-- the code's three details, as a list
+abbrev pub the-details : ThreeDetails → List ℕ
+the-details d = d .first ∷ d .second ∷ d .third ∷ []
 
 -- what a verdict refuses, if anything
 abbrev pub refusal : Verdict → Option Refusal

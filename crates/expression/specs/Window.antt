@@ -41,10 +41,11 @@ window t r =
       height = t .shape .height;
     }
 
--- the window over two rows of main and two of the preprocessed trace that are lent
+-- the row at an offset, of two that are lent
 abbrev pub two : List ℕ → List ℕ → ℕ → List ℕ
 two current next o = cond (eqb o 0) current next
 
+-- the window over two rows of main and two of the preprocessed trace that are lent
 abbrev pub lent-window : List ℕ → List ℕ → List ℕ → List ℕ → List ℕ → ℕ → ℕ → Window
 lent-window main0 main1 pre0 pre1 public-values row height =
     record { main = two main0 main1; preprocessed = two pre0 pre1; public-values = public-values; row = row; height = height }

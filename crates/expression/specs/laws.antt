@@ -1,5 +1,6 @@
 pub mod Below
 pub mod Values
+pub mod Window
 pub mod Degree
 pub mod Tested
 pub mod Cases

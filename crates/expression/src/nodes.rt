@@ -5,7 +5,6 @@ use crate::sizes::Shape;
 use crate::words::all_below;
 use crate::words::index;
 ghost use mathlib.Core.Path.{_≡_};
-ghost use lib.ListN.{length};
 ghost use Rattle.expression.specs.Window.{lent-traces};
 ghost use Rattle.expression.specs.Tests.{traces-below, constant-below, constants-below, node-known, nodes-known};
 ghost use Rattle.expression.specs.declared.sizes.Shape as Sizes;

@@ -2,8 +2,7 @@
 ghost use mathlib.Core.Path.{_≡_};
 ghost use mathlib.Core.List.{[], _∷_};
 ghost use Rattle.lists.specs.Count.{or-else};
-ghost use Rattle.expression.specs.Refusal.{number, details, refusal};
-ghost use Rattle.expression.specs.Answer.{the-details};
+ghost use Rattle.expression.specs.Refusal.{number, details, the-details, refusal};
 
 pub enum Refusal {
     // 1: a size is over a limit or at odds with a slice, or main has no columns.

@@ -34,7 +34,7 @@ fn at_offset(current: &[u32], next: &[u32], o: u32, a: u32) -> u32
 
 // The value of a lower node.
 fn value(vals: &[u32; 1024], a: u32) -> u32
-    requires { ⌜ (a < 1024) × (length (now vals) ≡ 1024) ⌝ }
+    requires { ⌜ a < 1024 ⌝ }
     ensures { λ r. ⌜ r ≡ word (now (vals .entry)) a ⌝ }
 {
     vals[index(a)]

@@ -2,10 +2,10 @@
 use mathlib.Core.Path.{_≡_, refl, ap, _∙_}
 use mathlib.Core.Bool.{Bool, true, false, cond}
 use mathlib.Core.List.{List, [], _∷_, _++_}
-use Prim.Native.Nat.{ℕ, zero, suc, _+_, _*_, _<_, _≤_}
+use Prim.Native.Nat.{ℕ, zero, suc, _+_, _*_, _-_, _<_, _≤_}
 use native.Mathlib.Omega.{arith}
 use lib.Dec.{eqb, leb, ltb}
-use lib.ListN.{length, take, drop, set, replicate, getD, List·getD-eq-default}
+use lib.ListN.{length, take, drop, set, replicate, List·getD-eq-default}
 use lib.Seq.{getD-drop}
 use borrow.Author.Tests.{ltb-true, ltb-false, leb-true}
 use Rattle.lists.specs.Count.{every}
@@ -37,6 +37,12 @@ pub word-zeros : (l : List ℕ) (n a : ℕ) → word (l ++ replicate n 0) a ≡ 
 word-zeros [] n a = zeros-word n a
 word-zeros (x ∷ l) n zero = refl
 word-zeros (x ∷ l) n (suc a) = word-zeros l n a
+
+-- zeros, from i on, are zeros
+pub drop-zeros : (i m : ℕ) → _≡_ {A = List ℕ} (drop i (replicate m 0)) (replicate (m - i) 0)
+drop-zeros zero m = let e : m ≡ m - 0 = omega arith in ap (λ (n : ℕ). replicate n 0) e
+drop-zeros (suc i) zero = let e : 0 ≡ 0 - suc i = omega arith in ap (λ (n : ℕ). replicate n 0) e
+drop-zeros (suc i) (suc m) = let e : m - i ≡ suc m - suc i = omega arith in drop-zeros i m ∙ ap (λ (n : ℕ). replicate n 0) e
 
 pub below-zeros : {p : ℕ} (n : ℕ) → 0 < p → Below p (replicate n 0)
 below-zeros {p} n h = record { each = λ j. rw (zeros-word n j) h }

@@ -7,12 +7,11 @@ use Rattle.lists.specs.Count.{every}
 use Rattle.field.specs.Modulus.{babybear}
 use Rattle.expression.specs.Words.{all-below, all-within}
 use Rattle.expression.specs.Limits.{cabinet}
-use Rattle.expression.specs.Node.{decode, node, node-count}
+use Rattle.expression.specs.Node.{decode, node}
 use Rattle.expression.specs.Window.{Traces, row-of, window}
 use Rattle.expression.specs.Values.{bit, node-value, values, row-values}
 use Rattle.expression.specs.Degree.{node-degree, degrees}
 use Rattle.expression.specs.Tests.{traces-within, traces-below, constants-below, nodes-known, degrees-low}
-use Rattle.expression.specs.declared.sizes.Shape.{Shape}
 
 pub record Case : Type 0 where
   pub computed : List ℕ

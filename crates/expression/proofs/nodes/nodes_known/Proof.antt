@@ -1,9 +1,7 @@
 use Rattle.expression.specs.Tests.{nodes-known, node-known}
 use Rattle.expression.specs.Node.{node}
 use Rattle.expression.proofs.Turns.{Testing, begins, turn, ends}
-use mathlib.Core.Path.{_∙_, ap}
-use lib.ListN.{length}
-use Prim.Native.Nat.{_-_, _/_}
+use Prim.Native.Nat.{_-_}
 use borrow.Author.Needs.{needs}
 use Rattle.expression.proofs.nodes.nodes_known.Statement.{statement}
 use Rattle.expression.proofs.nodes.nodes_known.Tie as tie

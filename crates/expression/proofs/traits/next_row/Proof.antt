@@ -1,4 +1,4 @@
-use Rattle.expression.specs.laws.Values.{wraps}
+use Rattle.expression.specs.laws.Window.{wraps}
 use native.Mathlib.Nat.{mod-eq-of-lt}
 use mathlib.Core.Path.{sym}
 use borrow.Author.Needs.{needs}

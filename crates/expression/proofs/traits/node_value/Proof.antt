@@ -62,10 +62,10 @@ enum-known-n-5 : tie.Need-enum-known-n-5
 enum-known-n-5 c = search needs
 
 value-requires : tie.Need-value-requires
-value-requires c κs = ((rw (c .before .n5 .given .1) at (c .before .before .before .before .before .before .before .before .pre .1)) .0, c .before .before .before .before .before .before .before .before .pre .2 .size)
+value-requires c κs = (rw (c .before .n5 .given .1) at (c .before .before .before .before .before .before .before .before .pre .1)) .0
 
 value-requires-2 : tie.Need-value-requires-2
-value-requires-2 c κs = ((rw (c .before .before .n5 .given .1) at (c .before .before .before .before .before .before .before .before .before .pre .1)) .1, c .before .before .before .before .before .before .before .before .before .pre .2 .size)
+value-requires-2 c κs = (rw (c .before .before .n5 .given .1) at (c .before .before .before .before .before .before .before .before .before .pre .1)) .1
 
 add-requires : tie.Need-add-requires
 add-requires c κs = (c .before .before .before .before .before .before .before .before .before .before .pre .0 .modulus, rw (c .before .value .ensures) (c .before .before .before .before .before .before .before .before .before .before .pre .2 .below .each _), rw (c .value2 .ensures) (c .before .before .before .before .before .before .before .before .before .before .pre .2 .below .each _))
@@ -74,10 +74,10 @@ enum-known-n-6 : tie.Need-enum-known-n-6
 enum-known-n-6 c = search needs
 
 value-requires-3 : tie.Need-value-requires-3
-value-requires-3 c κs = ((rw (c .before .n6 .given .1) at (c .before .before .before .before .before .before .before .before .pre .1)) .0, c .before .before .before .before .before .before .before .before .pre .2 .size)
+value-requires-3 c κs = (rw (c .before .n6 .given .1) at (c .before .before .before .before .before .before .before .before .pre .1)) .0
 
 value-requires-4 : tie.Need-value-requires-4
-value-requires-4 c κs = ((rw (c .before .before .n6 .given .1) at (c .before .before .before .before .before .before .before .before .before .pre .1)) .1, c .before .before .before .before .before .before .before .before .before .pre .2 .size)
+value-requires-4 c κs = (rw (c .before .before .n6 .given .1) at (c .before .before .before .before .before .before .before .before .before .pre .1)) .1
 
 sub-requires : tie.Need-sub-requires
 sub-requires c κs = (c .before .before .before .before .before .before .before .before .before .before .pre .0 .modulus, rw (c .before .value3 .ensures) (c .before .before .before .before .before .before .before .before .before .before .pre .2 .below .each _), rw (c .value4 .ensures) (c .before .before .before .before .before .before .before .before .before .before .pre .2 .below .each _))
@@ -86,10 +86,10 @@ enum-known-n-7 : tie.Need-enum-known-n-7
 enum-known-n-7 c = search needs
 
 value-requires-5 : tie.Need-value-requires-5
-value-requires-5 c κs = ((rw (c .before .n7 .given .1) at (c .before .before .before .before .before .before .before .before .pre .1)) .0, c .before .before .before .before .before .before .before .before .pre .2 .size)
+value-requires-5 c κs = (rw (c .before .n7 .given .1) at (c .before .before .before .before .before .before .before .before .pre .1)) .0
 
 value-requires-6 : tie.Need-value-requires-6
-value-requires-6 c κs = ((rw (c .before .before .n7 .given .1) at (c .before .before .before .before .before .before .before .before .before .pre .1)) .1, c .before .before .before .before .before .before .before .before .before .pre .2 .size)
+value-requires-6 c κs = (rw (c .before .before .n7 .given .1) at (c .before .before .before .before .before .before .before .before .before .pre .1)) .1
 
 mul-requires : tie.Need-mul-requires
 mul-requires c κs = (c .before .before .before .before .before .before .before .before .before .before .pre .0 .modulus, rw (c .before .value5 .ensures) (c .before .before .before .before .before .before .before .before .before .before .pre .2 .below .each _), rw (c .value6 .ensures) (c .before .before .before .before .before .before .before .before .before .before .pre .2 .below .each _))
@@ -98,7 +98,7 @@ enum-known-n-8 : tie.Need-enum-known-n-8
 enum-known-n-8 c = search needs
 
 value-requires-7 : tie.Need-value-requires-7
-value-requires-7 c κs = ((rw (c .before .n8 .given .1) at (c .before .before .before .before .before .before .before .before .pre .1)), c .before .before .before .before .before .before .before .before .pre .2 .size)
+value-requires-7 c κs = (rw (c .before .n8 .given .1) at (c .before .before .before .before .before .before .before .before .pre .1))
 
 neg-requires : tie.Need-neg-requires
 neg-requires c κs = (c .before .before .before .before .before .before .before .before .before .pre .0 .modulus, rw (c .value7 .ensures) (c .before .before .before .before .before .before .before .before .before .pre .2 .below .each _))

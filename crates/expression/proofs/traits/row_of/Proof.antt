@@ -1,4 +1,4 @@
-use Rattle.expression.specs.laws.Values.{row-fits}
+use Rattle.expression.specs.laws.Window.{row-fits}
 use Rattle.expression.specs.Window.{row-of}
 use lib.ListN.{length}
 use native.Mathlib.Omega.{arith}

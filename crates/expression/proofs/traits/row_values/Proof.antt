@@ -1,4 +1,4 @@
-use Rattle.expression.specs.laws.Values.{rows-cut, nodes-ready, filled-cut}
+use Rattle.expression.specs.laws.Window.{rows-cut, nodes-ready, filled-cut}
 use borrow.Author.Needs.{needs}
 use Rattle.expression.proofs.traits.row_values.Statement.{statement}
 use Rattle.expression.proofs.traits.row_values.Tie as tie
