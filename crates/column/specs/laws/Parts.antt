@@ -109,10 +109,12 @@ module _ {p w : ℕ} {c d : Place} (s : Same p w c d) where
       where
         over : some-of (λ k. ltb 1 (flag c k)) (branches c) ≡ some-of (λ k. ltb 1 (flag d k)) (branches d)
         over = ap (some-of (λ k. ltb 1 (flag c k))) (s .counts) ∙ some-of-same (λ k. ltb 1 (flag c k)) (λ k. ltb 1 (flag d k)) (branches d) (λ k h. ap (ltb 1) (s .flags x k h))
+
         ones : total (λ k. bit (eqb (flag c k) 1)) (branches c) ≡ total (λ k. bit (eqb (flag d k) 1)) (branches d)
         ones =
             ap (total (λ k. bit (eqb (flag c k) 1))) (s .counts)
             ∙ total-same (λ k. bit (eqb (flag c k) 1)) (λ k. bit (eqb (flag d k) 1)) (branches d) (λ k h. ap (λ (n : ℕ). bit (eqb n 1)) (s .flags x k h))
+
         last : branch-fault p w c (chosen (flag c) (branches c)) ≡ branch-fault p w d (chosen (flag d) (branches d))
         last = ap (branch-fault p w c) choice ∙ branch-fault-same (flag d) (branches d) (omega arith)
 
@@ -196,8 +198,13 @@ module _ (l : Lookups) (n : ℕ) (f : Fitting l) (g : Agreeing n l) (i : ℕ) (h
       → element-start (l .tuples) (tuple-start (l .lookups) i) + (element-start (own-widths l i) k + word (own-widths l i) k) ≤ element-start (l .tuples) (tuple-start (l .lookups) (i + 1))
   unfolding element-start
   tuple-in k t =
-      omega (arith, own-start k (omega arith), own-width k t, tuples-next,
-      total-in (word (l .tuples)) (tuple-start (l .lookups) i + k) (tuple-start (l .lookups) (i + 1)) (omega (arith, tuples-next)))
+      omega (
+        arith,
+        own-start k (omega arith),
+        own-width k t,
+        tuples-next,
+        total-in (word (l .tuples)) (tuple-start (l .lookups) i + k) (tuple-start (l .lookups) (i + 1)) (omega (arith, tuples-next)),
+      )
 
   own-nodes-at : (k : ℕ) → k < tuple-count (l .lookups) i → tuple-nodes (parted l i) 0 k ≡ tuple-nodes l i k
   unfolding tuple-nodes tuple-width tuple-start total
