@@ -14,14 +14,14 @@ use Rattle.field.specs.Ext.{ws}
 use Rattle.field.specs.declared.extension.Ext.{Ext}
 use Rattle.field.specs.Element.{Word4, zero4, one4, lift, add4, sub4, mul4, scale4, sum4, product4}
 use Rattle.expression.specs.Words.{word}
-use Rattle.lookup.specs.Lookups.{tuple-count, element-start, exclusive}
-use Rattle.logup.specs.Tuple.{denominator}
+use Rattle.lookup.specs.Lookups.{tuple-count, element-start, exclusive, tuple-nodes, tuple-width, multiplicity-node}
+use Rattle.logup.specs.Tuple.{tuple, denominator}
 use Rattle.logup.specs.Column.{Place, branches, multiplicity, flag, denom}
 use Rattle.logup.specs.Constraints.{others, additive-numerator, additive-denominator, exclusive-numerator, exclusive-denominator, numerator, common-denominator}
 use Rattle.column.specs.Powers.{beta-of}
 use Rattle.column.specs.Own.{own-place, Fits}
 use Rattle.column.specs.laws.Own.{start-next, start-in, own-multiplicity, own-flag, own-tuple}
-use Rattle.constraints.specs.Terms.{Summed}
+use Rattle.constraints.specs.Terms.{Summed, Chosen, vanishing}
 use Rattle.constraints.specs.laws.Sums.{numerator-to, numerator-next}
 use Rattle.constraints.specs.declared.terms.Terms.{Terms}
 use Rattle.constraints.specs.declared.terms.Branches.{Branches}
@@ -192,32 +192,48 @@ weighing-ends {p} {w} {powers} {alpha} {own} {widths} {mults} {flags} {nodes} {v
     let e : k ≡ tuple-count own 0 = omega (arith, s .walk .within, s .walk .size) in
     subst (Summed p w (own-place own widths mults flags nodes vals (ws alpha) (beta-of powers)) t) e (s .sums)
 
-pub exclusive-ends : {p w : ℕ} {powers : List (List ℕ)} {alpha : Ext} {own widths mults flags nodes vals : List ℕ} {t : Branches} {rest denominator : Ext}
-    → Summed p w (own-place own widths mults flags nodes vals (ws alpha) (beta-of powers)) t (tuple-count own 0)
+pub exclusive-ends : {p w : ℕ} {c : Place} {n : ℕ} {t : Branches} {rest denominator : Ext} → Summed p w c t n → n ≡ branches c
     → Word4 p (ws rest) × (ws rest ≡ sub4 p one4 (ws (t .flags)))
     → Word4 p (ws denominator) × (ws denominator ≡ add4 p (ws (t .denominator)) (ws rest))
-    → Word4 p (ws (t .numerator)) × Word4 p (ws denominator)
-    × (ws (t .numerator) ≡ exclusive-numerator p w (own-place own widths mults flags nodes vals (ws alpha) (beta-of powers)))
-    × (ws denominator ≡ exclusive-denominator p w (own-place own widths mults flags nodes vals (ws alpha) (beta-of powers)))
-unfolding exclusive-numerator exclusive-denominator branches
-exclusive-ends {p} s (_, er) (k, ed) = (
+    → Word4 p (ws (t .numerator)) × Word4 p (ws denominator) × (ws (t .numerator) ≡ exclusive-numerator p w c) × (ws denominator ≡ exclusive-denominator p w c)
+unfolding exclusive-numerator exclusive-denominator
+exclusive-ends {p} {w} {c} {n} s e (_, er) (k, ed) = (
   s .numerator-below,
   k,
-  s .numerator-is,
-  ed ∙ ap₂ (add4 p) (s .denominator-is) (er ∙ ap (sub4 p one4) (s .flags-are)),
+  s .numerator-is ∙ ap (sum4 p _) e,
+  ed ∙ ap₂ (add4 p) (s .denominator-is ∙ ap (sum4 p _) e) (er ∙ ap (sub4 p one4) (s .flags-are ∙ ap (sum4 p _) e)),
 )
 
-pub flags-enough : {e : Bool} {own flags : List ℕ} → e ≡ exclusive own 0 → e ≡ true → length flags ≡ cond (exclusive own 0) (tuple-count own 0) 0 → tuple-count own 0 ≤ length flags
-flags-enough {e} {own} {flags} x y z = let k : length flags ≡ tuple-count own 0 = z ∙ ap (λ (b : Bool). cond b (tuple-count own 0) 0) (sym x ∙ y) in omega arith
+pub flags-enough : {e : Bool} (own flags : List ℕ) → e ≡ exclusive own 0 → e ≡ true → length flags ≡ cond (exclusive own 0) (tuple-count own 0) 0 → tuple-count own 0 ≤ length flags
+flags-enough {e} own flags x y z = let k : length flags ≡ tuple-count own 0 = z ∙ ap (λ (b : Bool). cond b (tuple-count own 0) 0) (sym x ∙ y) in omega arith
 
--- the terms of the lookup, whichever kind it is
-pub record Chosen (p w : ℕ) (c : Place) (t : Terms) : Type 0 where
-  pub numerator-below : Word4 p (ws (t .numerator))
-  pub denominator-below : Word4 p (ws (t .denominator))
-  pub numerator-is : ws (t .numerator) ≡ numerator p w c
-  pub denominator-is : ws (t .denominator) ≡ common-denominator p w c
-
-pub chosen-exclusive : {p w : ℕ} {c : Place} {t : Terms} → exclusive (c .lookups .lookups) (c .lookup) ≡ true
+pub chosen-exclusive : {p w : ℕ} {t : Terms} (c : Place) → exclusive (c .lookups .lookups) (c .lookup) ≡ true
     → Word4 p (ws (t .numerator)) × Word4 p (ws (t .denominator)) × (ws (t .numerator) ≡ exclusive-numerator p w c) × (ws (t .denominator) ≡ exclusive-denominator p w c) → Chosen p w c t
 unfolding numerator common-denominator
-chosen-exclusive e (a, b, n, d) = record { numerator-below = a; denominator-below = b; numerator-is = rw e n; denominator-is = rw e d }
+chosen-exclusive c e (a, b, n, d) = record { numerator-below = a; denominator-below = b; numerator-is = n ∙ rw e; denominator-is = d ∙ rw e }
+
+pub chosen-additive : {p w : ℕ} {t : Terms} (c : Place) → exclusive (c .lookups .lookups) (c .lookup) ≡ false
+    → Word4 p (ws (t .numerator)) × Word4 p (ws (t .denominator)) × (ws (t .numerator) ≡ additive-numerator p w c) × (ws (t .denominator) ≡ additive-denominator p w c) → Chosen p w c t
+unfolding numerator common-denominator
+chosen-additive c e (a, b, n, d) = record { numerator-below = a; denominator-below = b; numerator-is = n ∙ rw e; denominator-is = d ∙ rw e }
+
+-- an additive lookup reads no flags
+pub without-flags : (p w : ℕ) (own widths mults flags nodes vals alpha beta : List ℕ)
+    → (additive-numerator p w (own-place own widths mults [] nodes vals alpha beta) ≡ additive-numerator p w (own-place own widths mults flags nodes vals alpha beta))
+    × (additive-denominator p w (own-place own widths mults [] nodes vals alpha beta) ≡ additive-denominator p w (own-place own widths mults flags nodes vals alpha beta))
+unfolding additive-numerator additive-denominator others branches multiplicity denom tuple tuple-nodes tuple-width multiplicity-node
+without-flags p w own widths mults flags nodes vals alpha beta = (refl, refl)
+
+pub chosen-by-sums : {e : Bool} {p w : ℕ} {t : Terms} (own widths mults flags nodes vals alpha beta : List ℕ) → e ≡ exclusive own 0 → e ≡ false
+    → Word4 p (ws (t .numerator)) × Word4 p (ws (t .denominator))
+    × (ws (t .numerator) ≡ additive-numerator p w (own-place own widths mults [] nodes vals alpha beta))
+    × (ws (t .denominator) ≡ additive-denominator p w (own-place own widths mults [] nodes vals alpha beta))
+    → Chosen p w (own-place own widths mults flags nodes vals alpha beta) t
+chosen-by-sums {p = p} {w = w} own widths mults flags nodes vals alpha beta x y (a, b, n, d) =
+    let k = without-flags p w own widths mults flags nodes vals alpha beta in
+    chosen-additive (own-place own widths mults flags nodes vals alpha beta) (sym x ∙ y) (a, b, n ∙ k .0, d ∙ k .1)
+
+pub constraint-ends : {p w : ℕ} {c : Place} {t : Terms} {product r : List ℕ} (cell : List ℕ) → Chosen p w c t
+    → product ≡ mul4 p w (ws (t .denominator)) cell → r ≡ sub4 p product (ws (t .numerator)) → r ≡ vanishing p w c cell
+unfolding vanishing
+constraint-ends {p} {w} cell s e f = f ∙ ap₂ (sub4 p) (e ∙ ap (λ (x : List ℕ). mul4 p w x cell) (s .denominator-is)) (s .numerator-is)

@@ -7,6 +7,7 @@ use Rattle.field.specs.Ext.{ws}
 use Rattle.logup.specs.Column.{Place, multiplicity, flag, denom}
 use Rattle.logup.specs.Constraints.{numerator, common-denominator}
 use Rattle.constraints.specs.declared.terms.Branches.{Branches}
+use Rattle.constraints.specs.declared.terms.Terms.{Terms}
 
 -- flag · multiplicity, flag · denominator and flags, over the first n branches
 pub record Summed (p w : ℕ) (c : Place) (t : Branches) (n : ℕ) : Type 0 where
@@ -16,6 +17,13 @@ pub record Summed (p w : ℕ) (c : Place) (t : Branches) (n : ℕ) : Type 0 wher
   pub numerator-is : ws (t .numerator) ≡ sum4 p (λ k. scale4 p (flag c k) (lift (multiplicity c k))) n
   pub denominator-is : ws (t .denominator) ≡ sum4 p (λ k. scale4 p (flag c k) (denom p w c k)) n
   pub flags-are : ws (t .flags) ≡ sum4 p (λ k. lift (flag c k)) n
+
+-- the terms of the lookup, whichever kind it is
+pub record Chosen (p w : ℕ) (c : Place) (t : Terms) : Type 0 where
+  pub numerator-below : Word4 p (ws (t .numerator))
+  pub denominator-below : Word4 p (ws (t .denominator))
+  pub numerator-is : ws (t .numerator) ≡ numerator p w c
+  pub denominator-is : ws (t .denominator) ≡ common-denominator p w c
 
 -- common denominator × fraction - numerator
 unfoldable pub vanishing : ℕ → ℕ → Place → List ℕ → List ℕ

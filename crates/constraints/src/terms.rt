@@ -9,7 +9,7 @@ ghost use Rattle.field.specs.Element.{Word4, one4, lift, add4, sub4, mul4, scal
 ghost use Rattle.field.specs.Ext.{ws};
 ghost use Rattle.lookup.specs.Lookups.{tuple-count, exclusive};
 ghost use Rattle.logup.specs.Constraints.{additive-numerator, additive-denominator, exclusive-numerator, exclusive-denominator, numerator, common-denominator};
-ghost use Rattle.constraints.specs.Terms.{Summed, vanishing};
+ghost use Rattle.constraints.specs.Terms.{Summed, Chosen, vanishing};
 ghost use mathlib.Core.Bool.{cond};
 ghost use Rattle.column.specs.Powers.{beta-of, Powers};
 ghost use Rattle.column.specs.Own.{own-place, Able, Fits};
@@ -217,6 +217,50 @@ pub fn compute_exclusive_terms(
     }
 }
 
+// The terms of a lookup by its own parts.
+fn compute_terms(
+    p: u32,
+    w: u32,
+    powers: [[u32; 4]; 8],
+    alpha: Ext,
+    own: &[u32],
+    widths: &[u32],
+    multiplicities: &[u32],
+    flags: &[u32],
+    nodes: &[u32],
+    vals: &[u32],
+) -> Terms
+    requires { ⌜ Able p w (now vals) × Powers p w powers × Word4 p (ws alpha) × Fits (now own) (now widths) (now multiplicities) (now nodes)
+        × (length (now flags) ≡ cond (exclusive (now own) 0) (tuple-count (now own) 0) 0) ⌝ }
+    ensures { λ r. ⌜ Chosen p w (own-place (now (own .entry)) (now (widths .entry)) (now (multiplicities .entry)) (now (flags .entry)) (now (nodes .entry)) (now (vals .entry)) (ws alpha) (beta-of powers)) r ⌝ }
+{
+    if types::exclusive(own, 0) {
+        return compute_exclusive_terms(
+            p,
+            w,
+            powers,
+            alpha,
+            own,
+            widths,
+            multiplicities,
+            flags,
+            nodes,
+            vals,
+        );
+    }
+    compute_combined_sum_terms(
+        p,
+        w,
+        powers,
+        alpha,
+        own,
+        widths,
+        multiplicities,
+        nodes,
+        vals,
+    )
+}
+
 // A lookup by its own parts: common denominator × fraction - numerator.
 pub fn lookup_constraint(
     p: u32,
@@ -235,32 +279,18 @@ pub fn lookup_constraint(
         × (length (now flags) ≡ cond (exclusive (now own) 0) (tuple-count (now own) 0) 0) × Word4 p (ws cell) ⌝ }
     ensures { λ r. ⌜ Word4 p (ws r) × (ws r ≡ vanishing p w (own-place (now (own .entry)) (now (widths .entry)) (now (multiplicities .entry)) (now (flags .entry)) (now (nodes .entry)) (now (vals .entry)) (ws alpha) (beta-of powers)) (ws cell)) ⌝ }
 {
-    let t = if types::exclusive(own, 0) {
-        compute_exclusive_terms(
-            p,
-            w,
-            powers,
-            alpha,
-            own,
-            widths,
-            multiplicities,
-            flags,
-            nodes,
-            vals,
-        )
-    } else {
-        compute_combined_sum_terms(
-            p,
-            w,
-            powers,
-            alpha,
-            own,
-            widths,
-            multiplicities,
-            nodes,
-            vals,
-        )
-    };
+    let t = compute_terms(
+        p,
+        w,
+        powers,
+        alpha,
+        own,
+        widths,
+        multiplicities,
+        flags,
+        nodes,
+        vals,
+    );
     let n = t.numerator;
     let c = t.denominator;
     extension::sub(p, extension::mul(p, w, c, cell), n)

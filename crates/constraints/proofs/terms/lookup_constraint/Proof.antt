@@ -1,48 +1,21 @@
-use mathlib.Core.Logic.{⊎-elim}
-use Rattle.constraints.proofs.Turns.{flags-enough, Chosen, chosen-exclusive, chosen-additive, constraint-ends}
-use mathlib.Core.Path.{_≡_, ap, _∙_}
+use Rattle.constraints.proofs.Turns.{constraint-ends}
+use Rattle.field.specs.Ext.{ws}
 use borrow.Author.Needs.{needs}
 use Rattle.constraints.proofs.terms.lookup_constraint.Statement.{statement}
 use Rattle.constraints.proofs.terms.lookup_constraint.Tie as tie
-use Rattle.constraints.proofs.terms.lookup_constraint.Reads as reads
-use Rattle.constraints.proofs.terms.lookup_constraint.Lts as lts
-use Rattle.constraints.proofs.terms.compute_combined_sum_terms.Reads as compute-combined-sum-terms-reads
-use Rattle.constraints.proofs.terms.compute_exclusive_terms.Reads as compute-exclusive-terms-reads
-use Rattle.field.proofs.extension.mul.Reads as mul-reads
-use Rattle.field.proofs.extension.sub.Reads as sub-reads
-use Rattle.lookup.proofs.types.exclusive.Reads as exclusive-reads
 
--- src/terms.rt:238:16
-exclusive-requires : tie.Need-exclusive-requires
-exclusive-requires c κs = search needs
+compute-terms-requires : tie.Need-compute-terms-requires
+compute-terms-requires c κs = search needs
 
--- src/terms.rt:239:9
-compute-exclusive-terms-requires : tie.Need-compute-exclusive-terms-requires
-compute-exclusive-terms-requires c κs = (c .before .before .before .before .before .before .before .before .pre .0, c .before .before .before .before .before .before .before .before .pre .1, c .before .before .before .before .before .before .before .before .pre .2, c .before .before .before .before .before .before .before .before .pre .3, flags-enough (c .before .exclusive .ensures) (c .if1 .taken) (c .before .before .before .before .before .before .before .before .pre .4))
-
--- src/terms.rt:252:9
-compute-combined-sum-terms-requires : tie.Need-compute-combined-sum-terms-requires
-compute-combined-sum-terms-requires c κs = search needs
-
--- src/terms.rt:266:23
 mul-requires : tie.Need-mul-requires
-mul-requires c κs = ?
+mul-requires c κs = (c .before .before .before .before .before .before .before .before .before .pre .0 .modulus, c .before .before .before .before .before .before .before .before .before .pre .0 .low, c .before .before .compute-terms .ensures .denominator-below, c .before .before .before .before .before .before .before .before .before .pre .5)
 
--- src/terms.rt:266:5
 sub-requires : tie.Need-sub-requires
-sub-requires c κs = ?
+sub-requires c κs = (c .before .before .before .before .before .before .before .before .before .before .pre .0 .modulus, c .mul .ensures .0, c .before .before .before .compute-terms .ensures .numerator-below)
 
--- src/terms.rt:221:1
 returns : tie.Need-returns
-returns c = ?
+returns c = (c .sub .ensures .0, constraint-ends (ws (c .before .before .before .before .before .before .before .before .before .before .before .args .cell)) (c .before .before .before .before .compute-terms .ensures) (c .before .mul .ensures .1) (c .sub .ensures .1))
 
 pub lookup-constraint-spec : {M : Type 1} → statement M
 lookup-constraint-spec =
-    tie.close
-    (tie.spec
-    exclusive-requires
-    compute-exclusive-terms-requires
-    compute-combined-sum-terms-requires
-    mul-requires
-    sub-requires
-    returns)
+    tie.close (tie.spec compute-terms-requires mul-requires sub-requires returns)

@@ -6,13 +6,6 @@ use Rattle.constraints.proofs.Turns.{Weighing, weighing-turn, weighing-
 use borrow.Author.Needs.{needs}
 use Rattle.constraints.proofs.terms.sum_branches.Statement.{statement}
 use Rattle.constraints.proofs.terms.sum_branches.Tie as tie
-use Rattle.constraints.proofs.terms.sum_branches.Reads as reads
-use Rattle.constraints.proofs.terms.sum_branches.Lts as lts
-use Rattle.column.proofs.tuple.denominator.Reads as denominator-reads
-use Rattle.column.proofs.tuple.value.Reads as value-reads
-use Rattle.constraints.proofs.terms.add_branch.Reads as add-branch-reads
-use Rattle.expression.proofs.words.index.Reads as index-reads
-use Rattle.lookup.proofs.types.tuple_count.Reads as tuple-count-reads
 
 abbrev Inv-loop : tie.InvT-loop
 Inv-loop p w powers alpha own widths multiplicities flags nodes vals n t₀ at₀ k₀ t at k = Weighing p w powers alpha own widths multiplicities flags nodes vals n t at k
@@ -20,95 +13,72 @@ Inv-loop p w powers alpha own widths multiplicities flags nodes vals n t₀ at�
 abbrev μ-loop : tie.MeasureT-loop
 μ-loop p w powers alpha own widths multiplicities flags nodes vals n t₀ at₀ k₀ t at k = n - k
 
--- src/terms.rt:140:19
 tuple-count-requires : tie.Need-tuple-count-requires Inv-loop μ-loop
 tuple-count-requires c κs = search needs
 
--- src/terms.rt:140:9
 index-requires : tie.Need-index-requires Inv-loop μ-loop
 index-requires c κs = search needs
 
--- src/terms.rt:163:5
 loop-holds : tie.Need-loop-holds Inv-loop μ-loop
 loop-holds c = record { walk = walk-begins (c .before .before .before .before .before .before .before .before .pre .3) (c .index .ensures .0 ∙ c .before .tuple-count .ensures) (c .index .ensures .1) (omega arith); sums = summed-begins (omega (arith, c .before .before .before .before .before .before .before .before .pre .0 .modulus .big)) refl refl refl }
 
--- src/terms.rt:164:36
 mul-value : tie.Need-mul-value Inv-loop μ-loop
 mul-value c = search needs
 
--- src/terms.rt:164:36
 shared-slice-read-value : tie.Need-shared-slice-read-value Inv-loop μ-loop
 shared-slice-read-value c = search needs
 
--- src/terms.rt:164:13
 value-requires : tie.Need-value-requires Inv-loop μ-loop
 value-requires c κs = search needs
 
--- src/terms.rt:165:36
 mul-value-2 : tie.Need-mul-value-2 Inv-loop μ-loop
 mul-value-2 c = search needs
 
--- src/terms.rt:165:36
 shared-slice-read-value-2 : tie.Need-shared-slice-read-value-2 Inv-loop μ-loop
 shared-slice-read-value-2 c = search needs
 
--- src/terms.rt:165:13
 value-requires-2 : tie.Need-value-requires-2 Inv-loop μ-loop
 value-requires-2 c κs = search needs
 
--- src/terms.rt:166:30
 mul-index : tie.Need-mul-index Inv-loop μ-loop
 mul-index c = search needs
 
--- src/terms.rt:166:30
 shared-slice-read-index : tie.Need-shared-slice-read-index Inv-loop μ-loop
 shared-slice-read-index c = search needs
 
--- src/terms.rt:166:24
 index-requires-2 : tie.Need-index-requires-2 Inv-loop μ-loop
 index-requires-2 c κs = search needs
 
--- src/terms.rt:166:19
 add-end : tie.Need-add-end Inv-loop μ-loop
 add-end c = omega (arith, walk-in (c .before .before .before .before .before .before .before .loop .inv .walk) (c .before .before .before .before .before .before .loop-test .taken) (c .index2 .ensures .0), c .before .before .before .before .before .before .before .loop .inv .walk .memory)
 
--- src/terms.rt:167:63
 mul-denominator : tie.Need-mul-denominator Inv-loop μ-loop
 mul-denominator c = omega (arith, c .before .before .before .before .before .before .before .loop .inv .walk .room, c .before .before .before .before .before .before .before .loop .inv .walk .memory)
 
--- src/terms.rt:167:63
 sub-denominator : tie.Need-sub-denominator Inv-loop μ-loop
 sub-denominator c = search needs
 
--- src/terms.rt:167:63
 part-denominator-start : tie.Need-part-denominator-start Inv-loop μ-loop
 part-denominator-start c = search needs
 
--- src/terms.rt:167:63
 part-denominator-end : tie.Need-part-denominator-end Inv-loop μ-loop
 part-denominator-end c = walk-in (c .before .before .before .before .before .before .before .loop .inv .walk) (c .before .before .before .before .before .before .loop-test .taken) (c .index2 .ensures .0)
 
--- src/terms.rt:167:13
 denominator-requires : tie.Need-denominator-requires Inv-loop μ-loop
 denominator-requires c κs = (c .before .before .before .before .before .before .before .before .before .before .before .before .before .before .before .before .before .pre .0, c .before .before .before .before .before .before .before .before .before .before .before .before .before .before .before .before .before .pre .1, c .before .before .before .before .before .before .before .before .before .before .before .before .before .before .before .before .before .pre .2, walk-few (c .before .before .before .before .before .before .before .before .loop .inv .walk) (c .before .before .before .before .before .before .before .loop-test .taken) (c .before .index2 .ensures .0))
 
--- src/terms.rt:168:9
 add-branch-requires : tie.Need-add-branch-requires Inv-loop μ-loop
 add-branch-requires c κs = (c .before .before .before .before .before .before .before .before .before .before .before .before .before .before .before .before .before .before .pre .0 .modulus, c .before .before .before .before .before .before .before .before .before .loop .inv .sums .numerator-below, c .before .before .before .before .before .before .before .before .before .loop .inv .sums .denominator-below, c .before .before .before .before .before .before .before .before .before .loop .inv .sums .flags-below, subst (λ (n : ℕ). n < c .before .before .before .before .before .before .before .before .before .before .before .before .before .before .before .before .before .before .args .p) (sym (c .before .before .before .before .before .before .value .ensures)) (c .before .before .before .before .before .before .before .before .before .before .before .before .before .before .before .before .before .before .pre .0 .below .each _), subst (λ (n : ℕ). n < c .before .before .before .before .before .before .before .before .before .before .before .before .before .before .before .before .before .before .args .p) (sym (c .before .before .before .before .value2 .ensures)) (c .before .before .before .before .before .before .before .before .before .before .before .before .before .before .before .before .before .before .pre .0 .below .each _), c .denominator .ensures .0)
 
--- src/terms.rt:170:9
 add-k : tie.Need-add-k Inv-loop μ-loop
 add-k c = omega (arith, c .before .before .before .before .before .before .before .before .before .loop-test .taken, c .before .before .before .before .before .before .before .before .before .before .loop .inv .walk .few)
 
--- src/terms.rt:163:5
 loop-less : tie.Need-loop-less Inv-loop μ-loop
 loop-less c = search needs
 
--- src/terms.rt:163:5
 loop-again : tie.Need-loop-again Inv-loop μ-loop
 loop-again c = weighing-turn (c .before .before .before .before .before .before .before .before .before .before .loop .inv) (c .before .before .before .before .before .before .before .before .before .loop-test .taken) (c .before .before .before .before .before .before .before .value .ensures) (c .before .before .before .before .before .value2 .ensures) (c .before .before .before .index2 .ensures .0) (c .before .denominator .ensures .1) (c .add-branch .ensures)
 
--- src/terms.rt:125:1
 returns : tie.Need-returns Inv-loop μ-loop
 returns c = weighing-ends (c .before .loop .inv) (search needs)
 
