@@ -1,0 +1,2 @@
+// The constraints over a whole trace (`eval_all`).
+pub mod terms;
