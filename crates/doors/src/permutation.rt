@@ -1,0 +1,119 @@
+// Generation for callers that hold words.
+use expression::refusal;
+use expression::refusal::ThreeDetails;
+use expression::sizes::Shape;
+use generation::permutation::generate;
+use logup::logup::Generated;
+ghost use mathlib.Core.Path.{_≡_};
+ghost use Rattle.expression.specs.Refusal.{the-details};
+ghost use Rattle.expression.specs.Limits.{cabinet};
+ghost use Rattle.field.specs.Modulus.{babybear, babybear-w};
+ghost use Rattle.lookup.specs.Lookups.{lent-lookups};
+ghost use Rattle.lookup.specs.Table.{lent-table};
+ghost use Rattle.logup.specs.Generation.{answer-of, generation};
+ghost use Rattle.doors.specs.Generation.{answer-number, answer-details, answer-terminal, shape-of};
+
+// The number of an answer: 0 where nothing is refused.
+fn number(g: Generated) -> u32
+    ensures { λ r. ⌜ r ≡ answer-number (answer-of g) ⌝ }
+{
+    match g {
+        Generated::Terminal(_) => 0,
+        Generated::Absent => 0,
+        Generated::Refused(f) => refusal::number(f),
+    }
+}
+
+fn details(g: Generated) -> ThreeDetails
+    ensures { λ r. ⌜ the-details r ≡ answer-details (answer-of g) ⌝ }
+{
+    match g {
+        Generated::Terminal(_) => ThreeDetails {
+            first: 0,
+            second: 0,
+            third: 0,
+        },
+        Generated::Absent => ThreeDetails {
+            first: 0,
+            second: 0,
+            third: 0,
+        },
+        Generated::Refused(f) => refusal::details(f),
+    }
+}
+
+// 1 and the terminal's four words, or zeros where there is none.
+fn write_terminal(g: Generated, out: &mut [u32; 5])
+    ensures { λ _. ⌜ now (out .exit) ≡ answer-terminal (answer-of g) ⌝ }
+{
+    match g {
+        Generated::Terminal(t) => {
+            let e = t.0;
+            *out = [1u32, e.c0, e.c1, e.c2, e.c3];
+        }
+        Generated::Absent => {
+            *out = [0u32, 0, 0, 0, 0];
+        }
+        Generated::Refused(_) => {
+            *out = [0u32, 0, 0, 0, 0];
+        }
+    }
+}
+
+fn write_details(d: ThreeDetails, out: &mut [u64; 3])
+    ensures { λ _. ⌜ now (out .exit) ≡ the-details d ⌝ }
+{
+    *out = [d.first, d.second, d.third];
+}
+
+// `generate_permutation`: the number of the refusal is returned, 0 where there is none; its details, the terminal and the trace are written.
+#[no_mangle]
+pub extern "C" fn delmatik_generate(
+    main_width: usize,
+    height: usize,
+    pre_width: usize,
+    pre_height: usize,
+    main: &[u32],
+    preprocessed: &[u32],
+    public_values: &[u32],
+    nodes: &[u32],
+    lookups: &[u32],
+    names: &[u8],
+    tuples: &[u32],
+    multiplicities: &[u32],
+    flags: &[u32],
+    elements: &[u32],
+    challenges: &[u32],
+    trace: &mut [u32],
+    terminal: &mut [u32; 5],
+    details_out: &mut [u64; 3],
+) -> u32
+    ensures { λ r. ⌜ (r ≡ answer-number (generation cabinet babybear babybear-w (lent-table (shape-of «main_width» height «pre_width» «pre_height») (now (main .entry)) (now (preprocessed .entry)) (now («public_values» .entry)) (now (nodes .entry)) (lent-lookups (now (lookups .entry)) (now (names .entry)) (now (tuples .entry)) (now (multiplicities .entry)) (now (flags .entry)) (now (elements .entry)))) (now (challenges .entry)) (now (trace .entry)) .answer))
+        × (now («details_out» .exit) ≡ answer-details (generation cabinet babybear babybear-w (lent-table (shape-of «main_width» height «pre_width» «pre_height») (now (main .entry)) (now (preprocessed .entry)) (now («public_values» .entry)) (now (nodes .entry)) (lent-lookups (now (lookups .entry)) (now (names .entry)) (now (tuples .entry)) (now (multiplicities .entry)) (now (flags .entry)) (now (elements .entry)))) (now (challenges .entry)) (now (trace .entry)) .answer))
+        × (now (terminal .exit) ≡ answer-terminal (generation cabinet babybear babybear-w (lent-table (shape-of «main_width» height «pre_width» «pre_height») (now (main .entry)) (now (preprocessed .entry)) (now («public_values» .entry)) (now (nodes .entry)) (lent-lookups (now (lookups .entry)) (now (names .entry)) (now (tuples .entry)) (now (multiplicities .entry)) (now (flags .entry)) (now (elements .entry)))) (now (challenges .entry)) (now (trace .entry)) .answer))
+        × (now (trace .exit) ≡ generation cabinet babybear babybear-w (lent-table (shape-of «main_width» height «pre_width» «pre_height») (now (main .entry)) (now (preprocessed .entry)) (now («public_values» .entry)) (now (nodes .entry)) (lent-lookups (now (lookups .entry)) (now (names .entry)) (now (tuples .entry)) (now (multiplicities .entry)) (now (flags .entry)) (now (elements .entry)))) (now (challenges .entry)) (now (trace .entry)) .buffer) ⌝ }
+{
+    let g = generate(
+        Shape {
+            main_width,
+            height,
+            pre_width,
+            pre_height,
+        },
+        main,
+        preprocessed,
+        public_values,
+        nodes,
+        lookups,
+        names,
+        tuples,
+        multiplicities,
+        flags,
+        elements,
+        challenges,
+        trace,
+    );
+    write_terminal(g, terminal);
+    write_details(details(g), details_out);
+    number(g)
+}
