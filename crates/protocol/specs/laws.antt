@@ -1,1 +1,3 @@
 pub mod Prefixes
+pub mod Terminals
+pub mod Height

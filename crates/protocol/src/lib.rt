@@ -1,2 +1,3 @@
 // The small doors: prefixes, the terminals' sum, the height bound, counts.
 pub mod challenges;
+pub mod protocol;
