@@ -1,3 +1,4 @@
 pub mod Prefixes
 pub mod Terminals
 pub mod Height
+pub mod Count
