@@ -1,0 +1,93 @@
+use native.Mathlib.Omega.{arith}
+use mathlib.Core.Path.{refl}
+use lib.ListN.{length}
+use Prim.Native.Nat.{_-_, _+_, _*_}
+use Rattle.protocol.specs.laws.Height.{Weighed, weighed-none, weighed-next, weighed-all, part-in, part-few}
+use borrow.Author.Needs.{needs}
+use Rattle.protocol.proofs.protocol.height_sum.Statement.{statement}
+use Rattle.protocol.proofs.protocol.height_sum.Tie as tie
+
+abbrev Inv-loop : tie.InvT-loop
+Inv-loop lookups counts heights sum₀ at₀ t₀ sum at t = Weighed lookups counts heights t at sum
+
+abbrev μ-loop : tie.MeasureT-loop
+μ-loop lookups counts heights sum₀ at₀ t₀ sum at t = length counts - t
+
+loop-holds : tie.Need-loop-holds Inv-loop μ-loop
+loop-holds c = weighed-none
+
+mul-index : tie.Need-mul-index Inv-loop μ-loop
+mul-index c = search needs
+
+shared-slice-read-index : tie.Need-shared-slice-read-index Inv-loop μ-loop
+shared-slice-read-index c = search needs
+
+index-requires : tie.Need-index-requires Inv-loop μ-loop
+index-requires c κs = search needs
+
+mul-end : tie.Need-mul-end Inv-loop μ-loop
+mul-end c = search needs
+
+add-end : tie.Need-add-end Inv-loop μ-loop
+add-end c = search needs
+
+mul-table-weight : tie.Need-mul-table-weight Inv-loop μ-loop
+mul-table-weight c = search needs
+
+sub-table-weight : tie.Need-sub-table-weight Inv-loop μ-loop
+sub-table-weight c = search needs
+
+part-table-weight-start : tie.Need-part-table-weight-start Inv-loop μ-loop
+part-table-weight-start c = search needs
+
+part-table-weight-end : tie.Need-part-table-weight-end Inv-loop μ-loop
+part-table-weight-end c = part-in (c .before .before .before .before .before .before .before .pre .0) (c .before .before .before .loop .inv .start) (search needs) (c .index .ensures .0)
+
+mul-table-weight-2 : tie.Need-mul-table-weight-2 Inv-loop μ-loop
+mul-table-weight-2 c = search needs
+
+shared-slice-read-table-weight : tie.Need-shared-slice-read-table-weight Inv-loop μ-loop
+shared-slice-read-table-weight c = search needs
+
+table-weight-requires : tie.Need-table-weight-requires Inv-loop μ-loop
+table-weight-requires c κs = (part-few _ (c .before .before .before .before .before .before .before .before .before .pre .0) (c .before .before .before .before .before .loop .inv .start) (search needs) (c .before .before .index .ensures .0) refl, c .before .before .before .before .before .before .before .before .before .pre .2 _)
+
+add-sum : tie.Need-add-sum Inv-loop μ-loop
+add-sum c = search needs
+
+add-t : tie.Need-add-t Inv-loop μ-loop
+add-t c = search needs
+
+loop-less : tie.Need-loop-less Inv-loop μ-loop
+loop-less c = search needs
+
+loop-again : tie.Need-loop-again Inv-loop μ-loop
+loop-again c = weighed-next (c .before .before .before .before .before .before .before .before .before .before .pre .0 .placed) (c .before .before .before .before .before .before .loop .inv) (search needs) (c .before .before .before .index .ensures .0) (c .table-weight .ensures)
+
+returns : tie.Need-returns Inv-loop μ-loop
+returns c = weighed-all (c .before .loop .inv) (search needs)
+
+pub height-sum-spec : {M : Type 1} → statement M
+height-sum-spec =
+    tie.close
+    (tie.spec
+    Inv-loop
+    μ-loop
+    loop-holds
+    mul-index
+    shared-slice-read-index
+    index-requires
+    mul-end
+    add-end
+    mul-table-weight
+    sub-table-weight
+    part-table-weight-start
+    part-table-weight-end
+    mul-table-weight-2
+    shared-slice-read-table-weight
+    table-weight-requires
+    add-sum
+    add-t
+    loop-less
+    loop-again
+    returns)

@@ -1,0 +1,5 @@
+pub mod Prefixes
+pub mod Terminals
+pub mod Height
+pub mod Count
+pub mod Cases

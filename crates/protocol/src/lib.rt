@@ -1,0 +1,4 @@
+// The small doors: prefixes, the terminals' sum, the height bound, counts.
+pub mod challenges;
+pub mod count;
+pub mod protocol;
