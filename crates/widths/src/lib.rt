@@ -1,0 +1,2 @@
+// Bus widths, and the order of a table's lookups by bus.
+pub mod door;
