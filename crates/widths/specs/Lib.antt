@@ -1,3 +1,4 @@
 pub mod Order
 pub mod Widths
 pub mod Door
+pub mod laws
