@@ -1,3 +1,5 @@
 pub mod Lookups
 pub mod Table
 pub mod Tests
+pub mod Valid
+pub mod laws
