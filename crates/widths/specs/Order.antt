@@ -1,10 +1,10 @@
 -- The order in which packing and widths go through a table's lookups.
-use mathlib.Core.Bool.{Bool, true, false, cond, not, _&&_}
+use mathlib.Core.Bool.{Bool, true, false, cond, not, _&&_, _||_}
 use mathlib.Core.List.{List, [], _∷_, _++_}
 use Prim.Native.Nat.{ℕ, zero, suc}
 use lib.Dec.{eqb}
 use lib.ListN.{take, drop}
-use Rattle.lookup.specs.Lookups.{name-length, name-start}
+use Rattle.lookup.specs.Lookups.{on-bus, exclusive, name-length, name-start}
 
 module _ {A : Type 0} where
   -- the elements that pass a test, in order
@@ -37,6 +37,10 @@ same (x ∷ xs) (y ∷ ys) = eqb x y && same xs ys
 -- the name of lookup i
 unfoldable pub name-at : List ℕ → List ℕ → ℕ → List ℕ
 name-at lookups names i = take (name-length lookups i) (drop (name-start lookups i) names)
+
+-- the lookups that share nothing: locals; in packing exclusives too
+unfoldable pub alone-at : Bool → List ℕ → ℕ → Bool
+alone-at packing lookups i = cond packing (not (on-bus lookups i) || exclusive lookups i) (not (on-bus lookups i))
 
 -- n lookups by bus; the lookups that are `alone` belong to none
 module _ (alone : ℕ → Bool) (name : ℕ → List ℕ) where

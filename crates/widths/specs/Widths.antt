@@ -1,6 +1,6 @@
 -- Bus widths (`check_bus_widths`). Document 01, The other doors: "per table, buses by first appearance, then their tuples; answers the
 -- widest bus tuple, or 0". A lookup without tuples is an appearance too, and so is an exclusive one.
-use mathlib.Core.Bool.{Bool, cond, not, _&&_}
+use mathlib.Core.Bool.{false, cond, _&&_}
 use mathlib.Core.Option.{Option, none, some}
 use mathlib.Core.List.{List}
 use Prim.Native.Nat.{ℕ}
@@ -11,7 +11,7 @@ use Rattle.expression.specs.declared.refusal.Refusal.{Refusal}
 use Rattle.expression.specs.declared.refusal.Refusal.the-variants.{WidthsDiffer}
 use Rattle.lookup.specs.Lookups.{Lookups, lookup-count, on-bus, tuple-count, tuple-width}
 use Rattle.degree.specs.Sums.{greatest}
-use Rattle.widths.specs.Order.{same, name-at, arranged}
+use Rattle.widths.specs.Order.{same, name-at, alone-at, arranged}
 
 -- several tables, of which only the lookups, names and tuples count here
 pub record Tables : Type 0 where
@@ -38,7 +38,7 @@ tuple-refusal i (some e) width = cond (eqb width e) none (some (WidthsDiffer i e
 
 -- the lookups of a table, bus by bus; a local has none
 unfoldable pub by-bus : Lookups → List ℕ
-by-bus l = arranged (λ i. not (on-bus (l .lookups) i)) (name-at (l .lookups) (l .names)) (lookup-count (l .lookups))
+by-bus l = arranged (alone-at false (l .lookups)) (name-at (l .lookups) (l .names)) (lookup-count (l .lookups))
 
 unfoldable pub lookup-refusal : Tables → Lookups → ℕ → Option Refusal
 lookup-refusal ts l i =

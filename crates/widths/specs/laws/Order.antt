@@ -13,7 +13,7 @@ use Rattle.lists.specs.Tab.{tab}
 use Rattle.lists.specs.laws.Count.{last-or-below}
 use borrow.Author.Tests.{ltb-true, ltb-false, eqb-true, eqb-false, lt-ltb, le-ltb, eq-eqb, ne-eqb}
 use Rattle.degree.specs.Sums.{sum-of}
-use Rattle.widths.specs.Order.{keep, position, by-place, numbers, same}
+use Rattle.widths.specs.Order.{keep, position, by-place, numbers, same, same-bus, place, arranged}
 
 module _ {A : Type 0} where
   pub keep-append : (f : A → Bool) (xs ys : List A) → keep f (xs ++ ys) ≡ keep f xs ++ keep f ys
@@ -241,3 +241,50 @@ pub ones : {A : Type 0} (xs : List A) → sum-of (λ (x : A). 1) xs ≡ length x
 unfolding sum-of
 ones [] = refl
 ones (x ∷ xs) = omega (arith, ones xs)
+
+keep-in-cong : {A : Type 0} (q f : A → Bool) (xs : List A) → ((x : A) → List·Memᴰ x xs → q x ≡ f x) → keep q xs ≡ keep f xs
+unfolding keep
+keep-in-cong q f [] h = refl
+keep-in-cong {A} q f (x ∷ xs) h = rw (h x (List·Memᴰ·head refl), keep-in-cong q f xs (λ (y : A) m. h y (List·Memᴰ·tail m)))
+
+pub by-place-cong : {A : Type 0} (f g : A → ℕ) (k : ℕ) (xs : List A) → ((x : A) → List·Memᴰ x xs → f x ≡ g x) → by-place f k xs ≡ by-place g k xs
+unfolding by-place
+by-place-cong f g zero xs h = refl
+by-place-cong {A} f g (suc k) xs h =
+    ap₂ (λ (x y : List A). x ++ y) (by-place-cong f g k xs h) (keep-in-cong (λ (x : A). eqb (f x) k) (λ (x : A). eqb (g x) k) xs (λ (x : A) m. ap (λ (n : ℕ). eqb n k) (h x m)))
+
+pub getD-below : (xs : List ℕ) (n k : ℕ) → ((i : ℕ) → List·Memᴰ i xs → i < n) → 0 < n → getD xs k 0 < n
+getD-below [] n k h z = z
+getD-below (x ∷ xs) n zero h z = h x (List·Memᴰ·head refl)
+getD-below (x ∷ xs) n (suc k) h z = getD-below xs n k (λ (i : ℕ) m. h i (List·Memᴰ·tail m)) z
+
+-- the order of n lookups by bus
+module _ (alone : ℕ → Bool) (name : ℕ → List ℕ) (n : ℕ) where
+  -- every lookup has its place
+  pub place-in : (i : ℕ) → List·Memᴰ i (numbers n) → ltb (place alone name n i) (suc n) ≡ true
+  unfolding place same-bus
+  place-in i m = go (alone i) refl
+    where
+      self : alone i ≡ false → same-bus alone name i i ≡ true
+      self e = rw (e, same-refl (name i))
+
+      go : (b : Bool) → alone i ≡ b → ltb (cond b 0 (suc (position (same-bus alone name i) (numbers n)))) (suc n) ≡ true
+      go true e = lt-ltb 0 (suc n) (omega arith)
+      go false e =
+          let h : position (same-bus alone name i) (numbers n) < length (numbers n) = position-in (same-bus alone name i) (numbers n) m (self e) in
+          lt-ltb (suc (position (same-bus alone name i) (numbers n))) (suc n) (omega (arith, numbers-length n))
+
+  -- none is lost and none comes in: any sum over the lookups stays
+  pub arranged-sum : (g : ℕ → ℕ) → sum-of g (arranged alone name n) ≡ sum-of g (numbers n)
+  unfolding arranged
+  arranged-sum g = sum-by-place g (place alone name n) (suc n) (numbers n) ∙ ap (sum-of g) (keep-all (λ (i : ℕ). ltb (place alone name n i) (suc n)) (numbers n) place-in)
+
+  pub arranged-length : length (arranged alone name n) ≡ n
+  arranged-length = sym (ones (arranged alone name n)) ∙ arranged-sum (λ i. 1) ∙ ones (numbers n) ∙ numbers-length n
+
+  pub arranged-in : (i : ℕ) → List·Memᴰ i (arranged alone name n) → i < n
+  unfolding arranged
+  arranged-in i m = numbers-below n i (by-place-in (place alone name n) (suc n) (numbers n) m)
+
+  pub arranged-below : (k : ℕ) → 0 < n → getD (arranged alone name n) k 0 < n
+  arranged-below k h = getD-below (arranged alone name n) n k arranged-in h
