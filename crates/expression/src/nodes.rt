@@ -1,6 +1,6 @@
 // Refusals 2 and 3: the words are below p, and the nodes are known.
-use crate::node::node_at;
 use crate::node::Node;
+use crate::node::node_at;
 use crate::sizes::Shape;
 use crate::words::all_below;
 use crate::words::index;

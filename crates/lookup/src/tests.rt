@@ -6,20 +6,20 @@ use crate::types::flag_count;
 use crate::types::multiplicity_count;
 use crate::types::name_length;
 use crate::types::tuple_count;
+use expression::sizes::Limits;
+use expression::sizes::Shape;
 use expression::words::all_below;
 use expression::words::all_within;
 use expression::words::wide;
-use expression::sizes::Limits;
-use expression::sizes::Shape;
 ghost use mathlib.Core.Path.{_≡_};
 ghost use mathlib.Core.Bool.{cond};
-ghost use mathlib.Core.List.{[]};
-ghost use Prim.Native.Nat.{_+_, _*_, _<_, _≤_, _/_};
+ghost use mathlib.Core.List.{List};
+ghost use Prim.Native.Nat.{ℕ, _+_, _*_, _<_, _≤_, _/_};
 ghost use lib.Dec.{eqb, leb};
 ghost use lib.ListN.{length};
 ghost use Rattle.lists.specs.Count.{total, every};
 ghost use Rattle.expression.specs.Words.{word};
-ghost use Rattle.lookup.specs.Lookups.{Lookups, lookup-count, entry, name-length, column, exclusive, tuple-count, name-start, element-start};
+ghost use Rattle.lookup.specs.Lookups.{lent-lookups, lookup-count, entry, name-length, column, exclusive, tuple-count, name-start, element-start};
 ghost use Rattle.lookup.specs.Tests.{lookups-within, lookups-fit, lengths-agree, nodes-present, lists-agree, in-position, has-lookups, preprocessed-enough, rows-enough};
 
 // No name is longer than `most`.
@@ -100,7 +100,7 @@ pub fn lookups_fit(
     elements: &[u32],
 ) -> bool
     requires { ⌜ (lookup-count (now lookups) ≤ 4294967295) × (length (now tuples) ≤ 4294967295) ⌝ }
-    ensures { λ r. ⌜ r ≡ lookups-fit (record { lookups = now (lookups .entry); names = now (names .entry); tuples = now (tuples .entry); multiplicities = now (multiplicities .entry); flags = now (flags .entry); elements = now (elements .entry) }) ⌝ }
+    ensures { λ r. ⌜ r ≡ lookups-fit (lent-lookups (now (lookups .entry)) (now (names .entry)) (now (tuples .entry)) (now (multiplicities .entry)) (now (flags .entry)) (now (elements .entry))) ⌝ }
 {
     (lookups.len() % 8 == 0)
         & (names.len() as u64 == name_total(lookups))
@@ -146,7 +146,7 @@ fn all_agree(lookups: &[u32]) -> bool
 
 // Each node that a lookup names is one of the n nodes.
 pub fn nodes_present(n: u32, multiplicities: &[u32], flags: &[u32], elements: &[u32]) -> bool
-    ensures { λ r. ⌜ r ≡ nodes-present n (record { lookups = []; names = []; tuples = []; multiplicities = now (multiplicities .entry); flags = now (flags .entry); elements = now (elements .entry) }) ⌝ }
+    ensures { λ r. ⌜ ((lookups names tuples : List ℕ) → r ≡ nodes-present n (lent-lookups lookups names tuples (now (multiplicities .entry)) (now (flags .entry)) (now (elements .entry)))) ⌝ }
 {
     all_below(n, multiplicities) & all_below(n, flags) & all_below(n, elements)
 }
@@ -159,7 +159,7 @@ pub fn lists_agree(
     flags: &[u32],
     elements: &[u32],
 ) -> bool
-    ensures { λ r. ⌜ r ≡ lists-agree n (record { lookups = now (lookups .entry); names = []; tuples = []; multiplicities = now (multiplicities .entry); flags = now (flags .entry); elements = now (elements .entry) }) ⌝ }
+    ensures { λ r. ⌜ ((names tuples : List ℕ) → r ≡ lists-agree n (lent-lookups (now (lookups .entry)) names tuples (now (multiplicities .entry)) (now (flags .entry)) (now (elements .entry)))) ⌝ }
 {
     all_agree(lookups) & nodes_present(n, multiplicities, flags, elements)
 }

@@ -11,7 +11,7 @@ nodes-present-requires c κs = search needs
 
 returns : tie.Need-returns
 unfolding lists-agree nodes-present
-returns c = rw (c .before .all-agree .ensures, c .nodes-present .ensures)
+returns c names tuples = rw (c .before .all-agree .ensures, c .nodes-present .ensures (c .before .before .before .before .before .before .args .lookups .now) names tuples)
 
 pub lists-agree-spec : {M : Type 1} → statement M
 lists-agree-spec = tie.close (tie.spec all-agree-requires nodes-present-requires returns)

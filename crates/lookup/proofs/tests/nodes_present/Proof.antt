@@ -14,7 +14,7 @@ all-below-requires-3 c κs = search needs
 
 returns : tie.Need-returns
 unfolding nodes-present
-returns c = rw (c .before .before .all-below .ensures, c .before .all-below2 .ensures, c .all-below3 .ensures)
+returns c lookups names tuples = rw (c .before .before .all-below .ensures, c .before .all-below2 .ensures, c .all-below3 .ensures)
 
 pub nodes-present-spec : {M : Type 1} → statement M
 nodes-present-spec =
