@@ -38,12 +38,16 @@ bare lookups names tuples = record { lookups = lookups; names = names; tuples = 
 abbrev pub lent-lists : List ℕ → List ℕ → List ℕ → List ℕ → Lists
 lent-lists lookups names tuples sizes = record { lookups = lookups; names = names; tuples = tuples; sizes = sizes }
 
--- `all-fit`: the tables lie in the lists, and each table's names and tuples in its own
-pub record Tabled (l : Lists) : Type 0 where
+-- `lists-fit`: the tables lie in the lists
+pub record Spanned (l : Lists) : Type 0 where
   pub few : table-count (l .sizes) ≤ 16
   pub lookups : length (l .lookups) ≡ 8 * size-start (l .sizes) 0 (table-count (l .sizes))
   pub names : length (l .names) ≡ size-start (l .sizes) 1 (table-count (l .sizes))
   pub tuples : length (l .tuples) ≡ size-start (l .sizes) 2 (table-count (l .sizes))
+
+-- `all-fit`: and each table's names and tuples in its own
+pub record Tabled (l : Lists) : Type 0 where
+  pub spanned : Spanned l
   pub each : (t : ℕ) → t < table-count (l .sizes) → Listed (table-at l t .lookups) (table-at l t .names) (table-at l t .tuples)
 
 -- what the code's enum says

@@ -7,7 +7,7 @@ use lib.ListN.{length, take, drop}
 use Rattle.lists.specs.laws.Count.{total-in}
 use Rattle.lookup.specs.Lookups.{Lookups}
 use Rattle.widths.specs.Door.{Lists, size, size-start, table-count, table-at}
-use Rattle.widths.specs.Asks.{Listed, Tabled, bare, spans-at}
+use Rattle.widths.specs.Asks.{Listed, Spanned, Tabled, bare, spans-at}
 use Rattle.widths.specs.declared.spans.Spans.{Spans}
 
 -- the part from a to b
@@ -23,7 +23,6 @@ pub record Lies (l : Lists) (t : ℕ) (s : Spans) : Type 0 where
   pub tuples : s .tuples ≤ s .«tuples_end»
   pub tuples-end : s .«tuples_end» ≤ length (l .tuples)
   pub table : bare (part (s .lookups) (s .«lookups_end») (l .lookups)) (part (s .names) (s .«names_end») (l .names)) (part (s .tuples) (s .«tuples_end») (l .tuples)) ≡ table-at l t
-  pub own : Listed (part (s .lookups) (s .«lookups_end») (l .lookups)) (part (s .names) (s .«names_end») (l .names)) (part (s .tuples) (s .«tuples_end») (l .tuples))
 
 part-is : (l : List ℕ) (a n : ℕ) → part a (a + n) l ≡ take n (drop a l)
 part-is l a n = let e : a + n - a ≡ n = omega arith in ap (λ (k : ℕ). take k (drop a l)) e
@@ -31,7 +30,7 @@ part-is l a n = let e : a + n - a ≡ n = omega arith in ap (λ (k : ℕ). take 
 eight : (l : List ℕ) (a n : ℕ) → part (8 * a) (8 * (a + n)) l ≡ take (8 * n) (drop (8 * a) l)
 eight l a n = let e : 8 * (a + n) - 8 * a ≡ 8 * n = omega arith in ap (λ (k : ℕ). take k (drop (8 * a) l)) e
 
-lies-at : (l : Lists) (t : ℕ) → Tabled l → t < table-count (l .sizes) → Lies l t (spans-at (l .sizes) t)
+lies-at : (l : Lists) (t : ℕ) → Spanned l → t < table-count (l .sizes) → Lies l t (spans-at (l .sizes) t)
 unfolding spans-at table-at size-start
 lies-at l t f h =
     let a : ℕ = size-start (l .sizes) 0 t in
@@ -48,8 +47,12 @@ lies-at l t f h =
       tuples = omega arith;
       tuples-end = omega (arith, f .tuples, total-in (size (l .sizes) 2) t (table-count (l .sizes)) h);
       table = λ j. bare (p₀ j) (p₁ j) (p₂ j);
-      own = rw (p₀, p₁, p₂) (f .each t h);
     }
 
-pub lies : {l : Lists} {t : ℕ} {s : Spans} → Tabled l → t < table-count (l .sizes) → s ≡ spans-at (l .sizes) t → Lies l t s
+pub lies : {l : Lists} {t : ℕ} {s : Spans} → Spanned l → t < table-count (l .sizes) → s ≡ spans-at (l .sizes) t → Lies l t s
 lies {l} {t} {s} f h e = subst (Lies l t) (sym e) (lies-at l t f h)
+
+-- a table's own lists are as the code asks
+pub owned : {l : Lists} {t : ℕ} {s : Spans} → Tabled l → t < table-count (l .sizes) → s ≡ spans-at (l .sizes) t
+    → Listed (part (s .lookups) (s .«lookups_end») (l .lookups)) (part (s .names) (s .«names_end») (l .names)) (part (s .tuples) (s .«tuples_end») (l .tuples))
+owned {l} {t} {s} f h e = subst (λ (x : Lookups). Listed (x .lookups) (x .names) (x .tuples)) (sym (lies {l = l} {t = t} {s = s} (f .spanned) h e .table)) (f .each t h)

@@ -2,7 +2,7 @@ use native.Mathlib.Omega.{arith}
 use Rattle.widths.proofs.Finds.{Finding, find-begins, find-turn, find-ends}
 use Rattle.widths.specs.Widths.{table-refusal, widths-refusal}
 use Rattle.expression.specs.Refusal.{refusal}
-use Rattle.widths.specs.laws.Tables.{lies}
+use Rattle.widths.specs.laws.Tables.{lies, owned}
 use Rattle.widths.specs.Asks.{lent-lists}
 use Rattle.widths.specs.Door.{table-count, table-at, tables-of}
 use Rattle.lookup.specs.Lookups.{Lookups}
@@ -33,51 +33,51 @@ spans-of-requires c κs = search needs
 
 -- src/tables.rt:145:13
 mul-table-verdict : tie.Need-mul-table-verdict Inv-loop μ-loop
-mul-table-verdict c = omega (arith, lies (c .before .before .before .before .before .before .before .pre) (c .before .loop-test .taken) (c .spans-of .ensures) .lookups, lies (c .before .before .before .before .before .before .before .pre) (c .before .loop-test .taken) (c .spans-of .ensures) .lookups-end)
+mul-table-verdict c = omega (arith, lies (c .before .before .before .before .before .before .before .pre .spanned) (c .before .loop-test .taken) (c .spans-of .ensures) .lookups, lies (c .before .before .before .before .before .before .before .pre .spanned) (c .before .loop-test .taken) (c .spans-of .ensures) .lookups-end)
 
 -- src/tables.rt:145:13
 sub-table-verdict : tie.Need-sub-table-verdict Inv-loop μ-loop
-sub-table-verdict c = (lies (c .before .before .before .before .before .before .before .pre) (c .before .loop-test .taken) (c .spans-of .ensures)) .lookups
+sub-table-verdict c = (lies (c .before .before .before .before .before .before .before .pre .spanned) (c .before .loop-test .taken) (c .spans-of .ensures)) .lookups
 
 -- src/tables.rt:145:13
 part-table-verdict-start : tie.Need-part-table-verdict-start Inv-loop μ-loop
-part-table-verdict-start c = (lies (c .before .before .before .before .before .before .before .pre) (c .before .loop-test .taken) (c .spans-of .ensures)) .lookups
+part-table-verdict-start c = (lies (c .before .before .before .before .before .before .before .pre .spanned) (c .before .loop-test .taken) (c .spans-of .ensures)) .lookups
 
 -- src/tables.rt:145:13
 part-table-verdict-end : tie.Need-part-table-verdict-end Inv-loop μ-loop
-part-table-verdict-end c = (lies (c .before .before .before .before .before .before .before .pre) (c .before .loop-test .taken) (c .spans-of .ensures)) .lookups-end
+part-table-verdict-end c = (lies (c .before .before .before .before .before .before .before .pre .spanned) (c .before .loop-test .taken) (c .spans-of .ensures)) .lookups-end
 
 -- src/tables.rt:146:13
 sub-table-verdict-2 : tie.Need-sub-table-verdict-2 Inv-loop μ-loop
-sub-table-verdict-2 c = (lies (c .before .before .before .before .before .before .before .before .pre) (c .before .before .loop-test .taken) (c .before .spans-of .ensures)) .names
+sub-table-verdict-2 c = (lies (c .before .before .before .before .before .before .before .before .pre .spanned) (c .before .before .loop-test .taken) (c .before .spans-of .ensures)) .names
 
 -- src/tables.rt:146:13
 part-table-verdict-start-2 : tie.Need-part-table-verdict-start-2 Inv-loop μ-loop
-part-table-verdict-start-2 c = (lies (c .before .before .before .before .before .before .before .before .pre) (c .before .before .loop-test .taken) (c .before .spans-of .ensures)) .names
+part-table-verdict-start-2 c = (lies (c .before .before .before .before .before .before .before .before .pre .spanned) (c .before .before .loop-test .taken) (c .before .spans-of .ensures)) .names
 
 -- src/tables.rt:146:13
 part-table-verdict-end-2 : tie.Need-part-table-verdict-end-2 Inv-loop μ-loop
-part-table-verdict-end-2 c = (lies (c .before .before .before .before .before .before .before .before .pre) (c .before .before .loop-test .taken) (c .before .spans-of .ensures)) .names-end
+part-table-verdict-end-2 c = (lies (c .before .before .before .before .before .before .before .before .pre .spanned) (c .before .before .loop-test .taken) (c .before .spans-of .ensures)) .names-end
 
 -- src/tables.rt:147:13
 mul-table-verdict-2 : tie.Need-mul-table-verdict-2 Inv-loop μ-loop
-mul-table-verdict-2 c = omega (arith, lies (c .before .before .before .before .before .before .before .before .before .pre) (c .before .before .before .loop-test .taken) (c .before .before .spans-of .ensures) .tuples, lies (c .before .before .before .before .before .before .before .before .before .pre) (c .before .before .before .loop-test .taken) (c .before .before .spans-of .ensures) .tuples-end)
+mul-table-verdict-2 c = omega (arith, lies (c .before .before .before .before .before .before .before .before .before .pre .spanned) (c .before .before .before .loop-test .taken) (c .before .before .spans-of .ensures) .tuples, lies (c .before .before .before .before .before .before .before .before .before .pre .spanned) (c .before .before .before .loop-test .taken) (c .before .before .spans-of .ensures) .tuples-end)
 
 -- src/tables.rt:147:13
 sub-table-verdict-3 : tie.Need-sub-table-verdict-3 Inv-loop μ-loop
-sub-table-verdict-3 c = (lies (c .before .before .before .before .before .before .before .before .before .pre) (c .before .before .before .loop-test .taken) (c .before .before .spans-of .ensures)) .tuples
+sub-table-verdict-3 c = (lies (c .before .before .before .before .before .before .before .before .before .pre .spanned) (c .before .before .before .loop-test .taken) (c .before .before .spans-of .ensures)) .tuples
 
 -- src/tables.rt:147:13
 part-table-verdict-start-3 : tie.Need-part-table-verdict-start-3 Inv-loop μ-loop
-part-table-verdict-start-3 c = (lies (c .before .before .before .before .before .before .before .before .before .pre) (c .before .before .before .loop-test .taken) (c .before .before .spans-of .ensures)) .tuples
+part-table-verdict-start-3 c = (lies (c .before .before .before .before .before .before .before .before .before .pre .spanned) (c .before .before .before .loop-test .taken) (c .before .before .spans-of .ensures)) .tuples
 
 -- src/tables.rt:147:13
 part-table-verdict-end-3 : tie.Need-part-table-verdict-end-3 Inv-loop μ-loop
-part-table-verdict-end-3 c = (lies (c .before .before .before .before .before .before .before .before .before .pre) (c .before .before .before .loop-test .taken) (c .before .before .spans-of .ensures)) .tuples-end
+part-table-verdict-end-3 c = (lies (c .before .before .before .before .before .before .before .before .before .pre .spanned) (c .before .before .before .loop-test .taken) (c .before .before .spans-of .ensures)) .tuples-end
 
 -- src/tables.rt:140:13
 table-verdict-requires : tie.Need-table-verdict-requires Inv-loop μ-loop
-table-verdict-requires c κs = (c .before .before .before .before .before .before .before .before .before .before .pre, (lies (c .before .before .before .before .before .before .before .before .before .before .pre) (c .before .before .before .before .loop-test .taken) (c .before .before .before .spans-of .ensures)) .own)
+table-verdict-requires c κs = (c .before .before .before .before .before .before .before .before .before .before .pre, owned (c .before .before .before .before .before .before .before .before .before .before .pre) (c .before .before .before .before .loop-test .taken) (c .before .before .before .spans-of .ensures))
 
 -- src/tables.rt:149:13
 first-requires : tie.Need-first-requires Inv-loop μ-loop
@@ -93,7 +93,7 @@ loop-less c = search needs
 
 -- src/tables.rt:132:5
 loop-again : tie.Need-loop-again Inv-loop μ-loop
-loop-again c = find-turn (refusal (c .before .table-verdict .result)) (c .before .before .before .before .before .before .before .loop .inv) (search needs) (c .first .ensures) (c .before .table-verdict .ensures ∙ ap (table-refusal (tables-of (lent-lists (c .before .before .before .before .before .before .before .before .before .before .before .before .args .lookups .now) (c .before .before .before .before .before .before .before .before .before .before .before .before .args .names .now) (c .before .before .before .before .before .before .before .before .before .before .before .before .args .tuples .now) (c .before .before .before .before .before .before .before .before .before .before .before .before .args .sizes .now)))) (lies (c .before .before .before .before .before .before .before .before .before .before .before .before .pre) (c .before .before .before .before .before .before .loop-test .taken) (c .before .before .before .before .before .spans-of .ensures) .table))
+loop-again c = find-turn (refusal (c .before .table-verdict .result)) (c .before .before .before .before .before .before .before .loop .inv) (search needs) (c .first .ensures) (c .before .table-verdict .ensures ∙ ap (table-refusal (tables-of (lent-lists (c .before .before .before .before .before .before .before .before .before .before .before .before .args .lookups .now) (c .before .before .before .before .before .before .before .before .before .before .before .before .args .names .now) (c .before .before .before .before .before .before .before .before .before .before .before .before .args .tuples .now) (c .before .before .before .before .before .before .before .before .before .before .before .before .args .sizes .now)))) (lies (c .before .before .before .before .before .before .before .before .before .before .before .before .pre .spanned) (c .before .before .before .before .before .before .loop-test .taken) (c .before .before .before .before .before .spans-of .ensures) .table))
 
 -- src/tables.rt:125:1
 returns : tie.Need-returns Inv-loop μ-loop

@@ -1,7 +1,7 @@
 use native.Mathlib.Omega.{arith}
 use Rattle.widths.proofs.Finds.{Rising, rise-begins, rise-turn, rise-ends}
 use Rattle.widths.specs.Widths.{widest-in-table, widest}
-use Rattle.widths.specs.laws.Tables.{lies}
+use Rattle.widths.specs.laws.Tables.{lies, owned}
 use Rattle.widths.specs.Asks.{lent-lists}
 use Rattle.widths.specs.Door.{table-count, table-at, tables-of}
 use Rattle.lookup.specs.Lookups.{Lookups}
@@ -32,51 +32,51 @@ spans-of-requires c κs = search needs
 
 -- src/tables.rt:189:33
 mul-widest-in-table : tie.Need-mul-widest-in-table Inv-loop μ-loop
-mul-widest-in-table c = omega (arith, lies (c .before .before .before .before .before .before .before .pre) (c .before .loop-test .taken) (c .spans-of .ensures) .lookups, lies (c .before .before .before .before .before .before .before .pre) (c .before .loop-test .taken) (c .spans-of .ensures) .lookups-end)
+mul-widest-in-table c = omega (arith, lies (c .before .before .before .before .before .before .before .pre .spanned) (c .before .loop-test .taken) (c .spans-of .ensures) .lookups, lies (c .before .before .before .before .before .before .before .pre .spanned) (c .before .loop-test .taken) (c .spans-of .ensures) .lookups-end)
 
 -- src/tables.rt:189:33
 sub-widest-in-table : tie.Need-sub-widest-in-table Inv-loop μ-loop
-sub-widest-in-table c = (lies (c .before .before .before .before .before .before .before .pre) (c .before .loop-test .taken) (c .spans-of .ensures)) .lookups
+sub-widest-in-table c = (lies (c .before .before .before .before .before .before .before .pre .spanned) (c .before .loop-test .taken) (c .spans-of .ensures)) .lookups
 
 -- src/tables.rt:189:33
 part-widest-in-table-start : tie.Need-part-widest-in-table-start Inv-loop μ-loop
-part-widest-in-table-start c = (lies (c .before .before .before .before .before .before .before .pre) (c .before .loop-test .taken) (c .spans-of .ensures)) .lookups
+part-widest-in-table-start c = (lies (c .before .before .before .before .before .before .before .pre .spanned) (c .before .loop-test .taken) (c .spans-of .ensures)) .lookups
 
 -- src/tables.rt:189:33
 part-widest-in-table-end : tie.Need-part-widest-in-table-end Inv-loop μ-loop
-part-widest-in-table-end c = (lies (c .before .before .before .before .before .before .before .pre) (c .before .loop-test .taken) (c .spans-of .ensures)) .lookups-end
+part-widest-in-table-end c = (lies (c .before .before .before .before .before .before .before .pre .spanned) (c .before .loop-test .taken) (c .spans-of .ensures)) .lookups-end
 
 -- src/tables.rt:189:49
 sub-widest-in-table-2 : tie.Need-sub-widest-in-table-2 Inv-loop μ-loop
-sub-widest-in-table-2 c = (lies (c .before .before .before .before .before .before .before .before .pre) (c .before .before .loop-test .taken) (c .before .spans-of .ensures)) .names
+sub-widest-in-table-2 c = (lies (c .before .before .before .before .before .before .before .before .pre .spanned) (c .before .before .loop-test .taken) (c .before .spans-of .ensures)) .names
 
 -- src/tables.rt:189:49
 part-widest-in-table-start-2 : tie.Need-part-widest-in-table-start-2 Inv-loop μ-loop
-part-widest-in-table-start-2 c = (lies (c .before .before .before .before .before .before .before .before .pre) (c .before .before .loop-test .taken) (c .before .spans-of .ensures)) .names
+part-widest-in-table-start-2 c = (lies (c .before .before .before .before .before .before .before .before .pre .spanned) (c .before .before .loop-test .taken) (c .before .spans-of .ensures)) .names
 
 -- src/tables.rt:189:49
 part-widest-in-table-end-2 : tie.Need-part-widest-in-table-end-2 Inv-loop μ-loop
-part-widest-in-table-end-2 c = (lies (c .before .before .before .before .before .before .before .before .pre) (c .before .before .loop-test .taken) (c .before .spans-of .ensures)) .names-end
+part-widest-in-table-end-2 c = (lies (c .before .before .before .before .before .before .before .before .pre .spanned) (c .before .before .loop-test .taken) (c .before .spans-of .ensures)) .names-end
 
 -- src/tables.rt:189:63
 mul-widest-in-table-2 : tie.Need-mul-widest-in-table-2 Inv-loop μ-loop
-mul-widest-in-table-2 c = omega (arith, lies (c .before .before .before .before .before .before .before .before .before .pre) (c .before .before .before .loop-test .taken) (c .before .before .spans-of .ensures) .tuples, lies (c .before .before .before .before .before .before .before .before .before .pre) (c .before .before .before .loop-test .taken) (c .before .before .spans-of .ensures) .tuples-end)
+mul-widest-in-table-2 c = omega (arith, lies (c .before .before .before .before .before .before .before .before .before .pre .spanned) (c .before .before .before .loop-test .taken) (c .before .before .spans-of .ensures) .tuples, lies (c .before .before .before .before .before .before .before .before .before .pre .spanned) (c .before .before .before .loop-test .taken) (c .before .before .spans-of .ensures) .tuples-end)
 
 -- src/tables.rt:189:63
 sub-widest-in-table-3 : tie.Need-sub-widest-in-table-3 Inv-loop μ-loop
-sub-widest-in-table-3 c = (lies (c .before .before .before .before .before .before .before .before .before .pre) (c .before .before .before .loop-test .taken) (c .before .before .spans-of .ensures)) .tuples
+sub-widest-in-table-3 c = (lies (c .before .before .before .before .before .before .before .before .before .pre .spanned) (c .before .before .before .loop-test .taken) (c .before .before .spans-of .ensures)) .tuples
 
 -- src/tables.rt:189:63
 part-widest-in-table-start-3 : tie.Need-part-widest-in-table-start-3 Inv-loop μ-loop
-part-widest-in-table-start-3 c = (lies (c .before .before .before .before .before .before .before .before .before .pre) (c .before .before .before .loop-test .taken) (c .before .before .spans-of .ensures)) .tuples
+part-widest-in-table-start-3 c = (lies (c .before .before .before .before .before .before .before .before .before .pre .spanned) (c .before .before .before .loop-test .taken) (c .before .before .spans-of .ensures)) .tuples
 
 -- src/tables.rt:189:63
 part-widest-in-table-end-3 : tie.Need-part-widest-in-table-end-3 Inv-loop μ-loop
-part-widest-in-table-end-3 c = (lies (c .before .before .before .before .before .before .before .before .before .pre) (c .before .before .before .loop-test .taken) (c .before .before .spans-of .ensures)) .tuples-end
+part-widest-in-table-end-3 c = (lies (c .before .before .before .before .before .before .before .before .before .pre .spanned) (c .before .before .before .loop-test .taken) (c .before .before .spans-of .ensures)) .tuples-end
 
 -- src/tables.rt:189:13
 widest-in-table-requires : tie.Need-widest-in-table-requires Inv-loop μ-loop
-widest-in-table-requires c κs = (lies (c .before .before .before .before .before .before .before .before .before .before .pre) (c .before .before .before .before .loop-test .taken) (c .before .before .before .spans-of .ensures)) .own
+widest-in-table-requires c κs = owned (c .before .before .before .before .before .before .before .before .before .before .pre) (c .before .before .before .before .loop-test .taken) (c .before .before .before .spans-of .ensures)
 
 -- src/tables.rt:190:13
 larger-requires : tie.Need-larger-requires Inv-loop μ-loop
@@ -92,7 +92,7 @@ loop-less c = search needs
 
 -- src/tables.rt:181:5
 loop-again : tie.Need-loop-again Inv-loop μ-loop
-loop-again c = rise-turn (c .before .widest-in-table .result) (c .before .before .before .before .before .before .before .loop .inv) (search needs) (c .larger .ensures) (c .before .widest-in-table .ensures ∙ ap widest-in-table (lies (c .before .before .before .before .before .before .before .before .before .before .before .before .pre) (c .before .before .before .before .before .before .loop-test .taken) (c .before .before .before .before .before .spans-of .ensures) .table))
+loop-again c = rise-turn (c .before .widest-in-table .result) (c .before .before .before .before .before .before .before .loop .inv) (search needs) (c .larger .ensures) (c .before .widest-in-table .ensures ∙ ap widest-in-table (lies (c .before .before .before .before .before .before .before .before .before .before .before .before .pre .spanned) (c .before .before .before .before .before .before .loop-test .taken) (c .before .before .before .before .before .spans-of .ensures) .table))
 
 -- src/tables.rt:174:1
 returns : tie.Need-returns Inv-loop μ-loop
