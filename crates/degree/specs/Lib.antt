@@ -1,4 +1,3 @@
 pub mod Sums
 pub mod Degree
-pub mod Entry
 pub mod Door

@@ -1,5 +1,5 @@
 -- Packing of one table: the door's answer, and the lent lists afterwards, for every input.
-use mathlib.Core.Bool.{Bool, true, not, _&&_}
+use mathlib.Core.Bool.{Bool, not, _&&_}
 use mathlib.Core.Option.{Option, none, some}
 use mathlib.Core.List.{List}
 use Prim.Native.Nat.{ℕ}
@@ -11,9 +11,9 @@ use Rattle.expression.specs.declared.sizes.Limits.{Limits}
 use Rattle.expression.specs.declared.refusal.Refusal.{Refusal}
 use Rattle.expression.specs.declared.refusal.Refusal.the-variants.{SizeAtOdds, WeightTooLarge}
 use Rattle.lookup.specs.Lookups.{Lookups, Lookup}
-use Rattle.lookup.specs.Table.{Table}
+use Rattle.lookup.specs.Entry.{form-refusal}
+use Rattle.lookup.specs.declared.entry.Columns.{Columns}
 use Rattle.degree.specs.Degree.{node-degrees}
-use Rattle.degree.specs.Entry.{entry-refusal}
 use Rattle.widths.specs.Widths.{Tables, widths-refusal}
 use Rattle.packing.specs.Packing.{packed, overweight}
 use Rattle.packing.specs.Written.{words-of, written}
@@ -36,17 +36,17 @@ holds lent w =
     && leb (length (w .elements)) (length (lent .elements))
 
 -- "(`pack_same_bus`, degree t = 0)"
-unfoldable pub columns : ℕ → Table → List Lookup
-columns limit t = packed (node-degrees 0 (t .nodes)) limit (t .lookups)
+unfoldable pub columns : ℕ → List ℕ → Lookups → List Lookup
+columns limit nodes l = packed (node-degrees 0 nodes) limit l
 
 -- Refusals 1 to 5; then, since the words to write are known now, 1 where a lent list is too small for them; "bus widths are tested
 -- first", 6; and 7.
-unfoldable pub packing-refusal : Limits → ℕ → ℕ → Table → Lookups → Option Refusal
-packing-refusal m p limit t lent =
-    or-else (entry-refusal m p true t)
-    (unless (holds lent (words-of (columns limit t))) SizeAtOdds
-    (or-else (widths-refusal (alone (t .lookups)))
-    (unless (not (overweight (columns limit t))) WeightTooLarge none)))
+unfoldable pub packing-refusal : Limits → ℕ → ℕ → Columns → List ℕ → Lookups → Lookups → Option Refusal
+packing-refusal m p limit c nodes l lent =
+    or-else (form-refusal m p c nodes l)
+    (unless (holds lent (words-of (columns limit nodes l))) SizeAtOdds
+    (or-else (widths-refusal (alone l))
+    (unless (not (overweight (columns limit nodes l))) WeightTooLarge none)))
 
 pub record Outcome : Type 0 where
   pub answer : PackingAnswer
@@ -80,5 +80,6 @@ abbrev pub outcome : Option Refusal → Lookups → Lookups → Outcome
 outcome (some f) w lent = record { answer = Refused f; lists = lent }
 outcome none w lent = record { answer = Packed (counts w); lists = all-written w lent }
 
-unfoldable pub packing : Limits → ℕ → ℕ → Table → Lookups → Outcome
-packing m p limit t lent = outcome (packing-refusal m p limit t lent) (words-of (columns limit t)) lent
+-- the table's columns, nodes and lookups, and the lent lists
+unfoldable pub packing : Limits → ℕ → ℕ → Columns → List ℕ → Lookups → Lookups → Outcome
+packing m p limit c nodes l lent = outcome (packing-refusal m p limit c nodes l lent) (words-of (columns limit nodes l)) lent

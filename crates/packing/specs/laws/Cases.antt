@@ -9,17 +9,18 @@ use Rattle.expression.specs.Words.{all-below, all-within}
 use Rattle.expression.specs.Limits.{cabinet}
 use Rattle.expression.specs.Node.{decode, node}
 use Rattle.expression.specs.Degree.{node-degree, degrees}
-use Rattle.expression.specs.Tests.{traces-within, nodes-within, traces-fit, nodes-fit, traces-below, constants-below, nodes-known, degrees-low}
+use Rattle.expression.specs.Tests.{nodes-within, nodes-fit, constants-below, nodes-known, degrees-low}
 use Rattle.expression.specs.declared.refusal.Refusal.the-variants.{SizeAtOdds, WidthsDiffer, WeightTooLarge}
 use Rattle.lookup.specs.Lookups.{Lookups, name-start, tuple-start, multiplicity-start, flag-start, element-start, tuple-width, multiplicity-node, flag-node, tuple-nodes, lookup-at, lookups-of}
-use Rattle.lookup.specs.Table.{Table}
-use Rattle.lookup.specs.Tests.{lookups-within, lookups-fit, sizes, words-below, known, lengths-agree, nodes-present, lists-agree}
+use Rattle.lookup.specs.Entry.{columns-within, form-sizes, nodes-refusal, form-refusal}
+use Rattle.lookup.specs.declared.entry.Columns.{Columns}
+use Rattle.lookup.specs.Tests.{lookups-within, lookups-fit, lengths-agree, nodes-present, lists-agree}
 use Rattle.degree.specs.Sums.{sum-of, largest-of, greatest}
 use Rattle.degree.specs.Degree.{tuple-degree, denominator-degree, numerator-degree, additive-degree, exclusive-degree, lookup-degree}
-use Rattle.degree.specs.Entry.{rowless, entry-refusal}
-use Rattle.degree.specs.Door.{degree-answer}
+use Rattle.degree.specs.Door.{degree-refusal, degree-answer}
+use Rattle.degree.specs.declared.door.DegreeAnswer.{DegreeAnswer}
 use Rattle.degree.specs.declared.door.DegreeAnswer.the-variants as degree
-use Rattle.widths.specs.Order.{keep, position, by-place, numbers, same, name-at, same-bus, place, arranged}
+use Rattle.widths.specs.Order.{keep, position, by-place, numbers, same, name-at, alone-at, same-bus, place, arranged}
 use Rattle.widths.specs.Widths.{width-in-lookup, width-in-table, expected, by-bus, lookup-refusal, table-refusal, widths-refusal, widest-in-lookup, widest-in-table, widest}
 use Rattle.widths.specs.Door.{Lists, size-start, table-at, tables-of, lists-fit, table-fits, all-fit, widths-answer}
 use Rattle.widths.specs.declared.door.WidthsAnswer.the-variants as widths
@@ -31,9 +32,18 @@ use Rattle.packing.specs.declared.door.PackingAnswer.the-variants.{Packe
 abbrev p : ℕ
 p = 2013265921
 
--- a table whose node 0 is column 0 of the current row, of degree 1
-abbrev table : Lookups → Table
-table l = rowless 1 0 [] (1 ∷ 0 ∷ 0 ∷ []) l
+-- a table with one column, and one node: column 0 of the current row, of degree 1
+abbrev one-column : Columns
+one-column = record { main = 1; preprocessed = 0; «public_values» = 0 }
+
+abbrev one-node : List ℕ
+one-node = 1 ∷ 0 ∷ 0 ∷ []
+
+abbrev degree-of : Lookups → DegreeAnswer
+degree-of l = degree-answer cabinet p one-column one-node l 0 0
+
+abbrev packed-with : ℕ → Lookups → Lookups → Outcome
+packed-with limit l lent = packing cabinet p limit one-column one-node l lent
 
 -- one lookup of n tuples (node 0), counted by node 0; on the bus "b"
 abbrev additive : List ℕ → ℕ → Lookups
@@ -104,11 +114,11 @@ room =
 
 pub cases :
   -- c8: two additive tuples, all of degree 1: degree 3
-  (degree-answer cabinet p 0 0 (table two) ≡ degree.Degree 3)
+  (degree-of two ≡ degree.Degree 3)
   -- c9: four exclusive branches likewise: 3
-  × (degree-answer cabinet p 0 0 (table four) ≡ degree.Degree 3)
+  × (degree-of four ≡ degree.Degree 3)
   -- c10: five one-tuple additive lookups of degree 1 on one bus, limit 3: columns of 2, 2, 1; what lies past them is untouched
-  × (packing cabinet p 3 (table five) room .lists
+  × (packed-with 3 five room .lists
      ≡ record {
          lookups = two-two-one ++ replicate 16 9;
          names = 98 ∷ 98 ∷ 98 ∷ 9 ∷ 9 ∷ [];
@@ -118,18 +128,18 @@ pub cases :
          elements = replicate 5 0;
        })
   -- limit 0: five
-  × (packing cabinet p 0 (table five) room .lists ≡ five)
-  × (packing cabinet p 0 (table five) room .answer
+  × (packed-with 0 five room .lists ≡ five)
+  × (packed-with 0 five room .answer
      ≡ Packed (record { lookups = 40; names = 5; tuples = 5; multiplicities = 5; flags = 0; elements = 5 }))
   -- a lent list that is too small is 1; two lookups do not fit where five do not merge
-  × (packing cabinet p 0 (table five) two ≡ record { answer = Refused SizeAtOdds; lists = two })
+  × (packed-with 0 five two ≡ record { answer = Refused SizeAtOdds; lists = two })
   -- 6: bus "mem": 2 and 3
-  × (packing cabinet p 3 (table mem) room ≡ record { answer = Refused (WidthsDiffer 1 2 3); lists = room })
+  × (packed-with 3 mem room ≡ record { answer = Refused (WidthsDiffer 1 2 3); lists = room })
   × (widths-answer cabinet (mem-tables (2 ∷ 3 ∷ [])) ≡ widths.Refused (WidthsDiffer 0 2 3))
   × (widths-answer cabinet (mem-tables (2 ∷ 2 ∷ [])) ≡ widths.Widest 2)
   -- 7: weights 4294967295 and 1; a merge that is not kept is none
-  × (packing cabinet p 3 (table heavy) room ≡ record { answer = Refused WeightTooLarge; lists = room })
-  × (packing cabinet p 2 (table heavy) room .answer
+  × (packed-with 3 heavy room ≡ record { answer = Refused WeightTooLarge; lists = room })
+  × (packed-with 2 heavy room .answer
      ≡ Packed (record { lookups = 16; names = 2; tuples = 2; multiplicities = 2; flags = 0; elements = 2 }))
-unfolding total every first tab flatMap zipWith all-below all-within cabinet decode node node-degree degrees traces-within nodes-within traces-fit nodes-fit traces-below constants-below nodes-known degrees-low name-start tuple-start multiplicity-start flag-start element-start tuple-width multiplicity-node flag-node tuple-nodes lookup-at lookups-of lookups-within lookups-fit sizes words-below known lengths-agree nodes-present lists-agree sum-of largest-of greatest tuple-degree denominator-degree numerator-degree additive-degree exclusive-degree lookup-degree rowless entry-refusal degree-answer keep position by-place numbers same name-at same-bus place arranged width-in-lookup width-in-table expected by-bus lookup-refusal table-refusal widths-refusal widest-in-lookup widest-in-table widest size-start table-at tables-of lists-fit table-fits all-fit widths-answer in-order fill filled renumbered packed overweight lookup-words words-of holds columns packing-refusal packing
+unfolding total every first tab flatMap zipWith all-below all-within cabinet decode node node-degree degrees nodes-within nodes-fit constants-below nodes-known degrees-low name-start tuple-start multiplicity-start flag-start element-start tuple-width multiplicity-node flag-node tuple-nodes lookup-at lookups-of lookups-within lookups-fit lengths-agree nodes-present lists-agree sum-of largest-of greatest tuple-degree denominator-degree numerator-degree additive-degree exclusive-degree lookup-degree columns-within form-sizes nodes-refusal form-refusal degree-refusal degree-answer keep position by-place numbers same name-at alone-at same-bus place arranged width-in-lookup width-in-table expected by-bus lookup-refusal table-refusal widths-refusal widest-in-lookup widest-in-table widest size-start table-at tables-of lists-fit table-fits all-fit widths-answer in-order fill filled renumbered packed overweight lookup-words words-of holds columns packing-refusal packing
 cases = (refl, refl, refl, refl, refl, refl, refl, refl, refl, refl, refl)
