@@ -69,5 +69,5 @@ ends {p} {nodes} {v} {n} {b} {i} f h =
     let e : i ≡ n = omega (arith, f .within) in (
       f .slots,
       f .filled .is ∙ ap (λ (k : ℕ). values p nodes v k ++ drop k (replicate 1024 0)) e
-      ∙ ap (λ (l : List ℕ). values p nodes v n ++ l) (drop-zeros n 1024),
+          ∙ ap (λ (l : List ℕ). values p nodes v n ++ l) (drop-zeros n 1024),
     )

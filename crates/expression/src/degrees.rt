@@ -1,6 +1,6 @@
 // Refusal 4: the degrees of the nodes. A degree over the limit is kept at one above it, so that no sum wraps.
-use crate::node::node_at;
 use crate::node::Node;
+use crate::node::node_at;
 use crate::sizes::Limits;
 use crate::words::index;
 ghost use mathlib.Core.Path.{_≡_};

@@ -1,6 +1,6 @@
 // The values of the nodes on a row, from the two-row window. The tests of refusals 1 to 3 have passed, so that each read lies within its list.
-use crate::node::node_at;
 use crate::node::Node;
+use crate::node::node_at;
 use crate::sizes::Shape;
 use crate::words::index;
 use field::word;

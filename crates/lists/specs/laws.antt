@@ -5,3 +5,4 @@ pub mod Parts
 pub mod Filled
 pub mod Tests
 pub mod Turns
+pub mod Writing

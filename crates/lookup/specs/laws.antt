@@ -1,2 +1,1 @@
 pub mod Tested
-pub mod Prefixes

@@ -1,8 +1,14 @@
-// Refusals 1 to 5 of a whole table.
+// The first of refusals 1 to 5 that a whole table has.
+use crate::tests::lists_agree;
 use crate::tests::lookups_fit;
 use crate::tests::lookups_within;
+use expression::degrees::degrees_low;
 use expression::nodes::constants_below;
+use expression::nodes::nodes_known;
 use expression::nodes::traces_below;
+use expression::refusal::Refusal;
+use expression::refusal::Verdict;
+use expression::refusal::first;
 use expression::sizes::Limits;
 use expression::sizes::Shape;
 use expression::sizes::nodes_fit;
@@ -10,12 +16,19 @@ use expression::sizes::nodes_within;
 use expression::sizes::traces_fit;
 use expression::sizes::traces_within;
 ghost use mathlib.Core.Path.{_≡_};
+ghost use mathlib.Core.Option.{Option};
+ghost use mathlib.Core.List.{List};
+ghost use Prim.Native.Nat.{ℕ, _≤_};
+ghost use Rattle.lists.specs.Count.{or-else};
 ghost use Rattle.expression.specs.Limits.{Sane};
+ghost use Rattle.expression.specs.Refusal.{refusal};
+ghost use Rattle.expression.specs.Node.{node-count};
+ghost use Rattle.expression.specs.declared.refusal.Refusal as Refusals;
 ghost use Rattle.expression.specs.declared.sizes.Shape as Sizes;
 ghost use Rattle.lookup.specs.Lookups.{Lookups, lent-lookups};
 ghost use Rattle.lookup.specs.Table.{lent-table};
 ghost use Rattle.lookup.specs.Tests.{sizes, words-below};
-ghost use Rattle.lookup.specs.Entry.{columns-within, form-sizes};
+ghost use Rattle.lookup.specs.Entry.{shape-of, columns-within, form-sizes, nodes-refusal, lists-refusal, table-refusal, form-refusal};
 
 // What stands in for the traces of a table where they are not given: how many columns and public values it has.
 pub struct Columns {
@@ -67,6 +80,18 @@ pub fn words_below(
     traces_below(p, main, preprocessed, public_values) & constants_below(p, nodes)
 }
 
+// A table of these columns, as far as its nodes see it.
+pub fn shape_of(columns: Columns) -> Shape
+    ensures { λ r. ⌜ r ≡ shape-of columns ⌝ }
+{
+    Shape {
+        main_width: columns.main,
+        height: 0,
+        pre_width: columns.preprocessed,
+        pre_height: 0,
+    }
+}
+
 pub fn columns_within(limits: Limits, columns: Columns) -> bool
     ensures { λ r. ⌜ r ≡ columns-within limits columns ⌝ }
 {
@@ -99,4 +124,123 @@ pub fn form_sizes(
     } else {
         false
     }
+}
+
+// Refusals 3 and 4 of the nodes, where there are so many public values.
+pub fn nodes_refusal(limits: Limits, shape: Shape, publics: usize, nodes: &[u32]) -> Verdict
+    requires { ⌜ (limits .degree ≤ 65535) × (node-count (now nodes) ≤ 1024) ⌝ }
+    ensures { λ r. ⌜ ((later : Option Refusals.Refusal) → or-else (refusal r) later ≡ nodes-refusal limits shape publics (now (nodes .entry)) later) ⌝ }
+{
+    if !nodes_known(shape, publics, nodes) {
+        return Verdict::Refused(Refusal::NodeInvalid);
+    }
+    if !degrees_low(limits, nodes) {
+        return Verdict::Refused(Refusal::DegreeTooHigh);
+    }
+    Verdict::Accepted
+}
+
+// Refusal 5 of every door.
+fn lists_refusal(
+    nodes: &[u32],
+    lookups: &[u32],
+    multiplicities: &[u32],
+    flags: &[u32],
+    elements: &[u32],
+) -> Verdict
+    requires { ⌜ node-count (now nodes) ≤ 1024 ⌝ }
+    ensures { λ r. ⌜ ((names tuples : List ℕ) → refusal r ≡ lists-refusal (node-count (now (nodes .entry))) (lent-lookups (now (lookups .entry)) names tuples (now (multiplicities .entry)) (now (flags .entry)) (now (elements .entry)))) ⌝ }
+{
+    if lists_agree(
+        (nodes.len() / 3) as u32,
+        lookups,
+        multiplicities,
+        flags,
+        elements,
+    ) {
+        Verdict::Accepted
+    } else {
+        Verdict::Refused(Refusal::LookupInvalid)
+    }
+}
+
+pub fn table_refusal(
+    limits: Limits,
+    p: u32,
+    shape: Shape,
+    main: &[u32],
+    preprocessed: &[u32],
+    public_values: &[u32],
+    nodes: &[u32],
+    lookups: &[u32],
+    names: &[u8],
+    tuples: &[u32],
+    multiplicities: &[u32],
+    flags: &[u32],
+    elements: &[u32],
+) -> Verdict
+    requires { ⌜ Sane limits ⌝ }
+    ensures { λ r. ⌜ refusal r ≡ table-refusal limits p (lent-table shape (now (main .entry)) (now (preprocessed .entry)) (now («public_values» .entry)) (now (nodes .entry)) (lent-lookups (now (lookups .entry)) (now (names .entry)) (now (tuples .entry)) (now (multiplicities .entry)) (now (flags .entry)) (now (elements .entry)))) ⌝ }
+{
+    if !sizes(
+        limits,
+        shape,
+        main,
+        preprocessed,
+        public_values,
+        nodes,
+        lookups,
+        names,
+        tuples,
+        multiplicities,
+        flags,
+        elements,
+    ) {
+        return Verdict::Refused(Refusal::SizeAtOdds);
+    }
+    if !words_below(p, main, preprocessed, public_values, nodes) {
+        return Verdict::Refused(Refusal::WordTooLarge);
+    }
+    first(
+        nodes_refusal(limits, shape, public_values.len(), nodes),
+        lists_refusal(nodes, lookups, multiplicities, flags, elements),
+    )
+}
+
+// The same of a table without its traces.
+pub fn form_refusal(
+    limits: Limits,
+    p: u32,
+    columns: Columns,
+    nodes: &[u32],
+    lookups: &[u32],
+    names: &[u8],
+    tuples: &[u32],
+    multiplicities: &[u32],
+    flags: &[u32],
+    elements: &[u32],
+) -> Verdict
+    requires { ⌜ Sane limits ⌝ }
+    ensures { λ r. ⌜ refusal r ≡ form-refusal limits p columns (now (nodes .entry)) (lent-lookups (now (lookups .entry)) (now (names .entry)) (now (tuples .entry)) (now (multiplicities .entry)) (now (flags .entry)) (now (elements .entry))) ⌝ }
+{
+    if !form_sizes(
+        limits,
+        columns,
+        nodes,
+        lookups,
+        names,
+        tuples,
+        multiplicities,
+        flags,
+        elements,
+    ) {
+        return Verdict::Refused(Refusal::SizeAtOdds);
+    }
+    if !constants_below(p, nodes) {
+        return Verdict::Refused(Refusal::WordTooLarge);
+    }
+    first(
+        nodes_refusal(limits, shape_of(columns), columns.public_values, nodes),
+        lists_refusal(nodes, lookups, multiplicities, flags, elements),
+    )
 }

@@ -23,7 +23,7 @@ ghost use Rattle.lookup.specs.Lookups.{lent-lookups, lookup-count, entry
 ghost use Rattle.lookup.specs.Tests.{lookups-within, lookups-fit, lengths-agree, nodes-present, lists-agree, in-position, has-lookups, preprocessed-enough, rows-enough};
 
 // No name is longer than `most`.
-fn names_within(most: u32, lookups: &[u32]) -> bool
+pub fn names_within(most: u32, lookups: &[u32]) -> bool
     ensures { λ r. ⌜ r ≡ every (λ i. leb (name-length (now (lookups .entry)) i) most) (lookup-count (now (lookups .entry))) ⌝ }
 {
     let n = lookups.len() / 8;
@@ -62,9 +62,9 @@ fn name_total(lookups: &[u32]) -> u64
 }
 
 // The sum of one word of each lookup.
-fn entry_total(lookups: &[u32], f: usize) -> u64
+pub fn entry_total(lookups: &[u32], f: usize) -> u64
     requires { ⌜ (f < 8) × (lookup-count (now lookups) ≤ 4294967295) ⌝ }
-    ensures { λ r. ⌜ r ≡ total (λ i. entry (now (lookups .entry)) i f) (lookup-count (now (lookups .entry))) ⌝ }
+    ensures { λ r. ⌜ (r ≡ total (λ i. entry (now (lookups .entry)) i f) (lookup-count (now (lookups .entry)))) × (r ≤ lookup-count (now (lookups .entry)) * 4294967295) ⌝ }
 {
     let n = lookups.len() / 8;
     let mut sum: u64 = 0;

@@ -13,9 +13,6 @@ use Rattle.lists.specs.laws.Tests.{passed, every-true}
 use Rattle.expression.specs.Words.{word, all-below, all-within}
 use Rattle.expression.specs.laws.Below.{within-tested}
 use Rattle.expression.specs.Limits.{Sane}
-use Rattle.expression.specs.Tests.{traces-within}
-use Rattle.expression.specs.Valid.{Small}
-use Rattle.expression.specs.declared.sizes.Shape.{Shape}
 use Rattle.expression.specs.declared.sizes.Limits.{Limits}
 use Rattle.lookup.specs.Lookups.{Lookups, lookup-count, name-length, column, exclusive, tuple-count, multiplicity-count, flag-count, name-start, tuple-start, multiplicity-start, flag-start, element-start, tuple-width}
 use Rattle.lookup.specs.Tests.{lookups-within, lookups-fit, lengths-agree, nodes-present, lists-agree, in-position}
@@ -129,26 +126,7 @@ multiplicity-start-is n l a (suc i) t =
     let e : multiplicity-count (l .lookups) i ≡ tuple-count (l .lookups) i = a .multiplicities-agree i (omega arith) in
     omega (arith, e, multiplicity-start-is n l a i (omega arith))
 
--- sizes within sane limits: no product and no sum of them leaves 64 bits
-pub shape-small : (m : Limits) (s : Shape) (public-values : List ℕ) → Sane m → traces-within m s public-values ≡ true → Small s
-unfolding traces-within
-shape-small m s public-values g h =
-    let k =
-    passed (ltb 0 (s .«main_width»))
-    (leb (s .«main_width») (m .«main_columns»)
-    ∷ leb (s .height) (m .height)
-    ∷ leb (s .«pre_width») (m .«pre_columns»)
-    ∷ leb (s .«pre_height») (m .height)
-    ∷ leb (length public-values) (m .«public_values»)
-    ∷ [])
-    h in
-    record {
-      main-width = omega (arith, leb-true (s .«main_width») (m .«main_columns») (k .1 .0), g .main-columns);
-      height = omega (arith, leb-true (s .height) (m .height) (k .1 .1 .0), g .height);
-      pre-width = omega (arith, leb-true (s .«pre_width») (m .«pre_columns») (k .1 .1 .1 .0), g .pre-columns);
-      pre-height = omega (arith, leb-true (s .«pre_height») (m .height) (k .1 .1 .1 .1 .0), g .height);
-    }
-
+-- so few that no sum of their words leaves 64 bits
 pub lookups-few : (m : Limits) (lookups tuples : List ℕ) → Sane m → lookups-within m lookups tuples ≡ true → (lookup-count lookups ≤ 64) × (length tuples ≤ 64)
 lookups-few m lookups tuples g h =
     let k : Limited m lookups tuples = limited m lookups tuples h in (omega (arith, k .few-lookups, g .lookups), omega (arith, k .few-tuples, g .tuples))

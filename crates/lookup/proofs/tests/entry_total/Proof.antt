@@ -1,3 +1,4 @@
+use native.Mathlib.Omega.{arith}
 use Prim.Native.Nat.{_-_}
 use mathlib.Core.Path.{_∙_}
 use Rattle.lookup.specs.Lookups.{entry}
@@ -34,7 +35,7 @@ loop-again : tie.Need-loop-again Inv-loop μ-loop
 loop-again c = sum-turn (c .wide .result) (c .before .before .before .loop .inv) (search needs) (c .wide .ensures .1) (c .wide .ensures .0 ∙ c .before .entry .ensures)
 
 returns : tie.Need-returns Inv-loop μ-loop
-returns c = sum-ends (c .before .loop .inv) (search needs)
+returns c = (sum-ends (c .before .loop .inv) (search needs), omega (arith, c .before .loop .inv .small, c .before .loop .inv .within))
 
 pub entry-total-spec : {M : Type 1} → statement M
 entry-total-spec =

@@ -21,7 +21,7 @@ width-total-requires c κs = search needs
 
 returns : tie.Need-returns
 unfolding lookups-fit tuple-start multiplicity-start flag-start
-returns c = rw (c .before .before .before .before .name-total .ensures, c .before .before .before .entry-total .ensures, c .before .before .entry-total2 .ensures, c .before .entry-total3 .ensures, c .width-total .ensures)
+returns c = rw (c .before .before .before .before .name-total .ensures, c .before .before .before .entry-total .ensures .0, c .before .before .entry-total2 .ensures .0, c .before .entry-total3 .ensures .0, c .width-total .ensures)
 
 pub lookups-fit-spec : {M : Type 1} → statement M
 lookups-fit-spec =

@@ -1,10 +1,10 @@
 use Rattle.field.specs.Ext.{ws}
 use Prim.Native.Nat.{_+_}
-use Rattle.lookup.specs.laws.Prefixes.{scale-reduced}
-use Rattle.lookup.specs.Prefixes.{prefix-by}
+use Rattle.protocol.specs.laws.Prefixes.{scale-reduced}
+use Rattle.protocol.specs.Prefixes.{prefix-by}
 use borrow.Author.Needs.{needs}
-use Rattle.lookup.proofs.challenges.prefix.Statement.{statement}
-use Rattle.lookup.proofs.challenges.prefix.Tie as tie
+use Rattle.protocol.proofs.challenges.prefix.Statement.{statement}
+use Rattle.protocol.proofs.challenges.prefix.Tie as tie
 
 add-reduce : tie.Need-add-reduce
 add-reduce c = search needs

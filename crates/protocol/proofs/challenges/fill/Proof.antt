@@ -2,11 +2,11 @@ use lib.ListN.{length}
 use mathlib.Core.Path.{refl, _∙_, ap}
 use Prim.Native.Nat.{_-_}
 use Rattle.field.specs.Ext.{ws}
-use Rattle.lookup.proofs.Writing.{Writing, begins, turn, ends}
-use Rattle.lookup.specs.Prefixes.{prefix-by}
+use Rattle.lists.specs.laws.Writing.{Writing, begins, turn, ends}
+use Rattle.protocol.specs.Prefixes.{prefix-by}
 use borrow.Author.Needs.{needs}
-use Rattle.lookup.proofs.challenges.fill.Statement.{statement}
-use Rattle.lookup.proofs.challenges.fill.Tie as tie
+use Rattle.protocol.proofs.challenges.fill.Statement.{statement}
+use Rattle.protocol.proofs.challenges.fill.Tie as tie
 
 abbrev Inv-loop : tie.InvT-loop
 Inv-loop p alpha gamma count out₀ i₀ out i = Writing (prefix-by p (ws alpha) (ws gamma)) 4 count out₀ i out

@@ -2,11 +2,11 @@ use borrow.Author.Tests.{not-true, not-false, eq-eqb, ne-eqb}
 use native.Mathlib.Omega.{arith}
 use mathlib.Core.Path.{refl}
 use mathlib.Core.Bool.{_&&_}
-use Rattle.lookup.specs.laws.Prefixes.{writable}
-use Rattle.lookup.specs.Prefixes.{prefixes-refusal}
+use Rattle.protocol.specs.laws.Prefixes.{writable}
+use Rattle.protocol.specs.Prefixes.{prefixes-refusal}
 use borrow.Author.Needs.{needs}
-use Rattle.lookup.proofs.challenges.prefixes.Statement.{statement}
-use Rattle.lookup.proofs.challenges.prefixes.Tie as tie
+use Rattle.protocol.proofs.challenges.prefixes.Statement.{statement}
+use Rattle.protocol.proofs.challenges.prefixes.Tie as tie
 
 fits-requires : tie.Need-fits-requires
 fits-requires c κs = search needs

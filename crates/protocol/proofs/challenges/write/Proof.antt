@@ -1,9 +1,9 @@
 use mathlib.Core.Path.{sym, _∙_}
-use Rattle.lookup.specs.laws.Prefixes.{loaded, element-whole}
-use Rattle.lookup.specs.Prefixes.{prefix-by}
+use Rattle.protocol.specs.laws.Prefixes.{loaded, element-whole}
+use Rattle.protocol.specs.Prefixes.{prefix-by}
 use borrow.Author.Needs.{needs}
-use Rattle.lookup.proofs.challenges.write.Statement.{statement}
-use Rattle.lookup.proofs.challenges.write.Tie as tie
+use Rattle.protocol.proofs.challenges.write.Statement.{statement}
+use Rattle.protocol.proofs.challenges.write.Tie as tie
 
 load-requires : tie.Need-load-requires
 load-requires c κs = search needs

@@ -1,7 +1,7 @@
-use Rattle.lookup.specs.Prefixes.{prefixes-fit}
+use Rattle.protocol.specs.Prefixes.{prefixes-fit}
 use borrow.Author.Needs.{needs}
-use Rattle.lookup.proofs.challenges.fits.Statement.{statement}
-use Rattle.lookup.proofs.challenges.fits.Tie as tie
+use Rattle.protocol.proofs.challenges.fits.Statement.{statement}
+use Rattle.protocol.proofs.challenges.fits.Tie as tie
 
 index-requires : tie.Need-index-requires
 index-requires c κs = search needs

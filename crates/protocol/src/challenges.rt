@@ -22,7 +22,7 @@ ghost use Rattle.field.specs.Element.{Word4};
 ghost use Rattle.field.specs.Ext.{ws};
 ghost use Rattle.expression.specs.Limits as Sizes;
 ghost use Rattle.expression.specs.Refusal.{refusal};
-ghost use Rattle.lookup.specs.Prefixes.{prefix-by, prefix, Writable, prefixes-fit, prefixes-refusal, prefixes-after};
+ghost use Rattle.protocol.specs.Prefixes.{prefix-by, prefix, Writable, prefixes-fit, prefixes-refusal, prefixes-after};
 
 // alpha and beta are one element each, W and the number of prefixes are within their limits, and the prefixes have room.
 fn fits(

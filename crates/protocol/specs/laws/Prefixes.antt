@@ -16,7 +16,7 @@ use Rattle.expression.specs.Words.{all-below}
 use Rattle.expression.specs.Valid.{Below}
 use Rattle.expression.specs.declared.sizes.Limits.{Limits}
 use Rattle.expression.specs.laws.Below.{below-tested}
-use Rattle.lookup.specs.Prefixes.{Writable, prefixes-fit}
+use Rattle.protocol.specs.Prefixes.{Writable, prefixes-fit}
 
 pub scale-reduced : (p z : ℕ) (a : List ℕ) → scale4 p (z % p) a ≡ scale4 p z a
 unfolding scale4

@@ -1,8 +1,8 @@
 use native.Mathlib.Omega.{arith}
 use Rattle.expression.specs.Limits.{cabinet}
 use borrow.Author.Needs.{needs}
-use Rattle.lookup.proofs.challenges.new.Statement.{statement}
-use Rattle.lookup.proofs.challenges.new.Tie as tie
+use Rattle.protocol.proofs.challenges.new.Statement.{statement}
+use Rattle.protocol.proofs.challenges.new.Tie as tie
 
 cabinet-requires : tie.Need-cabinet-requires
 cabinet-requires c κs = search needs

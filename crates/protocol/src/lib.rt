@@ -1,0 +1,2 @@
+// The small doors: prefixes, the terminals' sum, the height bound, counts.
+pub mod challenges;
