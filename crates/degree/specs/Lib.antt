@@ -1,3 +1,4 @@
 pub mod Sums
 pub mod Degree
+pub mod At
 pub mod Door
