@@ -1,0 +1,2 @@
+pub mod Degree
+pub mod Formed

@@ -1,0 +1,5 @@
+pub mod Order
+pub mod Widths
+pub mod Door
+pub mod Asks
+pub mod laws
