@@ -1,8 +1,11 @@
 pub mod Words
 pub mod Refusal
+pub mod Answer
 pub mod Limits
 pub mod Node
 pub mod Window
 pub mod Values
 pub mod Degree
 pub mod Tests
+pub mod Valid
+pub mod laws

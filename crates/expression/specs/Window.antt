@@ -1,6 +1,8 @@
 -- The traces of a table and the window on them.
 use Prim.Native.Nat.{ℕ, _+_, _*_, _%_}
+use mathlib.Core.Bool.{cond}
 use mathlib.Core.List.{List}
+use lib.Dec.{eqb}
 use lib.ListN.{take, drop}
 use Rattle.expression.specs.declared.sizes.Shape.{Shape}
 
@@ -10,6 +12,10 @@ pub record Traces : Type 0 where
   pub main : List ℕ
   pub preprocessed : List ℕ
   pub public-values : List ℕ
+
+-- the traces of a table from the lists that are lent
+abbrev pub lent-traces : Shape → List ℕ → List ℕ → List ℕ → Traces
+lent-traces s main preprocessed public-values = record { shape = s; main = main; preprocessed = preprocessed; public-values = public-values }
 
 -- What a row is evaluated from: the rows of main and of the preprocessed trace at each offset, 0 the current row and 1 the next.
 pub record Window : Type 0 where
@@ -34,3 +40,11 @@ window t r =
       row = r;
       height = t .shape .height;
     }
+
+-- the window over two rows of main and two of the preprocessed trace that are lent
+abbrev pub two : List ℕ → List ℕ → ℕ → List ℕ
+two current next o = cond (eqb o 0) current next
+
+abbrev pub lent-window : List ℕ → List ℕ → List ℕ → List ℕ → List ℕ → ℕ → ℕ → Window
+lent-window main0 main1 pre0 pre1 public-values row height =
+    record { main = two main0 main1; preprocessed = two pre0 pre1; public-values = public-values; row = row; height = height }

@@ -3,3 +3,5 @@ pub mod Fold
 pub mod Tab
 pub mod Parts
 pub mod Filled
+pub mod Tests
+pub mod Turns

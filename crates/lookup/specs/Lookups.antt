@@ -22,6 +22,11 @@ pub record Lookups : Type 0 where
   -- the nodes of each tuple's elements, one tuple after the other
   pub elements : List ℕ
 
+-- the lookups from the lists that are lent
+abbrev pub lent-lookups : List ℕ → List ℕ → List ℕ → List ℕ → List ℕ → List ℕ → Lookups
+lent-lookups lookups names tuples multiplicities flags elements =
+    record { lookups = lookups; names = names; tuples = tuples; multiplicities = multiplicities; flags = flags; elements = elements }
+
 abbrev pub lookup-count : List ℕ → ℕ
 lookup-count lookups = length lookups / 8
 

@@ -4,9 +4,9 @@ use mathlib.Core.Logic.{_≢_, ⊎-elim, _⊎_, inl, inr}
 use mathlib.Core.Bool.{Bool, true, false, _&&_, _||_, true≢false}
 use mathlib.Core.Option.{Option, none, some, Option·some-ne-none}
 use mathlib.Core.List.{List, [], _∷_, _++_, append-assoc, append-nil, List·Memᴰ, List·Memᴰ·not-nil, List·Memᴰ·append-cases}
-use Prim.Native.Nat.{ℕ, zero, suc, _+_, _<_, _≤_}
+use Prim.Native.Nat.{ℕ, zero, suc, _+_, _<_, _≤_, zero-le}
 use native.Mathlib.Omega.{arith}
-use native.Mathlib.Nat.{eq-or-lt-of-le, le-of-suc-le-suc, zero-add, add-zero, add-suc, add-assoc}
+use native.Mathlib.Nat.{le-refl, eq-or-lt-of-le, le-of-suc-le-suc, zero-add, add-zero, add-suc, add-assoc}
 use native.Mathlib.Numerals.{add-one}
 use lib.Dec.{T, eqb, eqb→eq, eqb-refl}
 use Rattle.lists.specs.Count.{total, every, some-of, first, or-else, joined}
@@ -105,6 +105,15 @@ ne-of-eqb a b e k = true≢false (sym (eqb-true k) ∙ e)
 pub total-one : (f : ℕ → ℕ) (n : ℕ) → total f (n + 1) ≡ total f n + f n
 unfolding total
 total-one f n = rw (add-one n)
+
+-- what the first i and one more sum to is no more than all
+pub total-le : (f : ℕ → ℕ) (i n : ℕ) → i ≤ n → total f i ≤ total f n
+unfolding total
+total-le f i zero l = let e : i ≡ 0 = omega arith in rw e zero-le
+total-le f i (suc n) l = ⊎-elim {C = total f i ≤ total f (suc n)} (λ e. rw e (le-refl _)) (λ k. omega (arith, total-le f i n (le-of-suc-le-suc k))) (eq-or-lt-of-le l)
+
+pub total-in : (f : ℕ → ℕ) (i n : ℕ) → i < n → total f i + f i ≤ total f n
+total-in f i n l = let k : i + 1 ≤ n = omega arith in omega (arith, total-one f i, total-le f (i + 1) n k)
 
 pub every-one : (f : ℕ → Bool) (n : ℕ) → every f (n + 1) ≡ (every f n && f n)
 unfolding every

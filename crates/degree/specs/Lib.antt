@@ -1,0 +1,4 @@
+pub mod Sums
+pub mod Degree
+pub mod Entry
+pub mod Door

@@ -1,0 +1,7 @@
+// The door of degree.
+use expression::refusal::Refusal;
+
+pub enum DegreeAnswer {
+    Degree(u64),
+    Refused(Refusal),
+}

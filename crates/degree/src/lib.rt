@@ -1,0 +1,2 @@
+// The degree of a lookup's constraint.
+pub mod door;

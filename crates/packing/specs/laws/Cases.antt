@@ -1,0 +1,135 @@
+-- The worked cases c8 to c10 of document 01 and its examples of refusals 6 and 7: one table, one theorem, by computation.
+use mathlib.Core.Path.{_≡_, refl}
+use mathlib.Core.List.{List, [], _∷_, _++_, flatMap, zipWith}
+use Prim.Native.Nat.{ℕ}
+use lib.ListN.{replicate}
+use Rattle.lists.specs.Count.{total, every, first}
+use Rattle.lists.specs.Tab.{tab}
+use Rattle.expression.specs.Words.{all-below, all-within}
+use Rattle.expression.specs.Limits.{cabinet}
+use Rattle.expression.specs.Node.{decode, node}
+use Rattle.expression.specs.Degree.{node-degree, degrees}
+use Rattle.expression.specs.Tests.{traces-within, nodes-within, traces-fit, nodes-fit, traces-below, constants-below, nodes-known, degrees-low}
+use Rattle.expression.specs.declared.refusal.Refusal.the-variants.{SizeAtOdds, WidthsDiffer, WeightTooLarge}
+use Rattle.lookup.specs.Lookups.{Lookups, name-start, tuple-start, multiplicity-start, flag-start, element-start, tuple-width, multiplicity-node, flag-node, tuple-nodes, lookup-at, lookups-of}
+use Rattle.lookup.specs.Table.{Table}
+use Rattle.lookup.specs.Tests.{lookups-within, lookups-fit, sizes, words-below, known, lengths-agree, nodes-present, lists-agree}
+use Rattle.degree.specs.Sums.{sum-of, largest-of, greatest}
+use Rattle.degree.specs.Degree.{tuple-degree, denominator-degree, numerator-degree, additive-degree, exclusive-degree, lookup-degree}
+use Rattle.degree.specs.Entry.{rowless, entry-refusal}
+use Rattle.degree.specs.Door.{degree-answer}
+use Rattle.degree.specs.declared.door.DegreeAnswer.the-variants as degree
+use Rattle.widths.specs.Order.{keep, position, by-place, numbers, same, name-at, same-bus, place, arranged}
+use Rattle.widths.specs.Widths.{width-in-lookup, width-in-table, expected, by-bus, lookup-refusal, table-refusal, widths-refusal, widest-in-lookup, widest-in-table, widest}
+use Rattle.widths.specs.Door.{Lists, size-start, table-at, tables-of, lists-fit, table-fits, all-fit, widths-answer}
+use Rattle.widths.specs.declared.door.WidthsAnswer.the-variants as widths
+use Rattle.packing.specs.Packing.{in-order, fill, filled, renumbered, packed, overweight}
+use Rattle.packing.specs.Written.{lookup-words, words-of}
+use Rattle.packing.specs.Door.{Outcome, holds, columns, packing-refusal, packing}
+use Rattle.packing.specs.declared.door.PackingAnswer.the-variants.{Packed, Refused}
+
+abbrev p : ℕ
+p = 2013265921
+
+-- a table whose node 0 is column 0 of the current row, of degree 1
+abbrev table : Lookups → Table
+table l = rowless 1 0 [] (1 ∷ 0 ∷ 0 ∷ []) l
+
+-- one lookup of n tuples (node 0), counted by node 0; on the bus "b"
+abbrev additive : List ℕ → ℕ → Lookups
+additive record-words n =
+    record { lookups = record-words; names = 98 ∷ []; tuples = replicate n 1; multiplicities = replicate n 0; flags = []; elements = replicate n 0 }
+
+-- n lookups of one such tuple each
+abbrev singles : List ℕ → ℕ → Lookups
+singles record-words n =
+    record { lookups = record-words; names = replicate n 98; tuples = replicate n 1; multiplicities = replicate n 0; flags = []; elements = replicate n 0 }
+
+-- c8: one lookup of two tuples; c9: one of four exclusive branches
+abbrev two : Lookups
+two = additive (1 ∷ 1 ∷ 1 ∷ 0 ∷ 0 ∷ 2 ∷ 2 ∷ 0 ∷ []) 2
+
+abbrev four : Lookups
+four =
+    record {
+      lookups = 1 ∷ 1 ∷ 1 ∷ 0 ∷ 1 ∷ 4 ∷ 4 ∷ 4 ∷ [];
+      names = 98 ∷ [];
+      tuples = replicate 4 1;
+      multiplicities = replicate 4 0;
+      flags = replicate 4 0;
+      elements = replicate 4 0;
+    }
+
+-- c10: five lookups of weight 1
+abbrev five : Lookups
+five =
+    singles
+    (1 ∷ 1 ∷ 1 ∷ 0 ∷ 0 ∷ 1 ∷ 1 ∷ 0 ∷ 1 ∷ 1 ∷ 1 ∷ 1 ∷ 0 ∷ 1 ∷ 1 ∷ 0 ∷ 1 ∷ 1 ∷ 1 ∷ 2 ∷ 0 ∷ 1 ∷ 1 ∷ 0 ∷ 1 ∷ 1 ∷ 1 ∷ 3 ∷ 0 ∷ 1 ∷ 1 ∷ 0 ∷ 1 ∷ 1 ∷ 1 ∷ 4 ∷ 0 ∷ 1 ∷ 1 ∷ 0 ∷ [])
+    5
+
+-- its columns at limit 3: two of weight 2 with two tuples, one of weight 1 with one
+abbrev two-two-one : List ℕ
+two-two-one = 1 ∷ 1 ∷ 2 ∷ 0 ∷ 0 ∷ 2 ∷ 2 ∷ 0 ∷ 1 ∷ 1 ∷ 2 ∷ 1 ∷ 0 ∷ 2 ∷ 2 ∷ 0 ∷ 1 ∷ 1 ∷ 1 ∷ 2 ∷ 0 ∷ 1 ∷ 1 ∷ 0 ∷ []
+
+-- row 6: the bus "mem", widths 2 and 3
+abbrev mem : Lookups
+mem =
+    record {
+      lookups = 1 ∷ 3 ∷ 1 ∷ 0 ∷ 0 ∷ 1 ∷ 1 ∷ 0 ∷ 1 ∷ 3 ∷ 1 ∷ 1 ∷ 0 ∷ 1 ∷ 1 ∷ 0 ∷ [];
+      names = 109 ∷ 101 ∷ 109 ∷ 109 ∷ 101 ∷ 109 ∷ [];
+      tuples = 2 ∷ 3 ∷ [];
+      multiplicities = 0 ∷ 0 ∷ [];
+      flags = [];
+      elements = replicate 5 0;
+    }
+
+-- the same two lookups in two tables
+abbrev mem-tables : List ℕ → Lists
+mem-tables tuples =
+    record {
+      lookups = 1 ∷ 3 ∷ 1 ∷ 0 ∷ 0 ∷ 1 ∷ 1 ∷ 0 ∷ 1 ∷ 3 ∷ 1 ∷ 0 ∷ 0 ∷ 1 ∷ 1 ∷ 0 ∷ [];
+      names = 109 ∷ 101 ∷ 109 ∷ 109 ∷ 101 ∷ 109 ∷ [];
+      tuples = tuples;
+      sizes = 1 ∷ 3 ∷ 1 ∷ 1 ∷ 3 ∷ 1 ∷ [];
+    }
+
+-- row 7: weights 4294967295 and 1
+abbrev heavy : Lookups
+heavy = singles (1 ∷ 1 ∷ 4294967295 ∷ 0 ∷ 0 ∷ 1 ∷ 1 ∷ 0 ∷ 1 ∷ 1 ∷ 1 ∷ 1 ∷ 0 ∷ 1 ∷ 1 ∷ 0 ∷ []) 2
+
+-- lent lists with room for five lookups, all 9
+abbrev room : Lookups
+room =
+    record { lookups = replicate 40 9; names = replicate 5 9; tuples = replicate 5 9; multiplicities = replicate 5 9; flags = []; elements = replicate 5 9 }
+
+pub cases :
+  -- c8: two additive tuples, all of degree 1: degree 3
+  (degree-answer cabinet p 0 0 (table two) ≡ degree.Degree 3)
+  -- c9: four exclusive branches likewise: 3
+  × (degree-answer cabinet p 0 0 (table four) ≡ degree.Degree 3)
+  -- c10: five one-tuple additive lookups of degree 1 on one bus, limit 3: columns of 2, 2, 1; what lies past them is untouched
+  × (packing cabinet p 3 (table five) room .lists
+     ≡ record {
+         lookups = two-two-one ++ replicate 16 9;
+         names = 98 ∷ 98 ∷ 98 ∷ 9 ∷ 9 ∷ [];
+         tuples = replicate 5 1;
+         multiplicities = replicate 5 0;
+         flags = [];
+         elements = replicate 5 0;
+       })
+  -- limit 0: five
+  × (packing cabinet p 0 (table five) room .lists ≡ five)
+  × (packing cabinet p 0 (table five) room .answer
+     ≡ Packed (record { lookups = 40; names = 5; tuples = 5; multiplicities = 5; flags = 0; elements = 5 }))
+  -- a lent list that is too small is 1; two lookups do not fit where five do not merge
+  × (packing cabinet p 0 (table five) two ≡ record { answer = Refused SizeAtOdds; lists = two })
+  -- 6: bus "mem": 2 and 3
+  × (packing cabinet p 3 (table mem) room ≡ record { answer = Refused (WidthsDiffer 1 2 3); lists = room })
+  × (widths-answer cabinet (mem-tables (2 ∷ 3 ∷ [])) ≡ widths.Refused (WidthsDiffer 0 2 3))
+  × (widths-answer cabinet (mem-tables (2 ∷ 2 ∷ [])) ≡ widths.Widest 2)
+  -- 7: weights 4294967295 and 1; a merge that is not kept is none
+  × (packing cabinet p 3 (table heavy) room ≡ record { answer = Refused WeightTooLarge; lists = room })
+  × (packing cabinet p 2 (table heavy) room .answer
+     ≡ Packed (record { lookups = 16; names = 2; tuples = 2; multiplicities = 2; flags = 0; elements = 2 }))
+unfolding total every first tab flatMap zipWith all-below all-within cabinet decode node node-degree degrees traces-within nodes-within traces-fit nodes-fit traces-below constants-below nodes-known degrees-low name-start tuple-start multiplicity-start flag-start element-start tuple-width multiplicity-node flag-node tuple-nodes lookup-at lookups-of lookups-within lookups-fit sizes words-below known lengths-agree nodes-present lists-agree sum-of largest-of greatest tuple-degree denominator-degree numerator-degree additive-degree exclusive-degree lookup-degree rowless entry-refusal degree-answer keep position by-place numbers same name-at same-bus place arranged width-in-lookup width-in-table expected by-bus lookup-refusal table-refusal widths-refusal widest-in-lookup widest-in-table widest size-start table-at tables-of lists-fit table-fits all-fit widths-answer in-order fill filled renumbered packed overweight lookup-words words-of holds columns packing-refusal packing
+cases = (refl, refl, refl, refl, refl, refl, refl, refl, refl, refl, refl)

@@ -1,0 +1,2 @@
+// Packing: same-bus lookups share columns.
+pub mod door;

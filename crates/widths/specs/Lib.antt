@@ -1,0 +1,5 @@
+pub mod Order
+pub mod Asks
+pub mod Widths
+pub mod Door
+pub mod laws

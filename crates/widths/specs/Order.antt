@@ -1,0 +1,56 @@
+-- The order in which packing and widths go through a table's lookups.
+use mathlib.Core.Bool.{Bool, true, false, cond, not, _&&_, _||_}
+use mathlib.Core.List.{List, [], _∷_, _++_}
+use Prim.Native.Nat.{ℕ, zero, suc}
+use lib.Dec.{eqb}
+use lib.ListN.{take, drop}
+use Rattle.lookup.specs.Lookups.{on-bus, exclusive, name-length, name-start}
+
+module _ {A : Type 0} where
+  -- the elements that pass a test, in order
+  unfoldable pub keep : (A → Bool) → List A → List A
+  keep f [] = []
+  keep f (x ∷ xs) = cond (f x) (x ∷ keep f xs) (keep f xs)
+
+  -- the position of the first element that passes a test; the length where there is none
+  unfoldable pub position : (A → Bool) → List A → ℕ
+  position f [] = 0
+  position f (x ∷ xs) = cond (f x) 0 (suc (position f xs))
+
+  -- the elements of the places 0, .., k - 1, place by place; in one place in list order
+  unfoldable pub by-place : (A → ℕ) → ℕ → List A → List A
+  by-place f zero xs = []
+  by-place f (suc k) xs = by-place f k xs ++ keep (λ (x : A). eqb (f x) k) xs
+
+-- 0, 1, .., n - 1
+unfoldable pub numbers : ℕ → List ℕ
+numbers zero = []
+numbers (suc n) = numbers n ++ (n ∷ [])
+
+-- equal names: as many bytes, and the same ones
+unfoldable pub same : List ℕ → List ℕ → Bool
+same [] [] = true
+same [] (y ∷ ys) = false
+same (x ∷ xs) [] = false
+same (x ∷ xs) (y ∷ ys) = eqb x y && same xs ys
+
+-- the name of lookup i
+unfoldable pub name-at : List ℕ → List ℕ → ℕ → List ℕ
+name-at lookups names i = take (name-length lookups i) (drop (name-start lookups i) names)
+
+-- the lookups that share nothing: locals; in packing exclusives too
+unfoldable pub alone-at : Bool → List ℕ → ℕ → Bool
+alone-at packing lookups i = cond packing (not (on-bus lookups i) || exclusive lookups i) (not (on-bus lookups i))
+
+-- n lookups by bus; the lookups that are `alone` belong to none
+module _ (alone : ℕ → Bool) (name : ℕ → List ℕ) where
+  unfoldable pub same-bus : ℕ → ℕ → Bool
+  same-bus i j = not (alone i) && (not (alone j) && same (name i) (name j))
+
+  -- place 0 for those that are alone, place 1 + j for those on the bus whose first lookup is lookup j
+  unfoldable pub place : ℕ → ℕ → ℕ
+  place n i = cond (alone i) 0 (suc (position (same-bus i) (numbers n)))
+
+  -- those that are alone, then bus by bus by their first appearance; in list order each
+  unfoldable pub arranged : ℕ → List ℕ
+  arranged n = by-place (place n) (suc n) (numbers n)
