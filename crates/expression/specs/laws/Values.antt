@@ -162,6 +162,15 @@ values-cut {m0} {m1} {q0} {q1} p nodes t r s h e0 e1 f0 f1 g =
     (ap (λ (k : ℕ). values p nodes (lent-window (row-of (t .main) (t .shape .«main_width») k) (row-of (t .main) (t .shape .«main_width») ((r + 1) % t .shape .height)) (row-of (t .preprocessed) (t .shape .«pre_width») k) (row-of (t .preprocessed) (t .shape .«pre_width») ((r + 1) % t .shape .height)) (t .public-values) r (t .shape .height)) (node-count nodes)) (sym (stays r (t .shape .height) h))
     ∙ values-seen p nodes (window t r) (node-count nodes))
 
+pub filled-cut : {p : ℕ} {t : Traces} {nodes m0 m1 q0 q1 b : List ℕ} {r : ℕ} (s : ℕ) → Evaluable p t nodes → r < t .shape .height
+    → m0 ≡ row-of (t .main) (t .shape .«main_width») r → m1 ≡ row-of (t .main) (t .shape .«main_width») s
+    → q0 ≡ row-of (t .preprocessed) (t .shape .«pre_width») r → q1 ≡ row-of (t .preprocessed) (t .shape .«pre_width») s
+    → s ≡ (r + 1) % t .shape .height
+    → Slots p b × (b ≡ values p nodes (lent-window m0 m1 q0 q1 (t .public-values) r (t .shape .height)) (node-count nodes) ++ replicate (1024 - node-count nodes) 0)
+    → Slots p b × (b ≡ row-values p nodes t r ++ replicate (1024 - node-count nodes) 0)
+filled-cut {p} {t} {nodes} {m0} {m1} {q0} {q1} {b} {r} s v h e0 e1 f0 f1 g (k, e) =
+    (k, e ∙ ap (λ (l : List ℕ). l ++ replicate (1024 - node-count nodes) 0) (values-cut p nodes t r s h e0 e1 f0 f1 g))
+
 -- the values are below p
 bit-below : (p : ℕ) (b : Bool) → 2 < p → bit b < p
 bit-below p true l = omega arith

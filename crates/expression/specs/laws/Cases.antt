@@ -1,0 +1,114 @@
+-- The worked examples of document 01 that are about the expression table, as one table with one theorem.
+use mathlib.Core.Bool.{Bool, true, false, _&&_}
+use mathlib.Core.List.{List, [], _∷_}
+use Prim.Native.Nat.{ℕ}
+use lib.Dec.{eqb, T}
+use Rattle.lists.specs.Count.{every}
+use Rattle.field.specs.Modulus.{babybear}
+use Rattle.expression.specs.Words.{all-below, all-within}
+use Rattle.expression.specs.Limits.{cabinet}
+use Rattle.expression.specs.Node.{decode, node, node-count}
+use Rattle.expression.specs.Window.{Traces, row-of, window}
+use Rattle.expression.specs.Values.{bit, node-value, values, row-values}
+use Rattle.expression.specs.Degree.{node-degree, degrees}
+use Rattle.expression.specs.Tests.{traces-within, traces-below, constants-below, nodes-known, degrees-low}
+use Rattle.expression.specs.declared.sizes.Shape.{Shape}
+
+pub record Case : Type 0 where
+  pub computed : List ℕ
+  pub expected : List ℕ
+
+-- a verdict as a word: 1 where there is no such refusal
+abbrev pub verdict : Bool → List ℕ
+verdict b = bit b ∷ []
+
+-- main has one column with the rows 3, 4, 5; the preprocessed trace has one row more, 6, 7, 8, 9; one public value, 10
+abbrev pub three-rows : Traces
+three-rows =
+    record {
+      shape = record { «main_width» = 1; height = 3; «pre_width» = 1; «pre_height» = 4 };
+      main = 3 ∷ 4 ∷ 5 ∷ [];
+      preprocessed = 6 ∷ 7 ∷ 8 ∷ 9 ∷ [];
+      public-values = 10 ∷ [];
+    }
+
+abbrev pub one-row : Traces
+one-row =
+    record {
+      shape = record { «main_width» = 1; height = 1; «pre_width» = 0; «pre_height» = 0 };
+      main = 3 ∷ [];
+      preprocessed = [];
+      public-values = [];
+    }
+
+-- the constant 2, then the column and the preprocessed column, each in the current and the next row, and the public value
+abbrev pub leaves : List ℕ
+leaves = 0 ∷ 2 ∷ 0 ∷ 1 ∷ 0 ∷ 0 ∷ 2 ∷ 0 ∷ 0 ∷ 3 ∷ 0 ∷ 0 ∷ 4 ∷ 0 ∷ 0 ∷ 5 ∷ 0 ∷ 0 ∷ []
+
+-- first row, last row, transition
+abbrev pub selectors : List ℕ
+selectors = 6 ∷ 0 ∷ 0 ∷ 7 ∷ 0 ∷ 0 ∷ 8 ∷ 0 ∷ 0 ∷ []
+
+-- the column in the current row and in the next: their sum, difference and product, and the negation of the first
+abbrev pub operations : List ℕ
+operations = 1 ∷ 0 ∷ 0 ∷ 2 ∷ 0 ∷ 0 ∷ 9 ∷ 0 ∷ 1 ∷ 10 ∷ 0 ∷ 1 ∷ 11 ∷ 0 ∷ 1 ∷ 12 ∷ 0 ∷ 0 ∷ []
+
+-- three columns, and node 3 as the sum of node a and node 1
+abbrev pub sum-of : ℕ → List ℕ
+sum-of a = 1 ∷ 0 ∷ 0 ∷ 2 ∷ 0 ∷ 0 ∷ 1 ∷ 0 ∷ 0 ∷ 9 ∷ a ∷ 1 ∷ []
+
+-- a column, squared seven times
+abbrev pub squared : List ℕ
+squared =
+    1 ∷ 0 ∷ 0 ∷ 11 ∷ 0 ∷ 0 ∷ 11 ∷ 1 ∷ 1 ∷ 11 ∷ 2 ∷ 2 ∷ 11 ∷ 3 ∷ 3 ∷ 11 ∷ 4 ∷ 4 ∷ 11 ∷ 5 ∷ 5 ∷ 11 ∷ 6 ∷ 6 ∷ []
+
+abbrev pub squared-again : List ℕ
+squared-again =
+    1 ∷ 0 ∷ 0 ∷ 11 ∷ 0 ∷ 0 ∷ 11 ∷ 1 ∷ 1 ∷ 11 ∷ 2 ∷ 2 ∷ 11 ∷ 3 ∷ 3 ∷ 11 ∷ 4 ∷ 4 ∷ 11 ∷ 5 ∷ 5 ∷ 11 ∷ 6 ∷ 6 ∷ 11 ∷ 7 ∷ 7 ∷ []
+
+abbrev pub cases : List Case
+cases =
+    -- refusal 1: main width 0
+    record { computed = verdict (traces-within cabinet (record { «main_width» = 0; height = 3; «pre_width» = 1; «pre_height» = 4 }) []); expected = 0 ∷ [] }
+    ∷ record { computed = verdict (traces-within cabinet (three-rows .shape) (10 ∷ [])); expected = 1 ∷ [] }
+    -- refusal 2: a word 2013265921, in a list and in a constant
+    ∷ record { computed = verdict (all-below babybear (5 ∷ 2013265921 ∷ [])); expected = 0 ∷ [] }
+    ∷ record { computed = verdict (all-below babybear (5 ∷ 2013265920 ∷ [])); expected = 1 ∷ [] }
+    ∷ record { computed = verdict (constants-below babybear (0 ∷ 2013265921 ∷ 0 ∷ [])); expected = 0 ∷ [] }
+    ∷ record { computed = verdict (traces-below babybear three-rows); expected = 1 ∷ [] }
+    -- refusal 3: node 3 = node 3 + node 1; a kind 13; a second column; preprocessed without a preprocessed trace
+    ∷ record { computed = verdict (nodes-known (three-rows .shape) 1 (sum-of 3)); expected = 0 ∷ [] }
+    ∷ record { computed = verdict (nodes-known (three-rows .shape) 1 (sum-of 2)); expected = 1 ∷ [] }
+    ∷ record { computed = verdict (nodes-known (three-rows .shape) 1 (13 ∷ 0 ∷ 0 ∷ [])); expected = 0 ∷ [] }
+    ∷ record { computed = verdict (nodes-known (three-rows .shape) 1 (1 ∷ 1 ∷ 0 ∷ [])); expected = 0 ∷ [] }
+    ∷ record { computed = verdict (nodes-known (one-row .shape) 0 (3 ∷ 0 ∷ 0 ∷ [])); expected = 0 ∷ [] }
+    -- refusal 4: a column squared 8 times
+    ∷ record { computed = verdict (degrees-low cabinet squared-again); expected = 0 ∷ [] }
+    ∷ record { computed = verdict (degrees-low cabinet squared); expected = 1 ∷ [] }
+    ∷ record { computed = degrees 0 (8 ∷ 0 ∷ 0 ∷ 1 ∷ 0 ∷ 0 ∷ 9 ∷ 0 ∷ 1 ∷ 11 ∷ 1 ∷ 2 ∷ []) 4; expected = 0 ∷ 1 ∷ 1 ∷ 2 ∷ [] }
+    -- the two-row window: row 1, and the last row with row 0 after it, in the preprocessed trace too
+    ∷ record { computed = row-values babybear leaves three-rows 1; expected = 2 ∷ 4 ∷ 5 ∷ 7 ∷ 8 ∷ 10 ∷ [] }
+    ∷ record { computed = row-values babybear leaves three-rows 2; expected = 2 ∷ 5 ∷ 3 ∷ 8 ∷ 6 ∷ 10 ∷ [] }
+    -- kinds 6 to 8 on each of three rows, and at height 1
+    ∷ record { computed = row-values babybear selectors three-rows 0; expected = 1 ∷ 0 ∷ 1 ∷ [] }
+    ∷ record { computed = row-values babybear selectors three-rows 1; expected = 0 ∷ 0 ∷ 1 ∷ [] }
+    ∷ record { computed = row-values babybear selectors three-rows 2; expected = 0 ∷ 1 ∷ 0 ∷ [] }
+    ∷ record { computed = row-values babybear selectors one-row 0; expected = 1 ∷ 1 ∷ 0 ∷ [] }
+    -- kinds 9 to 12 on row 0, and at height 1, where the next row is row 0
+    ∷ record { computed = row-values babybear operations three-rows 0; expected = 3 ∷ 4 ∷ 7 ∷ 2013265920 ∷ 12 ∷ 2013265918 ∷ [] }
+    ∷ record { computed = row-values babybear operations one-row 0; expected = 3 ∷ 3 ∷ 6 ∷ 0 ∷ 9 ∷ 2013265918 ∷ [] }
+    ∷ []
+
+abbrev pub same-words : List ℕ → List ℕ → Bool
+same-words [] [] = true
+same-words [] (b ∷ l) = false
+same-words (a ∷ k) [] = false
+same-words (a ∷ k) (b ∷ l) = eqb a b && same-words k l
+
+abbrev pub hold : List Case → Bool
+hold [] = true
+hold (c ∷ cs) = same-words (c .computed) (c .expected) && hold cs
+
+pub cases-hold : T (hold cases)
+unfolding every all-below all-within cabinet decode node row-of window node-value values row-values node-degree degrees traces-within traces-below constants-below nodes-known degrees-low
+cases-hold = tt
