@@ -1,0 +1,6 @@
+pub mod Tables
+pub mod Groups
+pub mod Entries
+pub mod Refusals
+pub mod Balance
+pub mod laws

@@ -1,0 +1,3 @@
+pub mod Slots
+pub mod Workspace
+pub mod Named
