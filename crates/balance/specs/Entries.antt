@@ -16,8 +16,7 @@ use Rattle.balance.specs.Groups.{Member}
 
 -- how often tuple k counts, from the values of the nodes; an additive lookup has no flags
 unfoldable pub count-of : ℕ → Lookup → List ℕ → ℕ → ℕ
-count-of p l vals k =
-    cond (l .exclusive) (mulM p (word vals (word (l .multiplicities) k)) (word vals (word (l .flags) k))) (word vals (word (l .multiplicities) k))
+count-of p l vals k = mulM p (word vals (word (l .multiplicities) k)) (cond (l .exclusive) (word vals (word (l .flags) k)) 1)
 
 unfoldable pub entry-of : ℕ → Lookup → List ℕ → ℕ → Entry
 entry-of p l vals k = record { tuple = map (word vals) (getD (l .tuples) k []); count = count-of p l vals k }

@@ -1,3 +1,4 @@
 pub mod Slots
 pub mod Workspace
 pub mod Named
+pub mod laws
