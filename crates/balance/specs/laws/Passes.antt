@@ -2,8 +2,8 @@
 use mathlib.Core.Path.{_≡_, refl, sym, ap, _∙_}
 use mathlib.Core.Bool.{Bool, true, false, cond}
 use mathlib.Core.Option.{Option, none, some, Option·some-ne-none}
-use mathlib.Core.List.{List, [], _∷_, _++_, flatMap, List·Memᴰ, List·Memᴰ·append-cases}
-use mathlib.Core.Logic.{_⊎_, inl, inr, _↔_}
+use mathlib.Core.List.{List, [], _∷_, _++_, List·Memᴰ}
+use mathlib.Core.Logic.{_↔_}
 use Prim.Native.Nat.{ℕ, zero, suc, _+_, _/_, _%_, _<_, _≤_}
 use native.Mathlib.Nat.{mod-lt}
 use native.Mathlib.Omega.{arith}
@@ -13,7 +13,6 @@ use borrow.Author.Tests.{ltb-false, le-ltb, eqb-true, eq-eqb}
 use Rattle.lists.specs.Count.{joined}
 use Rattle.lists.specs.laws.Count.{joined-member}
 use Rattle.lists.specs.Fold.{fold}
-use Rattle.lists.specs.Tab.{tab}
 use Rattle.expression.specs.declared.sizes.Limits.{Limits}
 use Rattle.expression.specs.declared.refusal.Refusal.{Refusal}
 use Rattle.expression.specs.declared.refusal.Refusal.the-variants.{WorkspaceFull}
@@ -23,33 +22,12 @@ use Rattle.slots.specs.Slots.{Slot, slots}
 use Rattle.slots.specs.Workspace.{full, workspace}
 use Rattle.slots.specs.Named.{Numbered, unbalanced, names-first, group-refusal}
 use Rattle.slots.specs.laws.Nets.{Counted, Zero, net-of, zero-nets, nets-zero}
+use Rattle.balance.specs.laws.Lists.{tab-in, flat-in}
 use Rattle.balance.specs.Tables.{Lists, tables-of}
 use Rattle.balance.specs.Groups.{Member, members, groups}
 use Rattle.balance.specs.Entries.{count-of, entry-of, row-entries, values-of, member-entries, entries}
 use Rattle.balance.specs.Refusals.{tables-refusal}
 use Rattle.balance.specs.Balance.{Visited, visited, visit, unvisited, balance, Outcome, outcome, check}
-
--- where an entry of a list that is made by a function comes from
-tab-in : (f : ℕ → Entry) (a n : ℕ) {e : Entry} → List·Memᴰ e (tab f a n) → (k : ℕ) × (e ≡ f k)
-unfolding tab
-tab-in f a zero m = elim m [ ]
-tab-in f a (suc n) {e} m = go (λ k. tab-in f a n k) (List·Memᴰ·append-cases (tab f a n) m)
-  where
-    only : List·Memᴰ e (f (a + n) ∷ []) → e ≡ f (a + n)
-    only k = mathlib.Core.List.List·Memᴰ·eq-of-singleton k
-
-    go : (List·Memᴰ e (tab f a n) → (k : ℕ) × (e ≡ f k)) → List·Memᴰ e (tab f a n) ⊎ List·Memᴰ e (f (a + n) ∷ []) → (k : ℕ) × (e ≡ f k)
-    go ih (inl k) = ih k
-    go ih (inr k) = (a + n, only k)
-
-pub flat-in : {A B : Type 0} (f : A → List B) (xs : List A) {y : B} → List·Memᴰ y (flatMap f xs) → (x : A) × List·Memᴰ x xs × List·Memᴰ y (f x)
-unfolding flatMap
-flat-in f [] m = elim m [ ]
-flat-in {A} {B} f (x ∷ xs) {y} m = go (λ n. flat-in f xs n) (List·Memᴰ·append-cases (f x) m)
-  where
-    go : (List·Memᴰ y (flatMap f xs) → (z : A) × List·Memᴰ z xs × List·Memᴰ y (f z)) → List·Memᴰ y (f x) ⊎ List·Memᴰ y (flatMap f xs) → (z : A) × List·Memᴰ z (x ∷ xs) × List·Memᴰ y (f z)
-    go ih (inl n) = (x, mathlib.Core.List.List·Memᴰ·head refl, n)
-    go ih (inr n) = let r = ih n in (r .0, mathlib.Core.List.List·Memᴰ·tail (r .1), r .2)
 
 -- counts are words below p
 row-counted : (p : ℕ) → 0 < p → (m : Member) (r : ℕ) {e : Entry} → List·Memᴰ e (row-entries p (m .lookup) (values-of p (m .table) r)) → e .count < p
