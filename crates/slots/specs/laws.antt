@@ -1,1 +1,2 @@
 pub mod Nets
+pub mod Entering
