@@ -1,2 +1,3 @@
 pub mod Nets
 pub mod Entering
+pub mod Naming
