@@ -3,4 +3,5 @@ pub mod Groups
 pub mod Entries
 pub mod Refusals
 pub mod Balance
+pub mod Members
 pub mod laws
