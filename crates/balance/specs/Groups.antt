@@ -1,0 +1,44 @@
+-- The groups of balance. Document 01, Balance: "each local alone, then each bus over all tables by first appearance. Groups count from 0
+-- in that order." A group without entries counts too.
+use Prim.Native.Nat.{ℕ}
+use mathlib.Core.Bool.{Bool, false, cond, not, _&&_, _||_}
+use mathlib.Core.List.{List, [], _∷_, _++_, map, flatMap}
+use Rattle.lookup.specs.Lookups.{Lookup, lookups-of}
+use Rattle.lookup.specs.Table.{Table}
+use Rattle.widths.specs.Order.{keep, same}
+
+-- a lookup and its table
+pub record Member : Type 0 where
+  pub table : Table
+  pub lookup : Lookup
+
+-- all lookups of all tables, by table and in list order
+unfoldable pub members : List Table → List Member
+members tables = flatMap (λ (t : Table). map (λ (l : Lookup). record { table = t; lookup = l }) (lookups-of (t .lookups))) tables
+
+abbrev pub local : Member → Bool
+local m = m .lookup .local
+
+-- two lookups on one bus
+unfoldable pub same-bus : Member → Member → Bool
+same-bus m n = not (local m) && (not (local n) && same (m .lookup .name) (n .lookup .name))
+
+-- whether one of them is on the bus of m
+unfoldable pub appears : Member → List Member → Bool
+appears m [] = false
+appears m (n ∷ ns) = same-bus m n || appears m ns
+
+-- "each local alone"
+unfoldable pub local-group : Member → List (List Member)
+local-group m = cond (local m) ((m ∷ []) ∷ []) []
+
+-- the bus of m over all tables, where m is the first on it: `before` are the lookups before m
+unfoldable pub bus-group : List Member → List Member → Member → List (List Member)
+bus-group all before m = cond (local m || appears m before) [] (keep (same-bus m) all ∷ [])
+
+unfoldable pub bus-groups : List Member → List Member → List Member → List (List Member)
+bus-groups all before [] = []
+bus-groups all before (m ∷ ms) = bus-group all before m ++ bus-groups all (before ++ (m ∷ [])) ms
+
+unfoldable pub groups : List Member → List (List Member)
+groups ms = flatMap local-group ms ++ bus-groups ms [] ms

@@ -1,0 +1,82 @@
+-- Lists that are made by a function, and lists of lists one after the other.
+use mathlib.Core.Path.{_≡_, refl, sym, ap, ap₂, _∙_}
+use mathlib.Core.List.{List, [], _∷_, _++_, append-assoc, append-nil, map, flatMap, List·Memᴰ, List·Memᴰ·head, List·Memᴰ·tail, List·Memᴰ·append-cases, List·Memᴰ·eq-of-singleton}
+use mathlib.Core.Logic.{_⊎_, inl, inr}
+use Prim.Native.Nat.{ℕ, zero, suc, _+_, _<_}
+use native.Mathlib.Nat.{zero-add}
+use native.Mathlib.Omega.{arith}
+use lib.ListN.{length, getD, List·getD-append}
+use lib.Seq.{getD-at}
+use Rattle.lists.specs.Count.{joined}
+use Rattle.lists.specs.Tab.{tab}
+use Rattle.lists.specs.laws.Count.{last-or-below}
+use Rattle.lists.specs.laws.Tab.{tab-length}
+
+module _ {A : Type 0} where
+  -- where an element comes from
+  pub tab-in : (f : ℕ → A) (a n : ℕ) {e : A} → List·Memᴰ e (tab f a n) → (k : ℕ) × (e ≡ f k)
+  unfolding tab
+  tab-in f a zero m = elim m [ ]
+  tab-in f a (suc n) {e} m = go (λ k. tab-in f a n k) (List·Memᴰ·append-cases (tab f a n) m)
+    where
+      go : (List·Memᴰ e (tab f a n) → (k : ℕ) × (e ≡ f k)) → List·Memᴰ e (tab f a n) ⊎ List·Memᴰ e (f (a + n) ∷ []) → (k : ℕ) × (e ≡ f k)
+      go ih (inl k) = ih k
+      go ih (inr k) = (a + n, List·Memᴰ·eq-of-singleton k)
+
+  -- the j-th element
+  pub tab-at : (f : ℕ → A) (n j : ℕ) (z : A) → j < n → getD (tab f 0 n) j z ≡ f j
+  unfolding tab
+  tab-at f zero j z l = absurd (omega arith)
+  tab-at f (suc n) j z l =
+      last-or-below (λ j. getD (tab f 0 n ++ (f (0 + n) ∷ [])) j z ≡ f j) n j l
+      (getD-at (tab f 0 n) (f (0 + n)) [] z n (tab-length f 0 n) ∙ ap f (zero-add n))
+      (λ l. List·getD-append (tab f 0 n) (f (0 + n) ∷ []) z j (rw (tab-length f 0 n) l) ∙ tab-at f n j z l)
+
+  -- functions that agree
+  pub tab-same : (f g : ℕ → A) (n : ℕ) → ((j : ℕ) → j < n → f j ≡ g j) → tab f 0 n ≡ tab g 0 n
+  unfolding tab
+  tab-same f g zero e = refl
+  tab-same f g (suc n) e = ap₂ (λ (l : List A) (x : A). l ++ (x ∷ [])) (tab-same f g n (λ j l. e j (omega arith))) (e (0 + n) (omega arith))
+
+  pub joined-same : (f g : ℕ → List A) (n : ℕ) → ((j : ℕ) → j < n → f j ≡ g j) → joined f 0 n ≡ joined g 0 n
+  unfolding joined
+  joined-same f g zero e = refl
+  joined-same f g (suc n) e = ap₂ (λ (l m : List A). l ++ m) (joined-same f g n (λ j l. e j (omega arith))) (e (0 + n) (omega arith))
+
+  pub joined-singles : (f : ℕ → A) (n : ℕ) → joined (λ k. f k ∷ []) 0 n ≡ tab f 0 n
+  unfolding joined tab
+  joined-singles f zero = refl
+  joined-singles f (suc n) = ap (λ (l : List A). l ++ (f (0 + n) ∷ [])) (joined-singles f n)
+
+module _ {A B : Type 0} where
+  pub flat-in : (f : A → List B) (xs : List A) {y : B} → List·Memᴰ y (flatMap f xs) → (x : A) × List·Memᴰ x xs × List·Memᴰ y (f x)
+  unfolding flatMap
+  flat-in f [] m = elim m [ ]
+  flat-in f (x ∷ xs) {y} m = go (λ n. flat-in f xs n) (List·Memᴰ·append-cases (f x) m)
+    where
+      go : (List·Memᴰ y (flatMap f xs) → (z : A) × List·Memᴰ z xs × List·Memᴰ y (f z)) → List·Memᴰ y (f x) ⊎ List·Memᴰ y (flatMap f xs)
+          → (z : A) × List·Memᴰ z (x ∷ xs) × List·Memᴰ y (f z)
+      go ih (inl n) = (x, List·Memᴰ·head refl, n)
+      go ih (inr n) = let r = ih n in (r .0, List·Memᴰ·tail (r .1), r .2)
+
+  pub flat-append : (f : A → List B) (xs ys : List A) → flatMap f (xs ++ ys) ≡ flatMap f xs ++ flatMap f ys
+  unfolding flatMap
+  flat-append f [] ys = refl
+  flat-append f (x ∷ xs) ys = ap (λ (l : List B). f x ++ l) (flat-append f xs ys) ∙ sym (append-assoc (f x) (flatMap f xs) (flatMap f ys))
+
+  pub flat-one : (f : A → List B) (x : A) → flatMap f (x ∷ []) ≡ f x
+  unfolding flatMap
+  flat-one f x = append-nil (f x)
+
+  pub flat-tab : (f : A → List B) (g : ℕ → A) (n : ℕ) → flatMap f (tab g 0 n) ≡ joined (λ i. f (g i)) 0 n
+  unfolding tab joined
+  flat-tab f g zero = unfold flatMap in refl
+  flat-tab f g (suc n) = flat-append f (tab g 0 n) (g (0 + n) ∷ []) ∙ ap₂ (λ (l m : List B). l ++ m) (flat-tab f g n) (flat-one f (g (0 + n)))
+
+  pub map-tab : (f : A → B) (g : ℕ → A) (n : ℕ) → map f (tab g 0 n) ≡ tab (λ i. f (g i)) 0 n
+  unfolding tab
+  map-tab f g zero = refl
+  map-tab f g (suc n) = map-snoc (tab g 0 n) ∙ ap (λ (l : List B). l ++ (f (g (0 + n)) ∷ [])) (map-tab f g n)
+    where
+      map-snoc : (xs : List A) → map f (xs ++ (g (0 + n) ∷ [])) ≡ map f xs ++ (f (g (0 + n)) ∷ [])
+      map-snoc xs = elim xs [ [] ↦ refl | x ∷ (ys → ih) ↦ ap (λ (l : List B). f x ∷ l) ih ]

@@ -1,0 +1,210 @@
+-- The turns of one lookup's loops, over plain lists and numbers.
+use mathlib.Core.Path.{_≡_, refl, sym, ap, ap₂, _∙_}
+use mathlib.Core.Bool.{Bool, true, false, cond}
+use mathlib.Core.List.{List, [], _∷_, _++_, map}
+use Prim.Native.Nat.{ℕ, zero, suc, _+_, _*_, _-_, _<_, _≤_, zero-le}
+use native.Mathlib.Nat.{zero-add, add-zero, add-assoc}
+use native.Mathlib.Numerals.{add-one}
+use native.Mathlib.Omega.{arith}
+use lib.ListN.{length, take, drop, getD, set, replicate, length-take}
+use lib.Seq.{take-all, take-at}
+use Rattle.lists.specs.Count.{total, joined}
+use Rattle.lists.specs.Fold.{fold}
+use Rattle.lists.specs.laws.Count.{total-le, joined-one}
+use Rattle.lists.specs.laws.Parts.{take-one}
+use Rattle.lists.specs.laws.Filled.{Filled, filled-none, filled-one}
+use Rattle.field.specs.Word.{mulM}
+use Rattle.expression.specs.Words.{word}
+use Rattle.expression.specs.Node.{node-count}
+use Rattle.expression.specs.Valid.{Below, Evaluable}
+use Rattle.expression.specs.laws.Values.{drop-zeros, values-part, row-values-below}
+use Rattle.expression.specs.Window.{Traces}
+use Rattle.expression.specs.Values.{row-values}
+use Rattle.lookup.specs.Lookups.{entry, exclusive, tuple-start, multiplicity-start, flag-start, element-start}
+use Rattle.logup.specs.Ledger.{Entry}
+use Rattle.slots.specs.declared.enter.Use.{Use}
+use Rattle.slots.specs.Work.{Work, work, step}
+use Rattle.slots.specs.laws.Room.{Roomy, step-roomy, fold-roomy, fold-full, fold-snoc, fold-more}
+use Rattle.entries.specs.declared.place.Place.{Place}
+use Rattle.entries.specs.Placed.{place-at, Parted, placed-count, placed-nodes, placed-entry, placed-entries, rows-entries}
+
+-- the words of a tuple, from the front
+pub record Valuing (vals nodes : List ℕ) (j : ℕ) (out : List ℕ) : Type 0 where
+  pub out-is : Filled (replicate 8 0) (map (word vals) (take j nodes)) j out
+  pub within : j ≤ length nodes
+  pub few : length nodes ≤ 8
+  pub eight : length out ≡ 8
+
+pub value-begins : {vals nodes : List ℕ} → length nodes ≤ 8 → Valuing vals nodes 0 (replicate 8 0)
+value-begins h = record { out-is = filled-none; within = zero-le; few = h; eight = refl }
+
+map-snoc : (f : ℕ → ℕ) (xs : List ℕ) (x : ℕ) → map f (xs ++ (x ∷ [])) ≡ map f xs ++ (f x ∷ [])
+map-snoc f [] x = refl
+map-snoc f (y ∷ xs) x = ap (λ (l : List ℕ). f y ∷ l) (map-snoc f xs x)
+
+pub value-turn : {vals nodes out : List ℕ} {j i v : ℕ} → Valuing vals nodes j out → j < length nodes → v ≡ word vals i → i ≡ word nodes j → Valuing vals nodes (j + 1) (set out j v)
+value-turn {vals} {nodes} {out} {j} {i} {v} r h ev ei =
+    let e : v ≡ word vals (word nodes j) = ev ∙ ap (word vals) ei in
+    let f : Filled (replicate 8 0) (map (word vals) (take (j + 1) nodes)) (j + 1) (set out j v) =
+        filled-one v 0 (r .out-is) (omega (arith, r .few))
+        (ap (map (word vals)) (take-one nodes j 0 h) ∙ map-snoc (word vals) (take j nodes) (word nodes j) ∙ ap (λ (x : ℕ). map (word vals) (take j nodes) ++ (x ∷ [])) (sym e)) in
+    record { out-is = f; within = omega arith; few = r .few; eight = f .len }
+
+pub value-ends : {vals nodes out : List ℕ} {j : ℕ} → Valuing vals nodes j out → length nodes ≤ j → out ≡ map (word vals) nodes ++ replicate (8 - length nodes) 0
+value-ends {vals} {nodes} {out} {j} r h =
+    let e : j ≡ length nodes = omega (arith, r .within) in
+    r .out-is .is ∙ ap₂ (λ (l : List ℕ) (n : ℕ). map (word vals) l ++ drop n (replicate 8 0)) (take-all j nodes h) e
+    ∙ ap (λ (l : List ℕ). map (word vals) nodes ++ l) (drop-zeros (length nodes) 8)
+
+map-long : (f : ℕ → ℕ) (xs : List ℕ) → length (map f xs) ≡ length xs
+map-long f [] = refl
+map-long f (x ∷ xs) = ap suc (map-long f xs)
+
+-- the tuple in the array's front
+pub tuple-front : {t : List ℕ} (vals nodes : List ℕ) → t ≡ map (word vals) nodes ++ replicate (8 - length nodes) 0 → take (length nodes - 0) (drop 0 t) ≡ map (word vals) nodes
+tuple-front {t} vals nodes e =
+    let z : length nodes - 0 ≡ length nodes = omega arith in
+    ap₂ (λ (n : ℕ) (l : List ℕ). take n l) z e ∙ take-at (map (word vals) nodes) (replicate (8 - length nodes) 0) (length nodes) (map-long (word vals) nodes)
+
+pub front-narrow : {t : List ℕ} (vals nodes : List ℕ) → length nodes ≤ 8 → t ≡ map (word vals) nodes ++ replicate (8 - length nodes) 0 → length (take (length nodes - 0) (drop 0 t)) ≤ 8
+front-narrow {t} vals nodes h e = rw (ap length (tuple-front vals nodes e) ∙ map-long (word vals) nodes) h
+
+-- a count
+pub count-exclusive : {m f r i j : ℕ} (p : ℕ) (pl : Place) (mults flags vals : List ℕ) (k : ℕ) → pl .exclusive ≡ true → m ≡ word vals i → i ≡ word mults (pl .multiplicities + k)
+    → f ≡ word vals j → j ≡ word flags (pl .flags + k) → r ≡ mulM p m f → r ≡ placed-count p pl mults flags vals k
+unfolding placed-count
+count-exclusive p pl mults flags vals k x em ei ef ej er = er ∙ ap₂ (mulM p) (em ∙ ap (word vals) ei) (ef ∙ ap (word vals) ej) ∙ sym (ap (λ (b : Bool). cond b (mulM p (word vals (word mults (pl .multiplicities + k))) (word vals (word flags (pl .flags + k)))) (word vals (word mults (pl .multiplicities + k)))) x)
+
+pub count-additive : {m i : ℕ} (p : ℕ) (pl : Place) (mults flags vals : List ℕ) (k : ℕ) → pl .exclusive ≡ false → m ≡ word vals i → i ≡ word mults (pl .multiplicities + k) → m ≡ placed-count p pl mults flags vals k
+unfolding placed-count
+count-additive p pl mults flags vals k x em ei = em ∙ ap (word vals) ei ∙ sym (ap (λ (b : Bool). cond b (mulM p (word vals (word mults (pl .multiplicities + k))) (word vals (word flags (pl .flags + k)))) (word vals (word mults (pl .multiplicities + k)))) x)
+
+-- where the elements of a tuple end
+element-next : (tuples : List ℕ) (j : ℕ) → element-start tuples (j + 1) ≡ element-start tuples j + word tuples j
+unfolding element-start total
+element-next tuples j = rw (add-one j)
+
+element-le : (tuples : List ℕ) (i j : ℕ) → i ≤ j → element-start tuples i ≤ element-start tuples j
+unfolding element-start
+element-le tuples i j h = total-le (word tuples) i j h
+
+pub tuple-ends : {pl : Place} {tuples mults flags elements : List ℕ} {k : ℕ} → Parted pl tuples mults flags elements → k < pl .count → element-start tuples (pl .tuples + k) + word tuples (pl .tuples + k) ≤ length elements
+tuple-ends {pl} {tuples} {mults} {flags} {elements} {k} r h =
+    omega (arith, r .elements-in, element-next tuples (pl .tuples + k), element-le tuples (pl .tuples + k + 1) (pl .tuples + pl .count) (omega arith))
+
+-- the tuples of a row: w is the work before them
+pub record Tupling (p : ℕ) (pl : Place) (tuples mults flags elements vals : List ℕ) (w : Work) (k at : ℕ) (ws : List ℕ) (v : Use) : Type 0 where
+  pub is : work ws v ≡ fold (step p) w (joined (λ k. placed-entry p pl tuples mults flags elements vals k ∷ []) 0 k)
+  pub here : at ≡ element-start tuples (pl .tuples + k)
+  pub within : k ≤ pl .count
+  pub long : length ws ≡ length (w .words)
+  pub room : 10 * v .used ≤ length ws
+
+module _ {p : ℕ} {pl : Place} {tuples mults flags elements vals : List ℕ} where
+  pub tupling-begins : {ws : List ℕ} {u : Use} → Parted pl tuples mults flags elements → 10 * u .used ≤ length ws → Tupling p pl tuples mults flags elements vals (work ws u) 0 (pl .elements) ws u
+  unfolding fold joined
+  tupling-begins r h =
+      record { is = refl; here = r .first ∙ ap (element-start tuples) (sym (add-zero (pl .tuples))); within = zero-le; long = refl; room = h }
+
+  pub tupling-turn : {w : Work} {k at n c : ℕ} {ws ws′ : List ℕ} {v v′ : Use} → Tupling p pl tuples mults flags elements vals w k at ws v → k < pl .count
+      → n ≡ word tuples (pl .tuples + k) → c ≡ placed-count p pl mults flags vals k
+      → work ws′ v′ ≡ step p (work ws v) (record { tuple = map (word vals) (take ((at + n) - at) (drop at elements)); count = c })
+      → Tupling p pl tuples mults flags elements vals w (k + 1) (at + n) ws′ v′
+  unfolding placed-nodes
+  tupling-turn {w} {k} {at} {n} {c} {ws} {ws′} {v} {v′} r h en ec e =
+      let z : (at + n) - at ≡ n = omega arith in
+      let q : work ws′ v′ ≡ step p (work ws v) (placed-entry p pl tuples mults flags elements vals k) =
+          e ∙ ap₂ (λ (t : List ℕ) (x : ℕ). step p (work ws v) (record { tuple = map (word vals) t; count = x }))
+              (ap₂ (λ (i j : ℕ). take i (drop j elements)) (z ∙ en) (r .here)) ec in
+      let g : Roomy (length (w .words)) (work ws′ v′) = rw q (step-roomy (length (w .words)) p (work ws v) (placed-entry p pl tuples mults flags elements vals k) (record { long = r .long; room = rw (sym (r .long)) (r .room) })) in
+      record {
+        is =
+          q ∙ ap (λ (x : Work). step p x (placed-entry p pl tuples mults flags elements vals k)) (r .is)
+          ∙ sym (fold-snoc p w (joined (λ k. placed-entry p pl tuples mults flags elements vals k ∷ []) 0 k) (placed-entry p pl tuples mults flags elements vals k))
+          ∙ ap (fold (step p) w) (ap (λ (i : ℕ). joined (λ k. placed-entry p pl tuples mults flags elements vals k ∷ []) 0 k ++ (placed-entry p pl tuples mults flags elements vals i ∷ [])) (sym (zero-add k)) ∙ sym (joined-one (λ k. placed-entry p pl tuples mults flags elements vals k ∷ []) 0 k));
+        here = ap₂ _+_ (r .here) en ∙ sym (element-next tuples (pl .tuples + k)) ∙ ap (element-start tuples) (let a : pl .tuples + k + 1 ≡ pl .tuples + (k + 1) = omega arith in a);
+        within = omega arith;
+        long = g .long;
+        room = omega (arith, g .room, g .long);
+      }
+
+  pub tupling-ends : {w : Work} {k at : ℕ} {ws : List ℕ} {v : Use} → Tupling p pl tuples mults flags elements vals w k at ws v → pl .count ≤ k
+      → work ws v ≡ fold (step p) w (placed-entries p pl tuples mults flags elements vals)
+  unfolding placed-entries
+  tupling-ends {w} {k} r h = let e : k ≡ pl .count = omega (arith, r .within) in r .is ∙ ap (λ (n : ℕ). fold (step p) w (joined (λ k. placed-entry p pl tuples mults flags elements vals k ∷ []) 0 n)) e
+
+-- a row that is skipped, since a slot was missing
+pub row-skipped : (p : ℕ) (ws : List ℕ) (u : Use) (es : List Entry) → u .full ≡ true → work ws u ≡ fold (step p) (work ws u) es
+row-skipped p ws u es f = sym (fold-full p es (work ws u) f)
+
+-- the rows
+pub record Rowing (p : ℕ) (pl : Place) (tuples mults flags elements : List ℕ) (t : Traces) (nodes : List ℕ) (w : Work) (r : ℕ) (ws : List ℕ) (v : Use) : Type 0 where
+  pub is : work ws v ≡ fold (step p) w (rows-entries p pl tuples mults flags elements t nodes r)
+  pub within : r ≤ t .shape .height
+  pub long : length ws ≡ length (w .words)
+  pub room : 10 * v .used ≤ length ws
+
+module _ {p : ℕ} {pl : Place} {tuples mults flags elements : List ℕ} {t : Traces} {nodes : List ℕ} where
+  pub rowing-begins : {ws : List ℕ} {u : Use} → 10 * u .used ≤ length ws → Rowing p pl tuples mults flags elements t nodes (work ws u) 0 ws u
+  unfolding fold joined rows-entries
+  rowing-begins h = record { is = refl; within = zero-le; long = refl; room = h }
+
+  pub rowing-turn : {w : Work} {r : ℕ} {ws ws′ : List ℕ} {v v′ : Use} → Rowing p pl tuples mults flags elements t nodes w r ws v → r < t .shape .height
+      → work ws′ v′ ≡ fold (step p) (work ws v) (placed-entries p pl tuples mults flags elements (row-values p nodes t r))
+      → Rowing p pl tuples mults flags elements t nodes w (r + 1) ws′ v′
+  unfolding rows-entries
+  rowing-turn {w} {r} {ws} {ws′} {v} {v′} i h e =
+      let es : List Entry = placed-entries p pl tuples mults flags elements (row-values p nodes t r) in
+      let g : Roomy (length (w .words)) (work ws′ v′) = rw e (fold-roomy (length (w .words)) p es (work ws v) (record { long = i .long; room = rw (sym (i .long)) (i .room) })) in
+      record {
+        is =
+          e ∙ ap (λ (x : Work). fold (step p) x es) (i .is)
+          ∙ sym (fold-more p w (joined (λ r. placed-entries p pl tuples mults flags elements (row-values p nodes t r)) 0 r) es)
+          ∙ ap (fold (step p) w)
+            (ap (λ (n : ℕ). joined (λ r. placed-entries p pl tuples mults flags elements (row-values p nodes t r)) 0 r ++ placed-entries p pl tuples mults flags elements (row-values p nodes t n)) (sym (zero-add r))
+             ∙ sym (joined-one (λ r. placed-entries p pl tuples mults flags elements (row-values p nodes t r)) 0 r));
+        within = omega arith;
+        long = g .long;
+        room = omega (arith, g .room, g .long);
+      }
+
+  pub rowing-ends : {w : Work} {r : ℕ} {ws : List ℕ} {v : Use} → Rowing p pl tuples mults flags elements t nodes w r ws v → t .shape .height ≤ r
+      → work ws v ≡ fold (step p) w (rows-entries p pl tuples mults flags elements t nodes (t .shape .height))
+  rowing-ends {w} {r} i h = let e : r ≡ t .shape .height = omega (arith, i .within) in i .is ∙ ap (λ (n : ℕ). fold (step p) w (rows-entries p pl tuples mults flags elements t nodes n)) e
+
+-- the place of a lookup
+pub place-is : {x : Bool} {n t m f e c : ℕ} (lookups tuples : List ℕ) (i : ℕ) → t ≡ total (λ j. entry lookups j 5) i → m ≡ total (λ j. entry lookups j 6) i → f ≡ total (λ j. entry lookups j 7) i
+    → e ≡ element-start tuples t → x ≡ exclusive lookups i → c ≡ entry lookups i 5 → n ≡ c
+    → record { exclusive = x; count = n; tuples = t; multiplicities = m; flags = f; elements = e } ≡ place-at lookups tuples i
+unfolding place-at tuple-start multiplicity-start flag-start
+place-is {x} {n} {t} {m} {f} {e} {c} lookups tuples i et em ef ee ex ec en = rw (ex, en ∙ ec, ee, et, em, ef)
+
+-- one tuple is entered
+pub tuple-entered : {t : List ℕ} {w : Work} (p : ℕ) (v : Work) (count : ℕ) (vals nodes : List ℕ) → t ≡ map (word vals) nodes ++ replicate (8 - length nodes) 0
+    → w ≡ step p v (record { tuple = take (length nodes - 0) (drop 0 t); count = count }) → w ≡ step p v (record { tuple = map (word vals) nodes; count = count })
+tuple-entered p v count vals nodes e q = q ∙ ap (λ (l : List ℕ). step p v (record { tuple = l; count = count })) (tuple-front vals nodes e)
+
+-- a tuple has at most eight words
+pub part-narrow : {n m : ℕ} (at : ℕ) (elements : List ℕ) → n ≡ m → m ≤ 8 → length (take ((at + n) - at) (drop at elements)) ≤ 8
+part-narrow {n} at elements e h =
+    let z : (at + n) - at ≡ n = omega arith in
+    rw (length-take ((at + n) - at) (drop at elements), z) (omega arith)
+
+pub ends-in : {pl : Place} {tuples mults flags elements : List ℕ} {k n at : ℕ} → Parted pl tuples mults flags elements → k < pl .count → at ≡ element-start tuples (pl .tuples + k) → n ≡ word tuples (pl .tuples + k)
+    → at + n ≤ length elements
+ends-in r h e q = rw (e, q) (tuple-ends r h)
+
+-- the values of the nodes in the array's front
+pub values-front : {b : List ℕ} (p : ℕ) (nodes : List ℕ) (t : Traces) (r : ℕ) → b ≡ row-values p nodes t r ++ replicate (1024 - node-count nodes) 0 → take (node-count nodes - 0) (drop 0 b) ≡ row-values p nodes t r
+values-front {b} p nodes t r e =
+    let z : node-count nodes - 0 ≡ node-count nodes = omega arith in
+    ap (λ (n : ℕ). take n b) z ∙ values-part p nodes t r (1024 - node-count nodes) e
+
+pub front-below : {b : List ℕ} (p : ℕ) (nodes : List ℕ) (t : Traces) (r : ℕ) → Evaluable p t nodes → b ≡ row-values p nodes t r ++ replicate (1024 - node-count nodes) 0 → Below p (take (node-count nodes - 0) (drop 0 b))
+front-below p nodes t r v e = rw (values-front p nodes t r e) (row-values-below r v)
+
+pub row-entered : {b : List ℕ} {w : Work} (p : ℕ) (pl : Place) (tuples mults flags elements nodes : List ℕ) (t : Traces) (r : ℕ) (v : Work)
+    → b ≡ row-values p nodes t r ++ replicate (1024 - node-count nodes) 0
+    → w ≡ fold (step p) v (placed-entries p pl tuples mults flags elements (take (node-count nodes - 0) (drop 0 b)))
+    → w ≡ fold (step p) v (placed-entries p pl tuples mults flags elements (row-values p nodes t r))
+row-entered p pl tuples mults flags elements nodes t r v e q = q ∙ ap (λ (x : List ℕ). fold (step p) v (placed-entries p pl tuples mults flags elements x)) (values-front p nodes t r e)

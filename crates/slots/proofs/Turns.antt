@@ -1,0 +1,205 @@
+-- The turns of finding and entering, over plain lists and numbers.
+use mathlib.Core.Path.{_≡_, refl, sym, ap, ap₂, _∙_}
+use mathlib.Core.Bool.{Bool, true, false, cond, _&&_}
+use mathlib.Core.List.{List, [], _∷_, _++_, append-assoc}
+use Prim.Native.Nat.{ℕ, zero, suc, _+_, _*_, _-_, _%_, _<_, _≤_, zero-le}
+use native.Mathlib.Numerals.{add-one}
+use native.Mathlib.Omega.{arith}
+use lib.Dec.{eqb, leb, ltb, lit≤}
+use lib.ListN.{length, take, drop, getD, set, replicate, drop-of-length-le}
+use lib.Seq.{drop-cons}
+use borrow.Author.Tests.{eq-eqb, ne-eqb, lt-ltb, le-ltb, le-leb, lt-leb}
+use borrow.Rule.Slice.PartMut.{putMid}
+use Rattle.lists.specs.laws.Parts.{part-length}
+use Rattle.lists.specs.laws.Filled.{Filled, filled-none, filled-one, filled-whole, put-mid}
+use Rattle.lists.specs.Tab.{tab}
+use Rattle.lists.specs.laws.Tab.{tab-none, tab-one}
+use Rattle.expression.specs.Words.{word}
+use Rattle.logup.specs.Ledger.{same-list}
+use Rattle.slots.specs.declared.enter.Use.{Use}
+use Rattle.slots.specs.laws.Entering.{same-lengths, made}
+use Rattle.slots.specs.Work.{Work, work, match-at, find-slot, added-at, new-words, new-at, enter-at, step}
+
+-- two lists agree in their first i words
+pub record SameSoFar (x y : List ℕ) (i : ℕ) : Type 0 where
+  pub rest : same-list (drop i x) (drop i y) ≡ same-list x y
+  pub within : i ≤ length x
+  pub long : length x ≡ length y
+
+pub same-begins : {x y : List ℕ} → length x ≡ length y → SameSoFar x y 0
+same-begins e = record { rest = refl; within = zero-le; long = e }
+
+step-at : (x y : List ℕ) (i : ℕ) → i < length x → i < length y → same-list (drop i x) (drop i y) ≡ (eqb (getD x i 0) (getD y i 0) && same-list (drop (suc i) x) (drop (suc i) y))
+unfolding same-list
+step-at x y i h g = rw (drop-cons x i 0 h, drop-cons y i 0 g)
+
+pub same-turn : {x y : List ℕ} {i : ℕ} → SameSoFar x y i → i < length x → getD x i 0 ≡ getD y i 0 → SameSoFar x y (i + 1)
+same-turn {x} {y} {i} s h e =
+    record {
+      rest = rw (add-one i) (sym (rw (eq-eqb (getD x i 0) (getD y i 0) e) at (step-at x y i h (omega (arith, s .long)))) ∙ s .rest);
+      within = omega arith;
+      long = s .long;
+    }
+
+pub same-ends : {x y : List ℕ} {i : ℕ} → SameSoFar x y i → length x ≤ i → true ≡ same-list x y
+unfolding same-list
+same-ends {x} {y} {i} s h = rw (drop-of-length-le x {i = i} h, drop-of-length-le y {i = i} (omega (arith, s .long))) at (s .rest)
+
+pub same-differs : {x y : List ℕ} {i : ℕ} → SameSoFar x y i → i < length x → (getD x i 0 ≡ getD y i 0 → ⊥) → false ≡ same-list x y
+same-differs {x} {y} {i} s h n = sym (rw (ne-eqb (getD x i 0) (getD y i 0) n) at (step-at x y i h (omega (arith, s .long)))) ∙ s .rest
+
+-- a slot and a tuple
+pub match-no : {w : ℕ} (ws t : List ℕ) (k : ℕ) → w ≡ word ws (10 * k) → (w ≡ length t → ⊥) → false ≡ match-at ws t k
+unfolding match-at
+match-no ws t k e n = rw (ne-eqb (word ws (10 * k)) (length t) (λ z. n (e ∙ z)))
+
+pub match-yes : {w : ℕ} {r : Bool} (ws t : List ℕ) (k : ℕ) → w ≡ word ws (10 * k) → w ≡ length t
+    → r ≡ same-list (take ((10 * k + 1 + length t) - (10 * k + 1)) (drop (10 * k + 1) ws)) t → r ≡ match-at ws t k
+unfolding match-at
+match-yes {w} {r} ws t k e z er =
+    let a : (10 * k + 1 + length t) - (10 * k + 1) ≡ length t = omega arith in
+    rw (eq-eqb (word ws (10 * k)) (length t) (sym e ∙ z)) (er ∙ ap (λ (n : ℕ). same-list (take n (drop (10 * k + 1) ws)) t) a)
+
+-- a search: no slot before k holds t
+pub record Searching (ws t : List ℕ) (n k : ℕ) : Type 0 where
+  pub rest : find-slot ws t k (n - k) ≡ find-slot ws t 0 n
+  pub within : k ≤ n
+
+pub search-begins : {ws t : List ℕ} {n : ℕ} → Searching ws t n 0
+search-begins {ws} {t} {n} = record { rest = ap (find-slot ws t 0) (let e : n - 0 ≡ n = omega arith in e); within = zero-le }
+
+search-step : (ws t : List ℕ) (n k : ℕ) → k < n → find-slot ws t k (n - k) ≡ cond (match-at ws t k) k (find-slot ws t (k + 1) (n - (k + 1)))
+unfolding find-slot
+search-step ws t n k h =
+    let e : n - k ≡ suc (n - (k + 1)) = omega arith in
+    ap (find-slot ws t k) e ∙ ap (λ (j : ℕ). cond (match-at ws t k) k (find-slot ws t j (n - (k + 1)))) (sym (add-one k))
+
+pub search-turn : {ws t : List ℕ} {n k : ℕ} {b : Bool} → Searching ws t n k → k < n → b ≡ match-at ws t k → b ≡ false → Searching ws t n (k + 1)
+search-turn {ws} {t} {n} {k} {b} s h e z =
+    record {
+      rest = ap (λ (c : Bool). cond c k (find-slot ws t (k + 1) (n - (k + 1)))) (sym z ∙ e) ∙ sym (search-step ws t n k h) ∙ s .rest;
+      within = omega arith;
+    }
+
+pub search-hits : {ws t : List ℕ} {n k : ℕ} {b : Bool} → Searching ws t n k → k < n → b ≡ match-at ws t k → b ≡ true → k ≡ find-slot ws t 0 n
+search-hits {ws} {t} {n} {k} {b} s h e z =
+    ap (λ (c : Bool). cond c k (find-slot ws t (k + 1) (n - (k + 1)))) (sym z ∙ e) ∙ sym (search-step ws t n k h) ∙ s .rest
+
+pub search-ends : {ws t : List ℕ} {n k : ℕ} → Searching ws t n k → n ≤ k → n ≡ find-slot ws t 0 n
+unfolding find-slot
+search-ends {ws} {t} {n} {k} s h =
+    let e : k ≡ n = omega (arith, s .within) in
+    let z : n - k ≡ 0 = omega arith in
+    sym e ∙ ap (find-slot ws t k) (sym z) ∙ s .rest
+
+-- zeros from the front
+pub record Clearing (d : List ℕ) (i : ℕ) (ws : List ℕ) : Type 0 where
+  pub out : Filled d (replicate i 0) i ws
+  pub len : length ws ≡ length d
+  pub within : i ≤ length d
+
+pub clear-begins : {d : List ℕ} → Clearing d 0 d
+clear-begins = record { out = filled-none; len = refl; within = zero-le }
+
+zeros-one : (i : ℕ) → _≡_ {A = List ℕ} (replicate (suc i) 0) (replicate i 0 ++ (0 ∷ []))
+zeros-one zero = refl
+zeros-one (suc i) = ap (λ (l : List ℕ). 0 ∷ l) (zeros-one i)
+
+pub clear-turn : {d ws : List ℕ} {i : ℕ} → Clearing d i ws → i < length d → Clearing d (i + 1) (set ws i 0)
+clear-turn {d} {ws} {i} c h =
+    let f : Filled d (replicate (i + 1) 0) (i + 1) (set ws i 0) = filled-one 0 0 (c .out) h (rw (add-one i) (zeros-one i)) in
+    record { out = f; len = f .len; within = omega arith }
+
+pub clear-ends : {d ws : List ℕ} {i : ℕ} → Clearing d i ws → length d ≤ i → ws ≡ replicate (length d) 0
+clear-ends {d} {ws} {i} c h = let e : i ≡ length d = omega (arith, c .within) in filled-whole (c .out) h ∙ ap (λ (n : ℕ). replicate n 0) e
+
+-- a count
+pub added-is : {a b s r : ℕ} (p : ℕ) (ws : List ℕ) (k count : ℕ) → a ≡ word ws (10 * k + 9) → b ≡ count → s ≡ a + b → r ≡ s % p → set ws (10 * k + 9) r ≡ added-at p ws k count
+unfolding added-at
+added-is p ws k count ea eb es er = ap (set ws (10 * k + 9)) (er ∙ ap (λ (n : ℕ). n % p) (es ∙ ap₂ (λ (x y : ℕ). x + y) ea eb))
+
+-- the words of a slot, from the front
+pub record Wording (d t : List ℕ) (j : ℕ) (s : List ℕ) : Type 0 where
+  pub out : Filled d (length t ∷ tab (word t) 0 j) (j + 1) s
+  pub within : j ≤ 8
+  pub ten : length d ≡ 10
+  pub long : length s ≡ 10
+
+-- the first word is written
+pub wording-begins : {t : List ℕ} {w : ℕ} (d : List ℕ) → length d ≡ 10 → w ≡ length t → Wording (set d 0 w) t 0 (set d 0 w)
+wording-begins {t} {w} [] h e = absurd (omega arith)
+wording-begins {t} {w} (x ∷ d) h e =
+    record {
+      out =
+        record {
+          is = ap (λ (y : ℕ). y ∷ d) e ∙ ap (λ (l : List ℕ). (length t ∷ l) ++ d) (sym (tab-none (word t) 0));
+          size = ap (λ (l : List ℕ). suc (length l)) (tab-none (word t) 0);
+          room = omega arith;
+          len = refl;
+        };
+      within = zero-le;
+      ten = h;
+      long = h;
+    }
+
+pub wording-turn : {d t s : List ℕ} {j w : ℕ} → Wording d t j s → j < 8 → w ≡ word t j → Wording d t (j + 1) (set s (j + 1) w)
+wording-turn {d} {t} {s} {j} {w} r h e =
+    let f : Filled d (length t ∷ tab (word t) 0 (j + 1)) (j + 1 + 1) (set s (j + 1) w) =
+        filled-one w 0 (r .out) (omega (arith, r .ten)) (ap (λ (l : List ℕ). length t ∷ l) (tab-one (word t) 0 j ∙ ap (λ (x : ℕ). tab (word t) 0 j ++ (x ∷ [])) (ap (word t) (let z : 0 + j ≡ j = omega arith in z) ∙ sym e))) in
+    record { out = f; within = omega arith; ten = r .ten; long = f .len ∙ r .ten }
+
+pub wording-ends : {d t s : List ℕ} {j : ℕ} (count : ℕ) → Wording d t j s → 8 ≤ j → set s 9 count ≡ new-words t count
+unfolding new-words
+wording-ends {d} {t} {s} {j} count r h =
+    let e : j ≡ 8 = omega (arith, r .within) in
+    let f : Filled d (length t ∷ tab (word t) 0 8) 9 s = rw e at (r .out) in
+    let g : Filled d ((length t ∷ tab (word t) 0 8) ++ (count ∷ [])) 10 (set s 9 count) = filled-one count 0 f (omega (arith, r .ten)) refl in
+    filled-whole g (omega (arith, r .ten))
+
+-- a new slot
+pub new-is : {ys : List ℕ} (ws t : List ℕ) (n count : ℕ) → ys ≡ new-words t count → putMid (10 * n) ((10 * n + 10) - 10 * n) ws ys ≡ new-at ws n t count
+unfolding new-at
+new-is ws t n count e = put-mid ws (10 * n) (10 * n + 10) e (omega arith)
+
+pub new-part : (ws : List ℕ) (n : ℕ) → 10 * n + 10 ≤ length ws → length (take ((10 * n + 10) - 10 * n) (drop (10 * n) ws)) ≡ 10
+new-part ws n h = part-length ws (10 * n) (10 * n + 10) (omega arith) h ∙ (let e : (10 * n + 10) - 10 * n ≡ 10 = omega arith in e)
+
+-- the three ways of an entry
+pub enter-found : {k : ℕ} {b : List ℕ} (p : ℕ) (ws t : List ℕ) (u : Use) (count : ℕ) → k ≡ find-slot ws t 0 (u .used) → k < u .used → b ≡ added-at p ws k count
+    → made b (u .used) false ≡ enter-at p (work ws u) t count
+unfolding enter-at
+enter-found {k} {b} p ws t u count e h eb =
+    let l : ltb (find-slot ws t 0 (u .used)) (u .used) ≡ true = rw (sym e) (lt-ltb k (u .used) h) in
+    rw l (ap (λ (x : List ℕ). made x (u .used) false) (eb ∙ ap (λ (x : ℕ). added-at p ws x count) e))
+
+pub enter-full : {k : ℕ} {b : List ℕ} (p : ℕ) (ws t : List ℕ) (u : Use) (count : ℕ) → k ≡ find-slot ws t 0 (u .used) → u .used ≤ k → 10 * u .used ≤ length ws → length ws - 10 * u .used < 10
+    → b ≡ replicate (length ws) 0 → made b 0 true ≡ enter-at p (work ws u) t count
+unfolding enter-at
+enter-full {k} {b} p ws t u count e h g f eb =
+    let l : ltb (find-slot ws t 0 (u .used)) (u .used) ≡ false = rw (sym e) (le-ltb k (u .used) h) in
+    let m : leb (10 * u .used + 10) (length ws) ≡ false = lt-leb (10 * u .used + 10) (length ws) (omega arith) in
+    rw (l, m) (ap (λ (x : List ℕ). made x 0 true) eb)
+
+pub enter-new : {k : ℕ} {b : List ℕ} (p : ℕ) (ws t : List ℕ) (u : Use) (count : ℕ) → k ≡ find-slot ws t 0 (u .used) → u .used ≤ k → 10 * u .used ≤ length ws → 10 ≤ length ws - 10 * u .used
+    → b ≡ new-at ws (u .used) t count → made b (u .used + 1) false ≡ enter-at p (work ws u) t count
+unfolding enter-at
+enter-new {k} {b} p ws t u count e h g f eb =
+    let l : ltb (find-slot ws t 0 (u .used)) (u .used) ≡ false = rw (sym e) (le-ltb k (u .used) h) in
+    let m : leb (10 * u .used + 10) (length ws) ≡ true = le-leb (10 * u .used + 10) (length ws) (omega arith) in
+    rw (l, m) (ap (λ (x : List ℕ). made x (u .used + 1) false) eb)
+
+-- the three ways of a step
+pub step-full : (p : ℕ) (ws t : List ℕ) (u : Use) (count : ℕ) → u .full ≡ true → work ws u ≡ step p (work ws u) (record { tuple = t; count = count })
+unfolding step
+step-full p ws t u count e = sym (ap (λ (b : Bool). cond b (work ws u) (cond (eqb count 0) (work ws u) (enter-at p (work ws u) t count))) e)
+
+pub step-skip : (p : ℕ) (ws t : List ℕ) (u : Use) (count : ℕ) → u .full ≡ false → count ≡ 0 → work ws u ≡ step p (work ws u) (record { tuple = t; count = count })
+unfolding step
+step-skip p ws t u count e z =
+    sym (ap₂ (λ (b d : Bool). cond b (work ws u) (cond d (work ws u) (enter-at p (work ws u) t count))) e (eq-eqb count 0 z))
+
+pub step-enter : {w : Work} (p : ℕ) (ws t : List ℕ) (u : Use) (count : ℕ) → u .full ≡ false → (count ≡ 0 → ⊥) → w ≡ enter-at p (work ws u) t count
+    → w ≡ step p (work ws u) (record { tuple = t; count = count })
+unfolding step
+step-enter p ws t u count e n q =
+    q ∙ sym (ap₂ (λ (b d : Bool). cond b (work ws u) (cond d (work ws u) (enter-at p (work ws u) t count))) e (ne-eqb count 0 n))

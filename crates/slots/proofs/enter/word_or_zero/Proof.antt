@@ -1,0 +1,26 @@
+use lib.ListN.{List·getD-eq-default}
+use mathlib.Core.Path.{sym}
+use borrow.Author.Needs.{needs}
+use Rattle.slots.proofs.enter.word_or_zero.Statement.{statement}
+use Rattle.slots.proofs.enter.word_or_zero.Tie as tie
+use Rattle.slots.proofs.enter.word_or_zero.Reads as reads
+use Rattle.slots.proofs.enter.word_or_zero.Lts as lts
+
+-- src/enter.rt:23:22
+mul-result : tie.Need-mul-result
+mul-result c = search needs
+
+-- src/enter.rt:23:22
+shared-slice-read-result : tie.Need-shared-slice-read-result
+shared-slice-read-result c = search needs
+
+-- src/enter.rt:20:1
+returns : tie.Need-returns
+returns c = search needs
+
+-- src/enter.rt:20:1
+returns-2 : tie.Need-returns-2
+returns-2 c = sym (List·getD-eq-default (c .before .args .s .now) 0 (search needs))
+
+pub word-or-zero-spec : {M : Type 1} → statement M
+word-or-zero-spec = tie.close (tie.spec mul-result shared-slice-read-result returns returns-2)

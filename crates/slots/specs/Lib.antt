@@ -1,0 +1,5 @@
+pub mod Slots
+pub mod Workspace
+pub mod Named
+pub mod Work
+pub mod laws

@@ -1,0 +1,28 @@
+-- The slots of a group. Document 01, Balance: "Workspace slots, in order of first meeting: tuple width, eight words (zeros past the
+-- width), net."
+use Prim.Native.Nat.{ℕ}
+use mathlib.Core.Bool.{cond, not}
+use mathlib.Core.List.{List, [], _∷_}
+use lib.Dec.{eqb}
+use Rattle.lists.specs.Fold.{fold}
+use Rattle.field.specs.Word.{addM}
+use Rattle.logup.specs.Ledger.{Entry, same-list}
+
+-- a tuple, and the sum of its counts modulo p
+pub record Slot : Type 0 where
+  pub tuple : List ℕ
+  pub net : ℕ
+
+-- an entry is added to its tuple's slot, or makes one after the others; a net that returns to 0 keeps its slot
+unfoldable pub enter : ℕ → List Slot → Entry → List Slot
+enter p [] e = record { tuple = e .tuple; net = e .count } ∷ []
+enter p (s ∷ ss) e =
+    cond (same-list (s .tuple) (e .tuple)) (record { tuple = s .tuple; net = addM p (s .net) (e .count) } ∷ ss) (s ∷ enter p ss e)
+
+-- "zeros are skipped"
+unfoldable pub meet : ℕ → List Slot → Entry → List Slot
+meet p ss e = cond (eqb (e .count) 0) ss (enter p ss e)
+
+-- the slots of a group's entries
+unfoldable pub slots : ℕ → List Entry → List Slot
+slots p es = fold (meet p) [] es

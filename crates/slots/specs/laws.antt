@@ -1,0 +1,4 @@
+pub mod Nets
+pub mod Entering
+pub mod Naming
+pub mod Room
