@@ -14,25 +14,9 @@ use Rattle.lists.specs.laws.Tab.{tab-none, tab-one}
 use Rattle.lists.specs.laws.Filled.{Filled, filled-none, filled-one}
 use Rattle.expression.specs.Words.{word}
 use Rattle.lookup.specs.Lookups.{element-start}
-use Rattle.degree.specs.Sums.{largest-of, greatest}
+use Rattle.degree.specs.Sums.{largest-of}
 use Rattle.degree.specs.Degree.{tuple-degree}
 use Rattle.degree.specs.At.{degree-at}
-
--- m is the largest of the first i
-pub record Rising (f : ℕ → ℕ) (n i m : ℕ) : Type 0 where
-  pub within : i ≤ n
-  pub is : m ≡ greatest f i
-
-pub rise-begins : {f : ℕ → ℕ} {n : ℕ} → Rising f n 0 0
-unfolding greatest
-rise-begins = record { within = zero-le; is = refl }
-
-pub rise-turn : {f : ℕ → ℕ} {n i m m′ : ℕ} (x : ℕ) → Rising f n i m → i < n → m′ ≡ max m x → x ≡ f i → Rising f n (i + 1) m′
-unfolding greatest
-rise-turn {f} {n} {i} {m} {m′} x s h e g = record { within = omega arith; is = rw (add-one i) (e ∙ ap₂ max (s .is) g) }
-
-pub rise-ends : {f : ℕ → ℕ} {n i m : ℕ} → Rising f n i m → n ≤ i → m ≡ greatest f n
-rise-ends {f} {n} {i} {m} s h = let e : i ≡ n = omega (arith, s .within) in s .is ∙ ap (greatest f) e
 
 -- the largest degree so far of a list's nodes
 pub record Topping (f : ℕ → ℕ) (xs : List ℕ) (i m : ℕ) : Type 0 where

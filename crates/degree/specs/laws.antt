@@ -1,2 +1,3 @@
 pub mod Degree
 pub mod Formed
+pub mod Rising

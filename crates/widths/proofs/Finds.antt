@@ -43,22 +43,6 @@ module _ {A : Type 0} where
   pub find-ends : {f : ℕ → Option A} {n i : ℕ} {o : Option A} → Finding f n i o → n ≤ i → o ≡ first f n
   find-ends {f} {n} {i} {o} s h = let e : i ≡ n = omega (arith, s .within) in s .is ∙ ap (first f) e
 
--- m is the largest of the first i
-pub record Rising (f : ℕ → ℕ) (n i m : ℕ) : Type 0 where
-  pub within : i ≤ n
-  pub is : m ≡ greatest f i
-
-pub rise-begins : {f : ℕ → ℕ} {n : ℕ} → Rising f n 0 0
-unfolding greatest
-rise-begins = record { within = zero-le; is = refl }
-
-pub rise-turn : {f : ℕ → ℕ} {n i m m′ : ℕ} (x : ℕ) → Rising f n i m → i < n → m′ ≡ max m x → x ≡ f i → Rising f n (i + 1) m′
-unfolding greatest
-rise-turn {f} {n} {i} {m} {m′} x s h e g = record { within = omega arith; is = rw (add-one i) (e ∙ ap₂ max (s .is) g) }
-
-pub rise-ends : {f : ℕ → ℕ} {n i m : ℕ} → Rising f n i m → n ≤ i → m ≡ greatest f n
-rise-ends {f} {n} {i} {m} s h = let e : i ≡ n = omega (arith, s .within) in s .is ∙ ap (greatest f) e
-
 pub named : {l m t : List ℕ} → Listed l m t → Named l m
 named a = record { few = a .few; room = a .names-in }
 

@@ -1,10 +1,10 @@
 // The door of widths: several tables, of which only the lookups are given.
-use crate::order::name_start;
-use crate::seen::tuple_start;
 use crate::spans::size_start;
 use crate::spans::spans_of;
 use crate::tables::bus_widths;
 use crate::tables::widest;
+use degree::starts::name_start;
+use degree::starts::tuple_start;
 use expression::refusal::Refusal;
 use expression::refusal::Verdict;
 use expression::sizes::cabinet;

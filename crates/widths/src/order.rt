@@ -1,4 +1,5 @@
 // The order of a table's lookups: those that are alone, then bus by bus.
+use degree::starts::name_start;
 use expression::words::index;
 use lookup::types::exclusive;
 use lookup::types::name_length;
@@ -8,7 +9,7 @@ ghost use mathlib.Core.List.{_++_};
 ghost use Prim.Native.Nat.{_+_, _*_, _<_, _≤_};
 ghost use lib.ListN.{length, take, drop, replicate};
 ghost use Rattle.lists.specs.Tab.{tab};
-ghost use Rattle.lookup.specs.Lookups.{lookup-count, name-start};
+ghost use Rattle.lookup.specs.Lookups.{lookup-count};
 ghost use Rattle.widths.specs.Order.{same, name-at, alone-at, same-bus, place, arranged};
 ghost use Rattle.widths.specs.Asks.{Named, of-place, order-of};
 
@@ -27,21 +28,6 @@ pub fn same_bytes(x: &[u8], y: &[u8]) -> bool
         i += 1;
     }
     true
-}
-
-// Where the name of lookup i begins.
-pub fn name_start(lookups: &[u32], i: usize) -> usize
-    requires { ⌜ (i ≤ lookup-count (now lookups)) × (i ≤ 64) ⌝ }
-    ensures { λ r. ⌜ (r ≡ name-start (now (lookups .entry)) i) × (r ≤ i * 4294967295) ⌝ }
-{
-    let mut sum: usize = 0;
-    let mut j = 0;
-    while j < i {
-        let w = index(name_length(lookups, j));
-        sum = sum + w;
-        j += 1;
-    }
-    sum
 }
 
 // A lookup that shares its column with none: a local, and in packing an exclusive one too.

@@ -1,6 +1,8 @@
 // The width of one lookup's tuples, and whether they are as wide as expected.
-use crate::order::name_start;
 use crate::order::same_bytes;
+use degree::starts::name_start;
+use degree::starts::tuple_start;
+use degree::tuples::larger;
 use expression::refusal::first;
 use expression::refusal::Refusal;
 use expression::refusal::Verdict;
@@ -11,7 +13,7 @@ use lookup::types::on_bus;
 use lookup::types::tuple_count;
 ghost use mathlib.Core.Path.{_≡_};
 ghost use mathlib.Core.Option.{none};
-ghost use Prim.Native.Nat.{_+_, _*_, _<_, _≤_, max};
+ghost use Prim.Native.Nat.{_+_, _<_, _≤_};
 ghost use lib.ListN.{length};
 ghost use Rattle.lists.specs.Count.{first, or-else};
 ghost use Rattle.expression.specs.Refusal.{refusal};
@@ -34,27 +36,6 @@ pub fn first_seen(a: Seen, b: Seen) -> Seen
         Seen::Nothing => b,
         Seen::Width(w) => Seen::Width(w),
     }
-}
-
-pub fn larger(a: u32, b: u32) -> u32
-    ensures { λ r. ⌜ r ≡ max a b ⌝ }
-{
-    if a <= b { b } else { a }
-}
-
-// Where the tuples of lookup i begin.
-pub fn tuple_start(lookups: &[u32], i: usize) -> usize
-    requires { ⌜ (i ≤ lookup-count (now lookups)) × (i ≤ 64) ⌝ }
-    ensures { λ r. ⌜ (r ≡ tuple-start (now (lookups .entry)) i) × (r ≤ i * 4294967295) ⌝ }
-{
-    let mut sum: usize = 0;
-    let mut j = 0;
-    while j < i {
-        let w = index(tuple_count(lookups, j));
-        sum = sum + w;
-        j += 1;
-    }
-    sum
 }
 
 // The width of the first tuple of lookup i, if that is on the bus of this name and has tuples.

@@ -1,13 +1,13 @@
 // Refusal 6 and the widest bus tuple over several tables.
-use crate::order::name_start;
 use crate::order::order;
 use crate::seen::first_seen;
-use crate::seen::larger;
 use crate::seen::tuples_verdict;
 use crate::seen::widest_in_lookup;
 use crate::seen::width_in_lookup;
 use crate::seen::Seen;
 use crate::spans::spans_of;
+use degree::starts::name_start;
+use degree::tuples::larger;
 use expression::refusal::first;
 use expression::refusal::Verdict;
 use expression::words::index;

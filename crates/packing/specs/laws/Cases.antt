@@ -12,7 +12,7 @@ use Rattle.expression.specs.Degree.{node-degree, degrees}
 use Rattle.expression.specs.Tests.{nodes-within, nodes-fit, constants-below, nodes-known, degrees-low}
 use Rattle.expression.specs.declared.refusal.Refusal.the-variants.{SizeAtOdds, WidthsDiffer, WeightTooLarge}
 use Rattle.lookup.specs.Lookups.{Lookups, name-start, tuple-start, multiplicity-start, flag-start, element-start, tuple-width, multiplicity-node, flag-node, tuple-nodes, lookup-at, lookups-of}
-use Rattle.lookup.specs.Entry.{columns-within, form-sizes, nodes-refusal, form-refusal}
+use Rattle.lookup.specs.Entry.{columns-within, form-sizes, nodes-refusal, lists-refusal, form-refusal, shape-of}
 use Rattle.lookup.specs.declared.entry.Columns.{Columns}
 use Rattle.lookup.specs.Tests.{lookups-within, lookups-fit, lengths-agree, nodes-present, lists-agree}
 use Rattle.degree.specs.Sums.{sum-of, largest-of, greatest}
@@ -141,5 +141,5 @@ pub cases :
   × (packed-with 3 heavy room ≡ record { answer = Refused WeightTooLarge; lists = room })
   × (packed-with 2 heavy room .answer
      ≡ Packed (record { lookups = 16; names = 2; tuples = 2; multiplicities = 2; flags = 0; elements = 2 }))
-unfolding total every first tab flatMap zipWith all-below all-within cabinet decode node node-degree degrees nodes-within nodes-fit constants-below nodes-known degrees-low name-start tuple-start multiplicity-start flag-start element-start tuple-width multiplicity-node flag-node tuple-nodes lookup-at lookups-of lookups-within lookups-fit lengths-agree nodes-present lists-agree sum-of largest-of greatest tuple-degree denominator-degree numerator-degree additive-degree exclusive-degree lookup-degree columns-within form-sizes nodes-refusal form-refusal degree-refusal degree-answer keep position by-place numbers same name-at alone-at same-bus place arranged width-in-lookup width-in-table expected by-bus lookup-refusal table-refusal widths-refusal widest-in-lookup widest-in-table widest size-start table-at tables-of lists-fit table-fits all-fit widths-answer in-order fill filled renumbered packed overweight lookup-words words-of holds columns packing-refusal packing
+unfolding total every first tab flatMap zipWith all-below all-within cabinet decode node node-degree degrees nodes-within nodes-fit constants-below nodes-known degrees-low name-start tuple-start multiplicity-start flag-start element-start tuple-width multiplicity-node flag-node tuple-nodes lookup-at lookups-of lookups-within lookups-fit lengths-agree nodes-present lists-agree sum-of largest-of greatest tuple-degree denominator-degree numerator-degree additive-degree exclusive-degree lookup-degree columns-within form-sizes nodes-refusal lists-refusal form-refusal shape-of degree-refusal degree-answer keep position by-place numbers same name-at alone-at same-bus place arranged width-in-lookup width-in-table expected by-bus lookup-refusal table-refusal widths-refusal widest-in-lookup widest-in-table widest size-start table-at tables-of lists-fit table-fits all-fit widths-answer in-order fill filled renumbered packed overweight lookup-words words-of holds columns packing-refusal packing
 cases = (refl, refl, refl, refl, refl, refl, refl, refl, refl, refl, refl)

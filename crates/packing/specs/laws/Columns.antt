@@ -13,7 +13,7 @@ use Rattle.lookup.specs.Lookups.{Lookups, Lookup, lookup-count, lookup-at, look
 use Rattle.degree.specs.Degree.{denominator-degree, numerator-degree, additive-degree, exclusive-degree, lookup-degree}
 use Rattle.widths.specs.Order.{keep, position, by-place, numbers, same, same-bus, place, arranged}
 use Rattle.packing.specs.Packing.{passes, additive-on, on-one-bus, in-order, merged, joins, fill, filled, numbered, renumbered, packed}
-use Rattle.widths.specs.laws.Order.{keep-append, keep-same, keep-none, keep-cong, keep-all, keep-in, keep-map, map-append, position-none, position-in, sum-append, sum-map, tab-map, numbers-length, numbers-below, by-place-keep, sum-by-place, by-place-in, by-place-front, same-eq, same-refl}
+use Rattle.widths.specs.laws.Order.{keep-append, keep-same, keep-none, keep-cong, keep-map, map-append, position-none, sum-append, sum-map, tab-map, numbers-length, arranged-sum, arranged-in, by-place-keep, by-place-front, same-eq}
 
 pub and-both : (a b : Bool) → (a && b) ≡ true → (a ≡ true) × (b ≡ true)
 and-both true b e = (refl, e)
@@ -44,8 +44,14 @@ module _ (l : Lookups) where
   abbrev N : ℕ
   N = lookup-count (l .lookups)
 
+  abbrev alone : ℕ → Bool
+  alone i = passes (lookup-at l i)
+
+  abbrev name : ℕ → List ℕ
+  name i = lookup-at l i .name
+
   abbrev P : ℕ → ℕ
-  P = place (λ i. passes (lookup-at l i)) (λ i. lookup-at l i .name) (lookup-count (l .lookups))
+  P = place alone name N
 
   all-lookups : lookups-of l ≡ map G (numbers N)
   unfolding lookups-of
@@ -80,38 +86,19 @@ module _ (l : Lookups) where
           sym (position-none (λ i. additive-on n (G i)) (numbers N)
                (rw (numbers-length N) (let h : suc N ≤ K = ltb-false K (suc N) e in omega arith)))
 
-  -- every lookup has its place
-  pub place-in : (i : ℕ) → List·Memᴰ i (numbers N) → ltb (P i) (suc N) ≡ true
-  unfolding place same-bus
-  place-in i m = go (passes (G i)) refl
-    where
-      B : ℕ → Bool
-      B = same-bus (λ i. passes (lookup-at l i)) (λ i. lookup-at l i .name) i
-
-      self : passes (G i) ≡ false → B i ≡ true
-      self e = rw (e, same-refl (G i .name))
-
-      go : (b : Bool) → passes (G i) ≡ b → ltb (cond b 0 (suc (position B (numbers N)))) (suc N) ≡ true
-      go true e = lt-ltb 0 (suc N) (omega arith)
-      go false e = let h : position B (numbers N) < length (numbers N) = position-in B (numbers N) m (self e) in lt-ltb (suc (position B (numbers N))) (suc N) (omega (arith, numbers-length N))
-
   -- none is lost and none comes in: any sum over the lookups stays
   pub order-sum : (g : Lookup → ℕ) → sum-of g (in-order l) ≡ sum-of g (lookups-of l)
-  unfolding in-order arranged
+  unfolding in-order
   order-sum g =
-      sum-map g G (by-place P (suc N) (numbers N))
-      ∙ sum-by-place (λ i. g (G i)) P (suc N) (numbers N)
-      ∙ ap (sum-of (λ i. g (G i))) (keep-all (λ i. ltb (P i) (suc N)) (numbers N) place-in)
-      ∙ sym (sum-map g G (numbers N))
-      ∙ ap (sum-of g) (sym all-lookups)
+      sum-map g G (arranged alone name N) ∙ arranged-sum alone name N (λ i. g (G i)) ∙ sym (sum-map g G (numbers N)) ∙ ap (sum-of g) (sym all-lookups)
 
   place-zero : (i : ℕ) → eqb (P i) 0 ≡ passes (G i)
   unfolding place
   place-zero i = go (passes (G i))
     where
-      go : (b : Bool) → eqb (cond b 0 (suc (position (same-bus (λ i. passes (lookup-at l i)) (λ i. lookup-at l i .name) i) (numbers N)))) 0 ≡ b
+      go : (b : Bool) → eqb (cond b 0 (suc (position (same-bus alone name i) (numbers N)))) 0 ≡ b
       go true = refl
-      go false = eqb·suc-zero (position (same-bus (λ i. passes (lookup-at l i)) (λ i. lookup-at l i .name) i) (numbers N))
+      go false = eqb·suc-zero (position (same-bus alone name i) (numbers N))
 
   alone-zero : (i : ℕ) → passes (G i) ≡ true → P i ≡ 0
   unfolding place
@@ -147,8 +134,8 @@ module _ (l : Lookups) where
 
   -- each is one of the lookups
   pub order-in : {x : Lookup} → List·Memᴰ x (in-order l) → (i : ℕ) × (i < lookup-count (l .lookups)) × (x ≡ lookup-at l i)
-  unfolding in-order arranged
-  order-in m = let r = map-in (by-place P (suc N) (numbers N)) m in (r .0, numbers-below N (r .0) (by-place-in P (suc N) (numbers N) (r .1)), r .2)
+  unfolding in-order
+  order-in m = let r = map-in (arranged alone name N) m in (r .0, arranged-in alone name N (r .0) (r .1), r .2)
 
 -- what each lookup carries is carried by the columns, in order
 module _ {B : Type 0} (g : Lookup → List B) (adds : (a b : Lookup) → g (merged a b) ≡ g a ++ g b) (deg : ℕ → ℕ) (limit : ℕ) (n : List ℕ) where

@@ -1,4 +1,4 @@
-use Rattle.degree.proofs.Turns.{Rising, rise-begins, rise-turn, rise-ends, one-of}
+use Rattle.degree.specs.laws.Rising.{Rising, rise-begins, rise-turn, rise-ends}
 use Rattle.expression.specs.Words.{word}
 use Prim.Native.Nat.{ℕ, _+_, _-_, _≤_}
 use native.Mathlib.Omega.{arith}

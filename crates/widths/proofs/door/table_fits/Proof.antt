@@ -9,8 +9,8 @@ use Rattle.widths.proofs.door.table_fits.Tie as tie
 use Rattle.widths.proofs.door.table_fits.Reads as reads
 use Rattle.widths.proofs.door.table_fits.Lts as lts
 use Rattle.lookup.proofs.tests.lookups_within.Reads as lookups-within-reads
-use Rattle.widths.proofs.order.name_start.Reads as name-start-reads
-use Rattle.widths.proofs.seen.tuple_start.Reads as tuple-start-reads
+use Rattle.degree.proofs.starts.name_start.Reads as name-start-reads
+use Rattle.degree.proofs.starts.tuple_start.Reads as tuple-start-reads
 
 -- src/door.rt:46:8
 lookups-within-requires : tie.Need-lookups-within-requires

@@ -11,7 +11,7 @@ use Rattle.widths.proofs.order.same_bus.Lts as lts
 use Rattle.expression.proofs.words.index.Reads as index-reads
 use Rattle.lookup.proofs.types.name_length.Reads as name-length-reads
 use Rattle.widths.proofs.order.alone.Reads as alone-reads
-use Rattle.widths.proofs.order.name_start.Reads as name-start-reads
+use Rattle.degree.proofs.starts.name_start.Reads as name-start-reads
 use Rattle.widths.proofs.order.same_bytes.Reads as same-bytes-reads
 
 -- src/order.rt:63:8

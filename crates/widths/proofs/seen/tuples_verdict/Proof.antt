@@ -14,7 +14,7 @@ use Rattle.widths.proofs.seen.tuples_verdict.Lts as lts
 use Rattle.expression.proofs.refusal.first.Reads as first-reads
 use Rattle.expression.proofs.words.index.Reads as index-reads
 use Rattle.lookup.proofs.types.tuple_count.Reads as tuple-count-reads
-use Rattle.widths.proofs.seen.tuple_start.Reads as tuple-start-reads
+use Rattle.degree.proofs.starts.tuple_start.Reads as tuple-start-reads
 use Rattle.widths.proofs.seen.tuple_verdict.Reads as tuple-verdict-reads
 
 abbrev Inv-loop : tie.InvT-loop

@@ -1,6 +1,7 @@
 use Rattle.widths.proofs.Finds.{widest-local, widest-bus}
 use native.Mathlib.Omega.{arith}
-use Rattle.widths.proofs.Finds.{Rising, rise-begins, rise-turn, rise-ends, width-is, tuples-in}
+use Rattle.degree.specs.laws.Rising.{Rising, rise-begins, rise-turn, rise-ends}
+use Rattle.widths.proofs.Finds.{width-is, tuples-in}
 use Rattle.widths.specs.Widths.{widest-in-lookup}
 use Rattle.lookup.specs.Lookups.{tuple-width}
 use mathlib.Core.Path.{_∙_, refl, ap}
@@ -13,8 +14,8 @@ use Rattle.widths.proofs.seen.widest_in_lookup.Lts as lts
 use Rattle.expression.proofs.words.index.Reads as index-reads
 use Rattle.lookup.proofs.types.on_bus.Reads as on-bus-reads
 use Rattle.lookup.proofs.types.tuple_count.Reads as tuple-count-reads
-use Rattle.widths.proofs.seen.larger.Reads as larger-reads
-use Rattle.widths.proofs.seen.tuple_start.Reads as tuple-start-reads
+use Rattle.degree.proofs.tuples.larger.Reads as larger-reads
+use Rattle.degree.proofs.starts.tuple_start.Reads as tuple-start-reads
 
 abbrev Inv-loop : tie.InvT-loop
 Inv-loop lookups names tuples i s n top₀ k₀ top k = Rising (tuple-width lookups tuples i) n k top

@@ -15,9 +15,9 @@ use Rattle.expression.proofs.words.index.Reads as index-reads
 use Rattle.lookup.proofs.types.name_length.Reads as name-length-reads
 use Rattle.lookup.proofs.types.on_bus.Reads as on-bus-reads
 use Rattle.lookup.proofs.types.tuple_count.Reads as tuple-count-reads
-use Rattle.widths.proofs.order.name_start.Reads as name-start-reads
+use Rattle.degree.proofs.starts.name_start.Reads as name-start-reads
 use Rattle.widths.proofs.order.same_bytes.Reads as same-bytes-reads
-use Rattle.widths.proofs.seen.tuple_start.Reads as tuple-start-reads
+use Rattle.degree.proofs.starts.tuple_start.Reads as tuple-start-reads
 
 -- src/seen.rt:65:9
 on-bus-requires : tie.Need-on-bus-requires

@@ -15,7 +15,7 @@ use Rattle.widths.proofs.tables.lookup_verdict.Lts as lts
 use Rattle.expression.proofs.words.index.Reads as index-reads
 use Rattle.lookup.proofs.types.name_length.Reads as name-length-reads
 use Rattle.lookup.proofs.types.on_bus.Reads as on-bus-reads
-use Rattle.widths.proofs.order.name_start.Reads as name-start-reads
+use Rattle.degree.proofs.starts.name_start.Reads as name-start-reads
 use Rattle.widths.proofs.seen.tuples_verdict.Reads as tuples-verdict-reads
 use Rattle.widths.proofs.tables.expected.Reads as expected-reads
 

@@ -1,5 +1,5 @@
 use native.Mathlib.Omega.{arith}
-use Rattle.widths.proofs.Finds.{Rising, rise-begins, rise-turn, rise-ends}
+use Rattle.degree.specs.laws.Rising.{Rising, rise-begins, rise-turn, rise-ends}
 use Rattle.widths.specs.Widths.{widest-in-table, widest}
 use Rattle.widths.specs.laws.Tables.{lies, owned}
 use Rattle.widths.specs.Asks.{lent-lists}
@@ -12,7 +12,7 @@ use Rattle.widths.proofs.tables.widest.Statement.{statement}
 use Rattle.widths.proofs.tables.widest.Tie as tie
 use Rattle.widths.proofs.tables.widest.Reads as reads
 use Rattle.widths.proofs.tables.widest.Lts as lts
-use Rattle.widths.proofs.seen.larger.Reads as larger-reads
+use Rattle.degree.proofs.tuples.larger.Reads as larger-reads
 use Rattle.widths.proofs.spans.spans_of.Reads as spans-of-reads
 use Rattle.widths.proofs.tables.widest_in_table.Reads as widest-in-table-reads
 

@@ -1,4 +1,4 @@
-use Rattle.widths.proofs.Finds.{Rising, rise-begins, rise-turn, rise-ends}
+use Rattle.degree.specs.laws.Rising.{Rising, rise-begins, rise-turn, rise-ends}
 use Rattle.widths.specs.Asks.{bare}
 use Rattle.widths.specs.Widths.{widest-in-lookup, widest-in-table}
 use Rattle.lookup.specs.Lookups.{lookup-count}
@@ -8,7 +8,7 @@ use Rattle.widths.proofs.tables.widest_in_table.Statement.{statement}
 use Rattle.widths.proofs.tables.widest_in_table.Tie as tie
 use Rattle.widths.proofs.tables.widest_in_table.Reads as reads
 use Rattle.widths.proofs.tables.widest_in_table.Lts as lts
-use Rattle.widths.proofs.seen.larger.Reads as larger-reads
+use Rattle.degree.proofs.tuples.larger.Reads as larger-reads
 use Rattle.widths.proofs.seen.widest_in_lookup.Reads as widest-in-lookup-reads
 
 abbrev Inv-loop : tie.InvT-loop
