@@ -1,8 +1,8 @@
 -- The turns of the loop over the tuples of an additive lookup.
 use mathlib.Core.Path.{_≡_, refl, sym, ap, ap₂, _∙_, subst}
-use mathlib.Core.Bool.{Bool, true, false, cond, _||_}
+use mathlib.Core.Bool.{Bool, false, cond, _||_}
 use mathlib.Core.List.{List, [], map}
-use Prim.Native.Nat.{ℕ, zero, suc, _+_, _-_, _<_, _≤_, zero-le}
+use Prim.Native.Nat.{ℕ, zero, _+_, _-_, _<_, _≤_, zero-le}
 use native.Mathlib.Numerals.{add-one}
 use native.Mathlib.Omega.{arith}
 use lib.ListN.{length, take, drop}
@@ -14,9 +14,9 @@ use Rattle.field.specs.Element.{Word4, zero4, add4, is-zero, sum4}
 use Rattle.expression.specs.Words.{word}
 use Rattle.lookup.specs.Lookups.{tuple-count, element-start}
 use Rattle.logup.specs.Tuple.{tuple, denominator, quotient4}
-use Rattle.logup.specs.Column.{Place, branches, multiplicity, denom, used-denom, additive-fraction, additive-fault}
+use Rattle.logup.specs.Column.{branches, multiplicity, denom, used-denom, additive-fraction, additive-fault}
 use Rattle.column.specs.Powers.{beta-of}
-use Rattle.column.specs.Own.{lists, own-place, Fits, used-of}
+use Rattle.column.specs.Own.{own-place, Fits, used-of}
 use Rattle.column.specs.laws.Powers.{word-zero}
 use Rattle.column.specs.laws.Own.{start-next, start-in, own-multiplicity, own-tuple}
 use Rattle.column.specs.declared.fractions.Share.{Share}

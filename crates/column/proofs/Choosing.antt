@@ -1,12 +1,13 @@
 -- The turns of the loops over the flags and to a tuple's nodes, and the branch chosen.
-use mathlib.Core.Path.{_≡_, refl, sym, ap, ap₂, _∙_, subst}
+use mathlib.Core.Path.{_≡_, refl, sym, ap, ap₂, _∙_}
 use mathlib.Core.Bool.{Bool, true, false, cond, _||_, not}
 use mathlib.Core.Option.{Option, none, some}
 use mathlib.Core.List.{List, [], map}
-use Prim.Native.Nat.{ℕ, zero, suc, _+_, _*_, _-_, _<_, _≤_, zero-le}
+use Prim.Native.Nat.{ℕ, zero, suc, _+_, _-_, _<_, _≤_, zero-le}
 use native.Mathlib.Numerals.{add-one}
 use native.Mathlib.Omega.{arith}
 use lib.Dec.{eqb, ltb}
+use borrow.Author.Tests.{not-true, not-false}
 use lib.ListN.{length, take, drop}
 use Rattle.lists.specs.Count.{some-of, total}
 use Rattle.lists.specs.laws.Count.{total-le}
@@ -15,9 +16,9 @@ use Rattle.field.specs.Ext.{ws}
 use Rattle.field.specs.Element.{Word4, zero4, is-zero}
 use Rattle.expression.specs.Words.{word}
 use Rattle.expression.specs.Values.{bit}
-use Rattle.lookup.specs.Lookups.{exclusive, tuple-count, tuple-start, multiplicity-start, flag-start, element-start, tuple-width, multiplicity-node, flag-node, tuple-nodes}
+use Rattle.lookup.specs.Lookups.{exclusive, tuple-count, tuple-start, multiplicity-start, element-start, tuple-width, multiplicity-node, tuple-nodes}
 use Rattle.logup.specs.Tuple.{tuple, denominator, quotient4}
-use Rattle.logup.specs.Column.{Place, branches, multiplicity, flag, denom, used-denom, chosen, branch-fraction, branch-fault, additive-fraction, additive-fault, exclusive-fraction, exclusive-fault, fraction, fault}
+use Rattle.logup.specs.Column.{Place, branches, multiplicity, flag, denom, used-denom, chosen, additive-fraction, additive-fault, exclusive-fraction, exclusive-fault, fraction, fault}
 use Rattle.column.specs.Own.{own-place, Fits, faults, branch-code}
 use Rattle.column.specs.laws.Powers.{word-zero}
 use Rattle.column.specs.laws.Own.{start-next, own-multiplicity, own-flag}
@@ -155,14 +156,6 @@ unfolding exclusive-fraction exclusive-fault
 one-chosen p w k c s h (wv, ev, ez) e =
     let q : chosen (flag c) (branches c) ≡ some k = code-some _ k (sym (s .chosen≡) ∙ h) in
     (wv, ev ∙ rw q, e ∙ rw (s .over≡, s .ones≡, q, ez))
-
-not-true : (b : Bool) → not b ≡ true → b ≡ false
-not-true true e = sym e
-not-true false e = refl
-
-not-false : (b : Bool) → not b ≡ false → b ≡ true
-not-false true e = refl
-not-false false e = sym e
 
 -- an additive lookup reads no flag
 additive-same : (p w : ℕ) (own widths mults flags nodes vals alpha beta : List ℕ)

@@ -1,30 +1,25 @@
 -- The functions without a loop, branch by branch.
-use mathlib.Core.Path.{_≡_, refl, sym, ap, ap₂, _∙_}
-use mathlib.Core.Bool.{Bool, true, false, cond}
-use mathlib.Core.List.{List, []}
+use mathlib.Core.Path.{_≡_, ap, _∙_}
+use mathlib.Core.Bool.{Bool, true, false}
+use mathlib.Core.List.{List}
 use Prim.Native.Nat.{ℕ, _<_, _≤_}
 use native.Mathlib.Omega.{arith}
-use lib.Dec.{eqb, ltb, lt→ltb, ltb→lt}
-use Rattle.lists.specs.laws.Count.{true-of, false-of, eqb-true, eqb-false}
+use lib.Dec.{eqb}
+use borrow.Author.Tests.{lt-ltb, le-ltb}
+use Rattle.lists.specs.laws.Count.{eqb-true, eqb-false}
 use Rattle.field.specs.Element.{one4, sub4, scale4, inverse4}
 use Rattle.expression.specs.Values.{bit}
 use Rattle.logup.specs.Tuple.{combine, denominator, quotient4}
 use Rattle.column.specs.Own.{used-of, faults}
 
-ltb-true : {a b : ℕ} → a < b → ltb a b ≡ true
-ltb-true {a} {b} h = true-of (ltb a b) (lt→ltb a b h)
-
-ltb-false : {a b : ℕ} → (a < b → ⊥) → ltb a b ≡ false
-ltb-false {a} {b} h = false-of (ltb a b) (λ t. h (ltb→lt a b t))
-
 pub fault-14 : {over : Bool} {ones : ℕ} (zero : Bool) → over ≡ false → 1 < ones → 14 ≡ faults over ones zero
-fault-14 zero e h = rw (e, ltb-true h)
+fault-14 {ones = ones} zero e h = rw (e, lt-ltb 1 ones h)
 
 pub fault-15 : {over zero : Bool} {ones : ℕ} → over ≡ false → ones ≤ 1 → zero ≡ true → 15 ≡ faults over ones zero
-fault-15 {ones = ones} e h z = rw (e, ltb-false {a = 1} {b = ones} (λ l. omega arith), z)
+fault-15 {ones = ones} e h z = rw (e, le-ltb 1 ones h, z)
 
 pub fault-0 : {over zero : Bool} {ones : ℕ} → over ≡ false → ones ≤ 1 → zero ≡ false → 0 ≡ faults over ones zero
-fault-0 {ones = ones} e h z = rw (e, ltb-false {a = 1} {b = ones} (λ l. omega arith), z)
+fault-0 {ones = ones} e h z = rw (e, le-ltb 1 ones h, z)
 
 pub bit-one : {f : ℕ} → f ≡ 1 → (1 ≡ bit (eqb f 1)) × (1 ≤ 1)
 bit-one e = (rw (eqb-true e), omega arith)

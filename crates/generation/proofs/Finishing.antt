@@ -1,21 +1,18 @@
 -- The table of powers, the answer and the buffer after the rows, and the door's outcome.
-use mathlib.Core.Path.{_≡_, refl, sym, ap, ap₂, _∙_, subst}
-use mathlib.Core.Bool.{Bool, true, false, cond}
+use mathlib.Core.Path.{_≡_, refl, sym, ap, ap₂, _∙_}
+use mathlib.Core.Bool.{true, false}
 use mathlib.Core.Option.{Option, none, some}
 use mathlib.Core.List.{List, [], _∷_, _++_}
 use Prim.Native.Nat.{ℕ, zero, suc, _+_, _*_, _-_, _<_, _≤_, zero-le}
-use native.Mathlib.Nat.{zero-add}
 use native.Mathlib.Omega.{arith}
 use lib.ListN.{length, take, drop, replicate, length-append}
 use lib.Seq.{drop-at}
 use borrow.Rule.Slice.PartMut.{putMid}
-use Rattle.lists.specs.Count.{or-else, joined}
+use Rattle.lists.specs.Count.{joined}
 use Rattle.lists.specs.Tab.{tab}
 use Rattle.lists.specs.laws.Filled.{put-mid}
 use Rattle.lists.specs.laws.Parts.{part-length}
-use Rattle.field.specs.declared.extension.Ext.{Ext}
-use Rattle.field.specs.Ext.{ws}
-use Rattle.field.specs.Element.{Word4, power4, element, add4, sum4}
+use Rattle.field.specs.Element.{power4, element}
 use Rattle.field.specs.Modulus.{babybear, babybear-w}
 use Rattle.field.specs.laws.Extension.{babybear-certificate}
 use Rattle.expression.specs.Limits.{cabinet}
@@ -29,12 +26,13 @@ use Rattle.expression.specs.declared.sizes.Shape.{Shape}
 use Rattle.lookup.specs.Lookups.{Lookups, lent-lookups, lookup-count}
 use Rattle.lookup.specs.Table.{Table, lent-table}
 use Rattle.lookup.specs.Tests.{has-lookups}
-use Rattle.logup.specs.Rows.{fraction-at, row-sum, accumulator, row-words, trace, first-fault, used}
-use Rattle.logup.specs.Generation.{Answer, refused, absent, terminal, Outcome, rows-outcome, entry-refusal, entry-outcome, generation}
+use Rattle.logup.specs.Rows.{row-sum, accumulator, row-words, trace, first-fault, used}
+use Rattle.logup.specs.Generation.{Answer, refused, absent, terminal, rows-outcome, entry-refusal, entry-outcome, generation}
 use Rattle.generation.specs.Entry.{rows-answer, cleared}
 use Rattle.generation.specs.Ready.{lent-values, Powered, Field}
 use Rattle.generation.specs.laws.Table.{joined-length, element-append, powers-table, row-size, table-element}
 use Rattle.generation.specs.laws.Unnamed.{unnamed-accumulator, unnamed-trace, unnamed-first-fault}
+use Rattle.generation.proofs.Lining.{sum-four}
 use Rattle.generation.proofs.Rowing.{fractions-length}
 
 module _ {A : Type 0} where
@@ -67,11 +65,6 @@ finish-some {zs} v f e b u k h z = (rw k, put-mid b 0 u (z ∙ ap (λ (x : ℕ).
   where
     size : length (take (u - 0) (drop 0 b)) ≡ u
     size = part-length b 0 u zero-le h ∙ omega arith
-
-sum-four : (p : ℕ) (f : ℕ → List ℕ) (n : ℕ) → length (sum4 p f n) ≡ 4
-unfolding sum4 add4
-sum-four p f zero = refl
-sum-four p f (suc n) = refl
 
 row-length : (p w : ℕ) (l : Lookups) (cs : List ℕ) (values : ℕ → List ℕ) (r : ℕ) → length (row-words p w l cs values r) ≡ 4 * lookup-count (l .lookups) + 4
 unfolding row-words accumulator

@@ -1,26 +1,25 @@
 -- The turns of the loop over the lookups of a row.
-use mathlib.Core.Path.{_≡_, refl, sym, ap, ap₂, _∙_, subst}
+use mathlib.Core.Path.{_≡_, refl, sym, ap, ap₂, _∙_}
 use mathlib.Core.Bool.{Bool, true, false, cond}
 use mathlib.Core.Option.{Option, none, some}
-use mathlib.Core.List.{List, [], _∷_, _++_}
+use mathlib.Core.List.{List, [], _++_}
 use Prim.Native.Nat.{ℕ, zero, suc, _+_, _*_, _-_, _<_, _≤_, zero-le}
 use native.Mathlib.Nat.{zero-add}
 use native.Mathlib.Numerals.{add-one}
 use native.Mathlib.Omega.{arith}
-use lib.ListN.{length, take, drop, length-append}
+use lib.ListN.{length, take, drop}
 use borrow.Rule.Slice.PartMut.{putMid}
 use Rattle.lists.specs.Count.{total, or-else, first, joined}
-use Rattle.lists.specs.laws.Count.{first-one, joined-one}
+use Rattle.lists.specs.laws.Count.{joined-one}
 use Rattle.lists.specs.laws.Filled.{Filled, filled-none, filled-part, filled-whole}
 use Rattle.lists.specs.laws.Parts.{part-length}
 use Rattle.field.specs.declared.extension.Ext.{Ext}
 use Rattle.field.specs.Ext.{ws}
-use Rattle.field.specs.Element.{Word4, zero4, add4, scale4, sum4}
+use Rattle.field.specs.Element.{Word4, add4, scale4, sum4}
 use Rattle.expression.specs.Refusal.{refusal}
-use Rattle.expression.specs.declared.refusal.Refusal.{Refusal}
 use Rattle.expression.specs.declared.refusal.Verdict.{Verdict}
 use Rattle.expression.specs.declared.refusal.Verdict.the-variants.{Accepted}
-use Rattle.lookup.specs.Lookups.{Lookups, lent-lookups, lookup-count, exclusive, tuple-start, multiplicity-start, flag-start, element-start}
+use Rattle.lookup.specs.Lookups.{lent-lookups, lookup-count, exclusive, tuple-start, multiplicity-start, flag-start, element-start}
 use Rattle.logup.specs.Tuple.{quotient4}
 use Rattle.logup.specs.Column.{Place, branches, multiplicity, flag, used-denom, chosen, branch-fraction, exclusive-fraction, additive-fraction, fraction, fault}
 use Rattle.logup.specs.Rows.{fault-refusal, place, fraction-at, row-sum, fault-at, row-fault}
@@ -108,7 +107,7 @@ unfolding quotient4 scale4
 option-four p w c none = refl
 option-four p w c (some k) = refl
 
-sum-four : (p : ℕ) (f : ℕ → List ℕ) (n : ℕ) → length (sum4 p f n) ≡ 4
+pub sum-four : (p : ℕ) (f : ℕ → List ℕ) (n : ℕ) → length (sum4 p f n) ≡ 4
 unfolding sum4 add4
 sum-four p f zero = refl
 sum-four p f (suc n) = refl

@@ -1,22 +1,20 @@
 -- The turns of the loops over rows, over parts, and over the lookups of a table of powers.
 use mathlib.Core.Path.{_≡_, refl, sym, ap, ap₂, _∙_, subst}
-use mathlib.Core.Option.{Option, none, some}
-use mathlib.Core.List.{List, [], _∷_, _++_}
-use Prim.Native.Nat.{ℕ, zero, suc, _+_, _*_, _-_, _<_, _≤_, zero-le}
+use mathlib.Core.List.{List, _++_}
+use Prim.Native.Nat.{ℕ, suc, _+_, _*_, _-_, _<_, _≤_, zero-le}
 use native.Mathlib.Nat.{add-zero, zero-add, suc-mul, mul-le-mul-right, zero-mul}
 use native.Mathlib.Numerals.{add-one}
 use native.Mathlib.Omega.{arith}
 use lib.ListN.{length, take, drop, set, length-append, replicate, replicate-append-replicate}
 use borrow.Rule.Slice.PartMut.{putMid}
 use Rattle.lists.specs.Count.{or-else, first, joined}
-use Rattle.lists.specs.laws.Count.{joined-one, joined-add, first-one}
+use Rattle.lists.specs.laws.Count.{joined-one, joined-add}
 use Rattle.lists.specs.laws.Filled.{Filled, filled-none, filled-one, filled-part, filled-whole}
 use Rattle.lists.specs.laws.Parts.{part-length}
 use Rattle.field.specs.declared.extension.Ext.{Ext}
 use Rattle.field.specs.Ext.{ws}
-use Rattle.field.specs.Element.{Word4, zero4, add4, power4, element, sum4}
+use Rattle.field.specs.Element.{Word4, add4, power4, element, sum4}
 use Rattle.expression.specs.Refusal.{refusal}
-use Rattle.expression.specs.declared.refusal.Refusal.{Refusal}
 use Rattle.expression.specs.declared.refusal.Verdict.{Verdict}
 use Rattle.expression.specs.declared.refusal.Verdict.the-variants.{Accepted}
 use Rattle.lookup.specs.Lookups.{Lookups, lookup-count}

@@ -1,9 +1,9 @@
 -- One row: its node values, its accumulator and its fractions.
-use mathlib.Core.Path.{_≡_, refl, sym, ap, ap₂, _∙_, subst}
-use mathlib.Core.List.{List, [], _∷_, _++_}
-use Prim.Native.Nat.{ℕ, zero, suc, _+_, _*_, _-_, _<_, _≤_, zero-le}
+use mathlib.Core.Path.{_≡_, sym, ap, _∙_, subst}
+use mathlib.Core.List.{List, _++_}
+use Prim.Native.Nat.{ℕ, _+_, _*_, _-_}
 use native.Mathlib.Omega.{arith}
-use lib.ListN.{length, take, drop, replicate, length-append}
+use lib.ListN.{length, take, drop, replicate}
 use borrow.Rule.Slice.PartMut.{putMid}
 use Rattle.lists.specs.Count.{joined}
 use Rattle.lists.specs.laws.Filled.{Filled, filled-none, filled-part, filled-whole}
@@ -17,7 +17,6 @@ use Rattle.expression.specs.Values.{row-values}
 use Rattle.expression.specs.Valid.{Below, Evaluable}
 use Rattle.expression.specs.laws.Values.{values-part, row-values-below}
 use Rattle.expression.specs.Refusal.{refusal}
-use Rattle.expression.specs.declared.refusal.Refusal.{Refusal}
 use Rattle.expression.specs.declared.refusal.Verdict.{Verdict}
 use Rattle.lookup.specs.Lookups.{Lookups, lookup-count}
 use Rattle.logup.specs.Rows.{place, fraction-at, row-sum, fault-at, row-fault}

@@ -1,14 +1,13 @@
 -- Where the lookups' parts begin, and what a lookup's own parts give.
-use mathlib.Core.Path.{_≡_, refl, sym, ap, ap₂, _∙_, subst}
+use mathlib.Core.Path.{_≡_, sym, ap, ap₂, _∙_, subst}
 use mathlib.Core.Bool.{cond}
 use mathlib.Core.List.{List, []}
 use Prim.Native.Nat.{ℕ, _+_, _*_, _-_, _<_, _≤_}
 use native.Mathlib.Omega.{arith}
 use lib.ListN.{length}
-use Rattle.lists.specs.Count.{total}
 use Rattle.lists.specs.Tab.{tab}
 use Rattle.lists.specs.laws.Count.{total-one, total-le}
-use Rattle.field.specs.Element.{at, Word4, power4, element}
+use Rattle.field.specs.Element.{at, Word4, element}
 use Rattle.field.specs.laws.Slice.{word-element}
 use Rattle.expression.specs.Words.{word}
 use Rattle.expression.specs.Valid.{Below}
@@ -17,7 +16,7 @@ use Rattle.lookup.specs.laws.Tested.{placed, element-start-le}
 use Rattle.logup.specs.Column.{fraction, fault}
 use Rattle.logup.specs.Rows.{place, fraction-at}
 use Rattle.column.specs.Powers.{beta-of, Powers}
-use Rattle.column.specs.Own.{lists, own-place, Able, Fits, part}
+use Rattle.column.specs.Own.{own-place, Able, Fits, part}
 use Rattle.column.specs.laws.Powers.{powers-of}
 use Rattle.column.specs.laws.Parts.{parted-same, parted-fits, parted-flags, fraction-same, fault-same}
 use Rattle.generation.specs.Ready.{Lists, Field, Ready, Stands, Spans}

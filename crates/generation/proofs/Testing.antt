@@ -1,9 +1,9 @@
 -- The tests of the door: what they answer, and what they leave of a table that passed them.
 use mathlib.Core.Path.{_≡_, refl, sym, ap, ap₂, _∙_, subst}
-use mathlib.Core.Bool.{Bool, true, false, _&&_, _||_, not, true≢false}
+use mathlib.Core.Bool.{Bool, true, false, _&&_, _||_, not}
 use mathlib.Core.Option.{Option, none, some, Option·some-ne-none}
 use mathlib.Core.List.{List, [], _∷_}
-use Prim.Native.Nat.{ℕ, _+_, _*_, _/_, _%_, _<_, _≤_}
+use Prim.Native.Nat.{ℕ, _+_, _*_, _/_, _%_, _≤_}
 use native.Mathlib.Nat.{mul-le-mul}
 use native.Mathlib.Omega.{arith}
 use lib.Dec.{eqb, leb, ltb}
@@ -12,13 +12,12 @@ use borrow.Author.Tests.{eqb-true, leb-true, not-true, not-false}
 use Rattle.lists.specs.Count.{or-else}
 use Rattle.lists.specs.laws.Tests.{both-left, both-right, passed}
 use Rattle.field.specs.Modulus.{Modulus}
-use Rattle.expression.specs.Words.{word, all-below}
+use Rattle.expression.specs.Words.{all-below}
 use Rattle.expression.specs.Refusal.{unless, refusal}
 use Rattle.expression.specs.Limits.{Sane}
 use Rattle.expression.specs.Node.{node-count}
-use Rattle.expression.specs.Window.{Traces}
 use Rattle.expression.specs.Tests.{traces-within, nodes-within, traces-fit, nodes-fit, traces-below, constants-below, degrees-low}
-use Rattle.expression.specs.Valid.{Below, Evaluable, Small}
+use Rattle.expression.specs.Valid.{Below, Evaluable}
 use Rattle.expression.specs.laws.Below.{below-tested}
 use Rattle.expression.specs.laws.Tested.{small-tested, few-tested, traces-tested}
 use Rattle.expression.specs.declared.sizes.Shape.{Shape}
@@ -27,10 +26,9 @@ use Rattle.expression.specs.declared.refusal.Refusal.{Refusal}
 use Rattle.expression.specs.declared.refusal.Verdict.{Verdict}
 use Rattle.expression.specs.declared.refusal.Verdict.the-variants.{Accepted, Refused}
 use Rattle.expression.specs.declared.refusal.Refusal.the-variants.{SizeAtOdds, WordTooLarge, NodeInvalid, DegreeTooHigh, LookupInvalid, ChallengesMissing, RowsMissing, TraceTooSmall}
-use Rattle.lookup.specs.Lookups.{Lookups, lookup-count}
+use Rattle.lookup.specs.Lookups.{lookup-count}
 use Rattle.lookup.specs.Table.{Table}
 use Rattle.lookup.specs.Tests.{lookups-within, lookups-fit, sizes, words-below, known, lists-agree, in-position, has-lookups, preprocessed-enough, rows-enough}
-use Rattle.lookup.specs.Valid.{Limited, Fitting, Agreeing}
 use Rattle.lookup.specs.laws.Tested.{limited, fitting, agreeing, lookups-few}
 use Rattle.logup.specs.Rows.{used}
 use Rattle.logup.specs.Generation.{entry-refusal}

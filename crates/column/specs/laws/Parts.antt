@@ -1,15 +1,14 @@
 -- A lookup's own parts of a table's lists: taken alone, they give the fraction and the fault that the table's lists give.
-use mathlib.Core.Path.{_≡_, refl, sym, ap, ap₂, _∙_, subst}
+use mathlib.Core.Path.{_≡_, refl, sym, ap, ap₂, _∙_}
 use mathlib.Core.Bool.{Bool, true, false, cond, _||_, not}
-use mathlib.Core.Option.{Option, none, some}
+use mathlib.Core.Option.{Option, some}
 use mathlib.Core.List.{List, [], _∷_, map}
 use Prim.Native.Nat.{ℕ, zero, suc, _+_, _*_, _-_, _<_, _≤_, zero-le}
 use native.Mathlib.Nat.{zero-add, add-zero, add-suc}
-use native.Mathlib.Numerals.{add-one}
 use native.Mathlib.Omega.{arith}
 use lib.Dec.{eqb, ltb}
-use lib.ListN.{length, take, drop, getD}
-use lib.Seq.{getD-take, getD-drop, take-take, take-nil, drop-nil, drop-drop}
+use lib.ListN.{length, take, drop}
+use lib.Seq.{getD-take, getD-drop, take-take, take-nil, drop-drop}
 use Rattle.lists.specs.Count.{total, some-of}
 use Rattle.lists.specs.laws.Count.{total-le, total-in, total-one}
 use Rattle.lists.specs.laws.Parts.{part-length}
@@ -17,12 +16,11 @@ use Rattle.field.specs.Element.{add4, sum4, is-zero}
 use Rattle.expression.specs.Words.{word}
 use Rattle.expression.specs.Values.{bit}
 use Rattle.lookup.specs.Lookups.{Lookups, lookup-count, entry, exclusive, tuple-count, multiplicity-count, flag-count, tuple-start, multiplicity-start, flag-start, element-start, tuple-width, multiplicity-node, flag-node, tuple-nodes}
-use Rattle.lookup.specs.Valid.{Fitting, Agreeing, Placed}
-use Rattle.lookup.specs.laws.Tested.{placed, tuple-placed, element-start-le}
+use Rattle.lookup.specs.Valid.{Fitting, Agreeing}
+use Rattle.lookup.specs.laws.Tested.{placed, element-start-le}
 use Rattle.logup.specs.Tuple.{tuple, denominator, quotient4}
 use Rattle.logup.specs.Column.{Place, branches, multiplicity, flag, chosen, denom, used-denom, branch-fraction, branch-fault, additive-fraction, additive-fault, exclusive-fraction, exclusive-fault, fraction, fault}
 use Rattle.column.specs.Own.{Fits, part, own-words, own-widths, own-multiplicities, own-flags, own-nodes, parted}
-use Rattle.column.specs.laws.Own.{start-next}
 
 -- sums, tests and choices that agree term by term
 sum4-same : (p : ℕ) (f g : ℕ → List ℕ) (n : ℕ) → ((k : ℕ) → k < n → f k ≡ g k) → sum4 p f n ≡ sum4 p g n

@@ -1,15 +1,14 @@
 -- What stands in a list that is made of lists of one length, and so in a table of powers.
-use mathlib.Core.Path.{_≡_, refl, sym, ap, ap₂, _∙_}
+use mathlib.Core.Path.{_≡_, refl, sym, ap, _∙_}
 use mathlib.Core.List.{List, [], _∷_, _++_}
 use Prim.Native.Nat.{ℕ, zero, suc, _+_, _*_, _<_, _≤_}
 use native.Mathlib.Nat.{zero-add, mul-le-mul-left, mul-suc}
 use native.Mathlib.Omega.{arith}
-use lib.ListN.{length, getD, length-append, List·getD-append}
+use lib.ListN.{length, length-append, List·getD-append}
 use lib.Seq.{getD-append-add}
 use Rattle.lists.specs.Count.{joined}
-use Rattle.lists.specs.Tab.{tab}
 use Rattle.lists.specs.laws.Count.{last-or-below}
-use Rattle.field.specs.Element.{at, one4, mul4, power4, element}
+use Rattle.field.specs.Element.{at, mul4, power4, element}
 use Rattle.column.specs.laws.Powers.{power-four}
 
 pub joined-length : (f : ℕ → List ℕ) (m n : ℕ) → ((i : ℕ) → length (f i) ≡ m) → length (joined f 0 n) ≡ m * n

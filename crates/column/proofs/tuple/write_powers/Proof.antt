@@ -1,5 +1,5 @@
-use Prim.Native.Nat.{ℕ, _+_, _*_, _-_}
-use mathlib.Core.Path.{_≡_, refl, _∙_}
+use Prim.Native.Nat.{_+_, _*_, _-_}
+use mathlib.Core.Path.{refl, _∙_}
 use Rattle.lists.specs.laws.Parts.{part-length}
 use native.Mathlib.Omega.{arith}
 use mathlib.Core.Path.{refl}

@@ -1,5 +1,3 @@
-use Prim.Native.Nat.{_*_, _/_}
-use lib.ListN.{drop, replicate}
 use Rattle.generation.proofs.Finishing.{powered, room-after, rows-finished}
 use borrow.Author.Needs.{needs}
 use Rattle.generation.proofs.permutation.generate_rows.Statement.{statement}

@@ -1,6 +1,5 @@
-use Prim.Native.Nat.{ℕ, _+_, _*_}
+use Prim.Native.Nat.{_+_, _*_}
 use lib.ListN.{length}
-use borrow.Author.Tests.{leb-true, leb-false}
 use native.Mathlib.Omega.{arith}
 use Rattle.generation.proofs.Reading.{row-fits, empty-first, empty-second, first-left, whole-row}
 use borrow.Author.Needs.{needs}
