@@ -41,17 +41,18 @@ flagged p m f g true h e = ap (mulM p m) (e refl)
 flagged p m f g false h e = ap (λ (n : ℕ). n % p) (mul-one m) ∙ mod-eq-of-lt h
 
 -- one entry, by its record and by its words
-module _ (p n : ℕ) (l : Lookups) (a : Agreeing n l) (vals : List ℕ) (b : Below p vals) (i : ℕ) (h : i < lookup-count (l .lookups)) where
+module _ (p : ℕ) (l : Lookups) (vals : List ℕ) (b : Below p vals) (i : ℕ) (am : multiplicity-count (l .lookups) i ≡ tuple-count (l .lookups) i)
+    (af : flag-count (l .lookups) i ≡ cond (exclusive (l .lookups) i) (tuple-count (l .lookups) i) 0) where
   entry-is : (k : ℕ) → k < tuple-count (l .lookups) i → entry-of p (lookup-at l i) vals k ≡ logup.entry p l vals i k
   unfolding entry-of count-of lookup-at logup.count tuple multiplicity-node flag-node
   entry-is k g =
       let m : word (take (multiplicity-count (l .lookups) i) (drop (multiplicity-start (l .lookups) i) (l .multiplicities))) k ≡ word (l .multiplicities) (multiplicity-start (l .lookups) i + k) =
-          part-word (multiplicity-count (l .lookups) i) (multiplicity-start (l .lookups) i) k (l .multiplicities) (omega (arith, a .multiplicities-agree i h)) in
+          part-word (multiplicity-count (l .lookups) i) (multiplicity-start (l .lookups) i) k (l .multiplicities) (omega (arith, am)) in
       ap₂ (λ (t : List ℕ) (c : ℕ). record { tuple = t; count = c }) (ap (map (word vals)) (tab-at (tuple-nodes l i) (tuple-count (l .lookups) i) k [] g))
       (ap (λ (x : ℕ). mulM p (word vals x) (cond (exclusive (l .lookups) i) (word vals (word (take (flag-count (l .lookups) i) (drop (flag-start (l .lookups) i) (l .flags))) k)) 1)) m
        ∙ flagged p (word vals (word (l .multiplicities) (multiplicity-start (l .lookups) i + k))) _ _ (exclusive (l .lookups) i) (b .each _)
          (λ x. ap (word vals) (part-word (flag-count (l .lookups) i) (flag-start (l .lookups) i) k (l .flags)
-               (let y : flag-count (l .lookups) i ≡ tuple-count (l .lookups) i = a .flags-agree i h ∙ ap (λ (c : Bool). cond c (tuple-count (l .lookups) i) 0) x in omega arith))))
+               (let y : flag-count (l .lookups) i ≡ tuple-count (l .lookups) i = af ∙ ap (λ (c : Bool). cond c (tuple-count (l .lookups) i) 0) x in omega arith))))
 
   -- one lookup on one row
   pub lookup-entries-is : row-entries p (lookup-at l i) vals ≡ logup.lookup-entries p l vals i
@@ -197,7 +198,7 @@ ledger-nets p n t v a l = net-same p z (entries p (members (t ∷ []))) (logup.e
     row r =
         row-tally p (t .lookups) (values-of p t r) l
         ∙ total-cong (λ i. tally (logup.lookup-entries p (t .lookups) (values-of p t r) i) l) (λ i. cell i r) N
-          (λ i g. ap (λ (es : List logup.Entry). tally es l) (sym (lookup-entries-is p n (t .lookups) a (values-of p t r) (row-values-below r v) i g)))
+          (λ i g. ap (λ (es : List logup.Entry). tally es l) (sym (lookup-entries-is p (t .lookups) (values-of p t r) (row-values-below r v) i (a .multiplicities-agree i g) (a .flags-agree i g))))
 
     by-lookup : tally (entries p (members (t ∷ []))) l ≡ total (λ i. total (cell i) H) N
     by-lookup =

@@ -1,0 +1,72 @@
+-- The turns of the loops over tables and members, over plain lists and numbers.
+use mathlib.Core.Path.{_≡_, refl, sym, ap, ap₂, _∙_}
+use mathlib.Core.Bool.{Bool, true, false, cond}
+use mathlib.Core.List.{List, [], _∷_, _++_}
+use Prim.Native.Nat.{ℕ, zero, suc, _+_, _*_, _-_, _/_, _<_, _≤_, zero-le}
+use native.Mathlib.Numerals.{add-one}
+use native.Mathlib.Omega.{arith}
+use lib.Dec.{ltb}
+use lib.ListN.{length, take, drop}
+use borrow.Author.Tests.{lt-ltb, le-ltb}
+use Rattle.lists.specs.Count.{total}
+use Rattle.lists.specs.laws.Turns.{Summing, sum-ends}
+use Rattle.expression.specs.declared.sizes.Shape.{Shape}
+use Rattle.balance.specs.Tables.{table-count, size, size-start, part, shape-at}
+use Rattle.balance.specs.Members.{table-from, table-of}
+use Rattle.balance.specs.laws.Members.{size-next}
+
+-- what the tables before table t have
+pub sizes-end : {t j s : ℕ} (sizes : List ℕ) (f : ℕ) → Summing (size sizes f) 4294967295 t j s → t ≤ j → t ≤ 16 → (s ≡ size-start sizes f t) × (s ≤ 68719476720)
+unfolding size-start
+sizes-end {t} {j} {s} sizes f r h g = (sum-ends r h, let e : j ≡ t = omega (arith, r .within) in omega (arith, r .small))
+
+pub shape-is : {a b c d : ℕ} (sizes : List ℕ) (t : ℕ) → a ≡ size sizes 0 t → b ≡ size sizes 1 t → c ≡ size sizes 2 t → d ≡ size sizes 3 t
+    → record { «main_width» = a; height = b; «pre_width» = c; «pre_height» = d } ≡ shape-at sizes t
+unfolding shape-at
+shape-is sizes t ea eb ec ed = λ j. record { «main_width» = ea j; height = eb j; «pre_width» = ec j; «pre_height» = ed j }
+
+-- the table of lookup m: it is none of the first t
+pub record Tabling (sizes : List ℕ) (m n t end : ℕ) : Type 0 where
+  pub rest : table-from sizes m t (n - t) ≡ table-from sizes m 0 n
+  pub ends : end ≡ size-start sizes 8 t
+  pub within : t ≤ n
+  pub small : end ≤ t * 4294967295
+
+pub tabling-begins : {sizes : List ℕ} {m n : ℕ} → Tabling sizes m n 0 0
+unfolding size-start total
+tabling-begins {sizes} {m} {n} = record { rest = ap (table-from sizes m 0) (let e : n - 0 ≡ n = omega arith in e); ends = refl; within = zero-le; small = zero-le }
+
+tabling-step : (sizes : List ℕ) (m n t : ℕ) → t < n → table-from sizes m t (n - t) ≡ cond (ltb m (size-start sizes 8 (suc t))) t (table-from sizes m (t + 1) (n - (t + 1)))
+unfolding table-from
+tabling-step sizes m n t h =
+    let q : n - t ≡ suc (n - (t + 1)) = omega arith in
+    ap (table-from sizes m t) q ∙ ap (λ (j : ℕ). cond (ltb m (size-start sizes 8 (suc t))) t (table-from sizes m j (n - (t + 1)))) (sym (add-one t))
+
+end-next : {sizes : List ℕ} {m n t end w : ℕ} → Tabling sizes m n t end → w ≡ size sizes 8 t → end + w ≡ size-start sizes 8 (suc t)
+end-next {sizes} {m} {n} {t} {end} {w} r e = ap₂ _+_ (r .ends) e ∙ sym (size-next sizes 8 t)
+
+pub tabling-hits : {sizes : List ℕ} {m n t end w : ℕ} → Tabling sizes m n t end → t < n → w ≡ size sizes 8 t → m < end + w → t ≡ table-from sizes m 0 n
+tabling-hits {sizes} {m} {n} {t} {end} {w} r h e g =
+    let b : ltb m (size-start sizes 8 (suc t)) ≡ true = lt-ltb m (size-start sizes 8 (suc t)) (rw (sym (end-next r e)) g) in
+    ap (λ (x : Bool). cond x t (table-from sizes m (t + 1) (n - (t + 1)))) (sym b) ∙ sym (tabling-step sizes m n t h) ∙ r .rest
+
+pub tabling-turn : {sizes : List ℕ} {m n t end w : ℕ} → Tabling sizes m n t end → t < n → w ≡ size sizes 8 t → w ≤ 4294967295 → end + w ≤ m → Tabling sizes m n (t + 1) (end + w)
+tabling-turn {sizes} {m} {n} {t} {end} {w} r h e s g =
+    let b : ltb m (size-start sizes 8 (suc t)) ≡ false = le-ltb m (size-start sizes 8 (suc t)) (rw (sym (end-next r e)) g) in
+    record {
+      rest = ap (λ (x : Bool). cond x t (table-from sizes m (t + 1) (n - (t + 1)))) (sym b) ∙ sym (tabling-step sizes m n t h) ∙ r .rest;
+      ends = rw (add-one t) (end-next r e);
+      within = omega arith;
+      small = omega (arith, r .small);
+    }
+
+pub tabling-ends : {sizes : List ℕ} {m n t end : ℕ} → Tabling sizes m n t end → n ≤ t → n ≡ table-from sizes m 0 n
+unfolding table-from
+tabling-ends {sizes} {m} {n} {t} r h =
+    let e : t ≡ n = omega (arith, r .within) in
+    let z : n - t ≡ 0 = omega arith in
+    sym e ∙ ap (table-from sizes m t) (sym z) ∙ r .rest
+
+-- so many units of words
+pub units-small : (u x b : ℕ) → u ≤ 8 → x ≤ b → u * x ≤ 8 * b
+units-small u x b h g = native.Mathlib.Nat.mul-le-mul h g
