@@ -17,7 +17,8 @@ use Rattle.field.specs.Word.{mulM}
 use Rattle.expression.specs.Words.{word}
 use Rattle.expression.specs.Node.{node-count}
 use Rattle.expression.specs.Valid.{Below, Evaluable}
-use Rattle.expression.specs.laws.Values.{drop-zeros, values-part, row-values-below}
+use Rattle.expression.specs.laws.Values.{values-part, row-values-below}
+use Rattle.expression.specs.laws.Below.{drop-zeros}
 use Rattle.expression.specs.Window.{Traces}
 use Rattle.expression.specs.Values.{row-values}
 use Rattle.lookup.specs.Lookups.{entry, exclusive, tuple-start, multiplicity-start, flag-start, element-start}

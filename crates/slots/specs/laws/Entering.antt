@@ -14,7 +14,7 @@ use Rattle.lists.specs.laws.Tab.{tab-length, tab-get}
 use Rattle.field.specs.Word.{addM}
 use Rattle.expression.specs.Words.{word}
 use Rattle.expression.specs.laws.Below.{word-zeros}
-use Rattle.expression.specs.laws.Values.{drop-zeros}
+use Rattle.expression.specs.laws.Below.{drop-zeros}
 use Rattle.logup.specs.Ledger.{Entry, same-list}
 use Rattle.slots.specs.Slots.{Slot, enter, meet, slots}
 use Rattle.slots.specs.Workspace.{slot-words, full, workspace}
