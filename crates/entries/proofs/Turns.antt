@@ -47,8 +47,8 @@ pub value-turn : {vals nodes out : List ℕ} {j i v : ℕ} → Valuing vals node
 value-turn {vals} {nodes} {out} {j} {i} {v} r h ev ei =
     let e : v ≡ word vals (word nodes j) = ev ∙ ap (word vals) ei in
     let f : Filled (replicate 8 0) (map (word vals) (take (j + 1) nodes)) (j + 1) (set out j v) =
-        filled-one v 0 (r .out-is) (omega (arith, r .few))
-        (ap (map (word vals)) (take-one nodes j 0 h) ∙ map-snoc (word vals) (take j nodes) (word nodes j) ∙ ap (λ (x : ℕ). map (word vals) (take j nodes) ++ (x ∷ [])) (sym e)) in
+    filled-one v 0 (r .out-is) (omega (arith, r .few))
+    (ap (map (word vals)) (take-one nodes j 0 h) ∙ map-snoc (word vals) (take j nodes) (word nodes j) ∙ ap (λ (x : ℕ). map (word vals) (take j nodes) ++ (x ∷ [])) (sym e)) in
     record { out-is = f; within = omega arith; few = r .few; eight = f .len }
 
 pub value-ends : {vals nodes out : List ℕ} {j : ℕ} → Valuing vals nodes j out → length nodes ≤ j → out ≡ map (word vals) nodes ++ replicate (8 - length nodes) 0
@@ -115,14 +115,14 @@ module _ {p : ℕ} {pl : Place} {tuples mults flags elements vals : List ℕ} wh
   tupling-turn {w} {k} {at} {n} {c} {ws} {ws′} {v} {v′} r h en ec e =
       let z : (at + n) - at ≡ n = omega arith in
       let q : work ws′ v′ ≡ step p (work ws v) (placed-entry p pl tuples mults flags elements vals k) =
-          e ∙ ap₂ (λ (t : List ℕ) (x : ℕ). step p (work ws v) (record { tuple = map (word vals) t; count = x }))
-              (ap₂ (λ (i j : ℕ). take i (drop j elements)) (z ∙ en) (r .here)) ec in
+      e ∙ ap₂ (λ (t : List ℕ) (x : ℕ). step p (work ws v) (record { tuple = map (word vals) t; count = x }))
+      (ap₂ (λ (i j : ℕ). take i (drop j elements)) (z ∙ en) (r .here)) ec in
       let g : Roomy (length (w .words)) (work ws′ v′) = rw q (step-roomy (length (w .words)) p (work ws v) (placed-entry p pl tuples mults flags elements vals k) (record { long = r .long; room = rw (sym (r .long)) (r .room) })) in
       record {
         is =
-          q ∙ ap (λ (x : Work). step p x (placed-entry p pl tuples mults flags elements vals k)) (r .is)
-          ∙ sym (fold-snoc p w (joined (λ k. placed-entry p pl tuples mults flags elements vals k ∷ []) 0 k) (placed-entry p pl tuples mults flags elements vals k))
-          ∙ ap (fold (step p) w) (ap (λ (i : ℕ). joined (λ k. placed-entry p pl tuples mults flags elements vals k ∷ []) 0 k ++ (placed-entry p pl tuples mults flags elements vals i ∷ [])) (sym (zero-add k)) ∙ sym (joined-one (λ k. placed-entry p pl tuples mults flags elements vals k ∷ []) 0 k));
+            q ∙ ap (λ (x : Work). step p x (placed-entry p pl tuples mults flags elements vals k)) (r .is)
+            ∙ sym (fold-snoc p w (joined (λ k. placed-entry p pl tuples mults flags elements vals k ∷ []) 0 k) (placed-entry p pl tuples mults flags elements vals k))
+            ∙ ap (fold (step p) w) (ap (λ (i : ℕ). joined (λ k. placed-entry p pl tuples mults flags elements vals k ∷ []) 0 k ++ (placed-entry p pl tuples mults flags elements vals i ∷ [])) (sym (zero-add k)) ∙ sym (joined-one (λ k. placed-entry p pl tuples mults flags elements vals k ∷ []) 0 k));
         here = ap₂ _+_ (r .here) en ∙ sym (element-next tuples (pl .tuples + k)) ∙ ap (element-start tuples) (let a : pl .tuples + k + 1 ≡ pl .tuples + (k + 1) = omega arith in a);
         within = omega arith;
         long = g .long;
@@ -159,11 +159,11 @@ module _ {p : ℕ} {pl : Place} {tuples mults flags elements : List ℕ} {t : Tr
       let g : Roomy (length (w .words)) (work ws′ v′) = rw e (fold-roomy (length (w .words)) p es (work ws v) (record { long = i .long; room = rw (sym (i .long)) (i .room) })) in
       record {
         is =
-          e ∙ ap (λ (x : Work). fold (step p) x es) (i .is)
-          ∙ sym (fold-more p w (joined (λ r. placed-entries p pl tuples mults flags elements (row-values p nodes t r)) 0 r) es)
-          ∙ ap (fold (step p) w)
+            e ∙ ap (λ (x : Work). fold (step p) x es) (i .is)
+            ∙ sym (fold-more p w (joined (λ r. placed-entries p pl tuples mults flags elements (row-values p nodes t r)) 0 r) es)
+            ∙ ap (fold (step p) w)
             (ap (λ (n : ℕ). joined (λ r. placed-entries p pl tuples mults flags elements (row-values p nodes t r)) 0 r ++ placed-entries p pl tuples mults flags elements (row-values p nodes t n)) (sym (zero-add r))
-             ∙ sym (joined-one (λ r. placed-entries p pl tuples mults flags elements (row-values p nodes t r)) 0 r));
+            ∙ sym (joined-one (λ r. placed-entries p pl tuples mults flags elements (row-values p nodes t r)) 0 r));
         within = omega arith;
         long = g .long;
         room = omega (arith, g .room, g .long);

@@ -114,9 +114,28 @@ fn on_row(
         return u;
     }
     let mut vals = [0u32; 1024];
-    row_values(p, shape, main, preprocessed, public_values, nodes, r, &mut vals);
+    row_values(
+        p,
+        shape,
+        main,
+        preprocessed,
+        public_values,
+        nodes,
+        r,
+        &mut vals,
+    );
     let n = nodes.len() / 3;
-    enter_row(p, ws, u, &vals[0..n], pl, tuples, multiplicities, flags, elements)
+    enter_row(
+        p,
+        ws,
+        u,
+        &vals[0..n],
+        pl,
+        tuples,
+        multiplicities,
+        flags,
+        elements,
+    )
 }
 
 // The lookup on all rows.

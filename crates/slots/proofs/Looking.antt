@@ -34,9 +34,11 @@ better-less ws b k n f e z = (rw (ne-eqb (net-at ws k) 0 n, f, sym e ∙ z), ome
 
 pub better-kept : {t : Bool} (ws : List ℕ) (b : Best) (k : ℕ) → b .slot ≤ k → (net-at ws k ≡ 0 → ⊥) → b .found ≡ true → t ≡ tuple-less (tuple-at ws k) (tuple-at ws (b .slot)) → t ≡ false → (b ≡ better-at ws b k) × (b .slot ≤ k)
 unfolding better-at
-better-kept ws b k h n f e z =
-    (sym (ap (λ (x : Bool). cond x b (cond (b .found) (cond (tuple-less (tuple-at ws k) (tuple-at ws (b .slot))) (best true k) b) (best true k))) (ne-eqb (net-at ws k) 0 n)
-      ∙ ap₂ (λ (x y : Bool). cond x (cond y (best true k) b) (best true k)) f (sym e ∙ z)), h)
+better-kept ws b k h n f e z = (
+  sym (ap (λ (x : Bool). cond x b (cond (b .found) (cond (tuple-less (tuple-at ws k) (tuple-at ws (b .slot))) (best true k) b) (best true k))) (ne-eqb (net-at ws k) 0 n)
+      ∙ ap₂ (λ (x y : Bool). cond x (cond y (best true k) b) (best true k)) f (sym e ∙ z)),
+  h,
+)
 
 pub better-first : (ws : List ℕ) (b : Best) (k : ℕ) → (net-at ws k ≡ 0 → ⊥) → b .found ≡ false → (best true k ≡ better-at ws b k) × (k ≤ k)
 unfolding better-at

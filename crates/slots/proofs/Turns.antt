@@ -131,12 +131,12 @@ wording-begins {t} {w} [] h e = absurd (omega arith)
 wording-begins {t} {w} (x ∷ d) h e =
     record {
       out =
-        record {
-          is = ap (λ (y : ℕ). y ∷ d) e ∙ ap (λ (l : List ℕ). (length t ∷ l) ++ d) (sym (tab-none (word t) 0));
-          size = ap (λ (l : List ℕ). suc (length l)) (tab-none (word t) 0);
-          room = omega arith;
-          len = refl;
-        };
+          record {
+            is = ap (λ (y : ℕ). y ∷ d) e ∙ ap (λ (l : List ℕ). (length t ∷ l) ++ d) (sym (tab-none (word t) 0));
+            size = ap (λ (l : List ℕ). suc (length l)) (tab-none (word t) 0);
+            room = omega arith;
+            len = refl;
+          };
       within = zero-le;
       ten = h;
       long = h;
@@ -145,7 +145,7 @@ wording-begins {t} {w} (x ∷ d) h e =
 pub wording-turn : {d t s : List ℕ} {j w : ℕ} → Wording d t j s → j < 8 → w ≡ word t j → Wording d t (j + 1) (set s (j + 1) w)
 wording-turn {d} {t} {s} {j} {w} r h e =
     let f : Filled d (length t ∷ tab (word t) 0 (j + 1)) (j + 1 + 1) (set s (j + 1) w) =
-        filled-one w 0 (r .out) (omega (arith, r .ten)) (ap (λ (l : List ℕ). length t ∷ l) (tab-one (word t) 0 j ∙ ap (λ (x : ℕ). tab (word t) 0 j ++ (x ∷ [])) (ap (word t) (let z : 0 + j ≡ j = omega arith in z) ∙ sym e))) in
+    filled-one w 0 (r .out) (omega (arith, r .ten)) (ap (λ (l : List ℕ). length t ∷ l) (tab-one (word t) 0 j ∙ ap (λ (x : ℕ). tab (word t) 0 j ++ (x ∷ [])) (ap (word t) (let z : 0 + j ≡ j = omega arith in z) ∙ sym e))) in
     record { out = f; within = omega arith; ten = r .ten; long = f .len ∙ r .ten }
 
 pub wording-ends : {d t s : List ℕ} {j : ℕ} (count : ℕ) → Wording d t j s → 8 ≤ j → set s 9 count ≡ new-words t count

@@ -65,9 +65,10 @@ push-room {n} {b} x out h g l (en, eb) =
 
 pub push-back : {n : ℕ} {b : List ℕ} (x : ℕ) (out : List ℕ) → 10 ≤ x → x ≤ 4294967295 → length (text x) ≤ length out → (n ≡ length (text (x / 10))) × (b ≡ text (x / 10) ++ drop n out)
     → (n + 1 ≡ length (text x)) × (set b n (x % 10) ≡ text x ++ drop (n + 1) out)
-push-back {n} {b} x out h g l (en, eb) =
-    (omega (arith, step-long x h g),
-     ap (λ (v : List ℕ). set v n (x % 10)) eb ∙ put-next out (text (x / 10)) n (x % 10) 0 (sym en) (omega (arith, step-long x h g)) ∙ ap (λ (v : List ℕ). v ++ drop (n + 1) out) (sym (text-step x h g)))
+push-back {n} {b} x out h g l (en, eb) = (
+  omega (arith, step-long x h g),
+  ap (λ (v : List ℕ). set v n (x % 10)) eb ∙ put-next out (text (x / 10)) n (x % 10) 0 (sym en) (omega (arith, step-long x h g)) ∙ ap (λ (v : List ℕ). v ++ drop (n + 1) out) (sym (text-step x h g)),
+)
 
 pub push-long : {n : ℕ} {b : List ℕ} (x : ℕ) (out : List ℕ) → 10 ≤ x → x ≤ 4294967295 → length (text x) ≤ length out → (n ≡ length (text (x / 10))) × (b ≡ text (x / 10) ++ drop n out) → length b ≡ length out
 push-long {n} {b} x out h g l (en, eb) = ap length eb ∙ through-length out (text (x / 10)) n (sym en) (omega (arith, step-long x h g))
@@ -89,7 +90,9 @@ order-step less x y i h g = rw (drop-cons x i 0 h, drop-cons y i 0 g)
 pub agree-turn : {less : ℕ → ℕ → Bool} {x y : List ℕ} {i : ℕ} → Agreeing less x y i → i < length x → i < length y → getD x i 0 ≡ getD y i 0 → Agreeing less x y (i + 1)
 agree-turn {less} {x} {y} {i} a h g e = record {
   rest = rw (add-one i) (sym (rw (eq-eqb (getD x i 0) (getD y i 0) e) at (order-step less x y i h g)) ∙ a .rest);
-  in-x = omega arith; in-y = omega arith }
+  in-x = omega arith;
+  in-y = omega arith;
+}
 
 pub agree-differs : {less : ℕ → ℕ → Bool} {x y : List ℕ} {i : ℕ} {r : Bool} → Agreeing less x y i → i < length x → i < length y → (getD x i 0 ≡ getD y i 0 → ⊥) → r ≡ less (getD x i 0) (getD y i 0) → r ≡ in-order less x y
 agree-differs {less} {x} {y} {i} {r} a h g n e = e ∙ sym (rw (ne-eqb (getD x i 0) (getD y i 0) n) at (order-step less x y i h g)) ∙ a .rest

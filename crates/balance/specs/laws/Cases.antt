@@ -64,14 +64,14 @@ two-tables rows =
       public-values = [];
       nodes = columns ++ columns;
       lookups =
-        record {
-          lookups = bus-words ++ bus-words ++ local-words;
-          names = 98 ∷ 98 ∷ [];
-          tuples = 1 ∷ 1 ∷ 0 ∷ [];
-          multiplicities = 1 ∷ 1 ∷ 1 ∷ [];
-          flags = [];
-          elements = 0 ∷ 0 ∷ [];
-        };
+          record {
+            lookups = bus-words ++ bus-words ++ local-words;
+            names = 98 ∷ 98 ∷ [];
+            tuples = 1 ∷ 1 ∷ 0 ∷ [];
+            multiplicities = 1 ∷ 1 ∷ 1 ∷ [];
+            flags = [];
+            elements = 0 ∷ 0 ∷ [];
+          };
     }
 
 -- an exclusive local of one branch: the tuple (node 0), counted node 1 times, with node 1 as flag too
@@ -84,7 +84,7 @@ exclusive rows =
       public-values = [];
       nodes = columns;
       lookups =
-        record { lookups = 0 ∷ 0 ∷ 1 ∷ 0 ∷ 1 ∷ 1 ∷ 1 ∷ 1 ∷ []; names = []; tuples = 1 ∷ []; multiplicities = 1 ∷ []; flags = 1 ∷ []; elements = 0 ∷ [] };
+          record { lookups = 0 ∷ 0 ∷ 1 ∷ 0 ∷ 1 ∷ 1 ∷ 1 ∷ 1 ∷ []; names = []; tuples = 1 ∷ []; multiplicities = 1 ∷ []; flags = 1 ∷ []; elements = 0 ∷ [] };
     }
 
 -- height 4, and a preprocessed trace of 3 rows
@@ -107,29 +107,29 @@ abbrev pub run : Lists → ℕ → Outcome
 run l room = check cabinet babybear l (replicate room 7)
 
 pub cases :
-  -- "(9) and (10) both unbalanced name (10)"
-  (run (one-local 2 (9 ∷ 1 ∷ 10 ∷ 1 ∷ [])) 20 ≡ record { refusal = some (NetNotZero 0 1 1); workspace = slot-of 9 1 ++ slot-of 10 1 })
-  -- 16: 2 tuples, 19 words
-  × (run (one-local 2 (9 ∷ 1 ∷ 10 ∷ 1 ∷ [])) 19 ≡ record { refusal = some WorkspaceFull; workspace = replicate 19 0 })
-  -- 18: (3) once
-  × (run (one-local 1 (3 ∷ 1 ∷ [])) 10 ≡ record { refusal = some (NetNotZero 0 0 1); workspace = slot-of 3 1 })
-  -- a net that returns to 0 keeps its slot, and a count of 0 makes none; what is short of a slot is zero
-  × (run (one-local 4 (3 ∷ 1 ∷ 3 ∷ 2013265920 ∷ 4 ∷ 0 ∷ 5 ∷ 2 ∷ [])) 25
-     ≡ record { refusal = some (NetNotZero 0 1 2); workspace = slot-of 3 0 ++ slot-of 5 2 ++ replicate 5 0 })
-  -- it counts for 16
-  × (run (one-local 3 (3 ∷ 1 ∷ 3 ∷ 2013265920 ∷ 5 ∷ 2 ∷ [])) 19 ≡ record { refusal = some WorkspaceFull; workspace = replicate 19 0 })
-  -- all nets zero
-  × (run (one-local 2 (3 ∷ 1 ∷ 3 ∷ 2013265920 ∷ [])) 10 ≡ record { refusal = none; workspace = slot-of 3 0 })
-  -- the local is group 0, the bus of both tables group 1; the local's tuple is empty
-  × (run (two-tables (3 ∷ 1 ∷ 3 ∷ 2013265920 ∷ [])) 10
-     ≡ record { refusal = some (NetNotZero 0 0 2013265920); workspace = 0 ∷ replicate 8 0 ++ (2013265920 ∷ []) })
-  × (run (two-tables (3 ∷ 1 ∷ 3 ∷ 0 ∷ [])) 10 ≡ record { refusal = some (NetNotZero 1 0 1); workspace = slot-of 3 1 })
-  -- multiplicity × flag: 2 × 2
-  × (run (exclusive (3 ∷ 2 ∷ [])) 10 ≡ record { refusal = some (NetNotZero 0 0 4); workspace = slot-of 3 4 })
-  -- 9: height 4, preprocessed 3; the workspace is untouched
-  × (run short 10 ≡ record { refusal = some RowsMissing; workspace = replicate 10 7 })
-  -- "1" before "10" before "2"
-  × (text-less 1 10 ≡ true)
-  × (text-less 10 2 ≡ true)
+    -- "(9) and (10) both unbalanced name (10)"
+    (run (one-local 2 (9 ∷ 1 ∷ 10 ∷ 1 ∷ [])) 20 ≡ record { refusal = some (NetNotZero 0 1 1); workspace = slot-of 9 1 ++ slot-of 10 1 })
+    -- 16: 2 tuples, 19 words
+    × (run (one-local 2 (9 ∷ 1 ∷ 10 ∷ 1 ∷ [])) 19 ≡ record { refusal = some WorkspaceFull; workspace = replicate 19 0 })
+    -- 18: (3) once
+    × (run (one-local 1 (3 ∷ 1 ∷ [])) 10 ≡ record { refusal = some (NetNotZero 0 0 1); workspace = slot-of 3 1 })
+    -- a net that returns to 0 keeps its slot, and a count of 0 makes none; what is short of a slot is zero
+    × (run (one-local 4 (3 ∷ 1 ∷ 3 ∷ 2013265920 ∷ 4 ∷ 0 ∷ 5 ∷ 2 ∷ [])) 25
+    ≡ record { refusal = some (NetNotZero 0 1 2); workspace = slot-of 3 0 ++ slot-of 5 2 ++ replicate 5 0 })
+    -- it counts for 16
+    × (run (one-local 3 (3 ∷ 1 ∷ 3 ∷ 2013265920 ∷ 5 ∷ 2 ∷ [])) 19 ≡ record { refusal = some WorkspaceFull; workspace = replicate 19 0 })
+    -- all nets zero
+    × (run (one-local 2 (3 ∷ 1 ∷ 3 ∷ 2013265920 ∷ [])) 10 ≡ record { refusal = none; workspace = slot-of 3 0 })
+    -- the local is group 0, the bus of both tables group 1; the local's tuple is empty
+    × (run (two-tables (3 ∷ 1 ∷ 3 ∷ 2013265920 ∷ [])) 10
+    ≡ record { refusal = some (NetNotZero 0 0 2013265920); workspace = 0 ∷ replicate 8 0 ++ (2013265920 ∷ []) })
+    × (run (two-tables (3 ∷ 1 ∷ 3 ∷ 0 ∷ [])) 10 ≡ record { refusal = some (NetNotZero 1 0 1); workspace = slot-of 3 1 })
+    -- multiplicity × flag: 2 × 2
+    × (run (exclusive (3 ∷ 2 ∷ [])) 10 ≡ record { refusal = some (NetNotZero 0 0 4); workspace = slot-of 3 4 })
+    -- 9: height 4, preprocessed 3; the workspace is untouched
+    × (run short 10 ≡ record { refusal = some RowsMissing; workspace = replicate 10 7 })
+    -- "1" before "10" before "2"
+    × (text-less 1 10 ≡ true)
+    × (text-less 10 2 ≡ true)
 unfolding total every joined fold tab flatMap all-below all-within cabinet decode node row-of window node-value values row-values node-degree degrees traces-within nodes-within traces-fit nodes-fit traces-below constants-below nodes-known degrees-low name-start tuple-start multiplicity-start flag-start element-start tuple-width tuple-nodes lookup-at lookups-of lookups-within lookups-fit sizes words-below known lengths-agree nodes-present lists-agree has-lookups preprocessed-enough same-list digits in-order enter meet slots full workspace unbalanced names-first group-refusal keep same size-start part shape-at lookups-at table-at tables-of lists-fit members same-bus appears local-group bus-group bus-groups groups count-of entry-of row-entries member-entries entries all listed covered tables-refusal visit balance check
 cases = (refl, refl, refl, refl, refl, refl, refl, refl, refl, refl, refl, refl)

@@ -47,12 +47,12 @@ module _ (p : ℕ) (l : Lookups) (vals : List ℕ) (b : Below p vals) (i : ℕ) 
   unfolding entry-of count-of lookup-at logup.count tuple multiplicity-node flag-node
   entry-is k g =
       let m : word (take (multiplicity-count (l .lookups) i) (drop (multiplicity-start (l .lookups) i) (l .multiplicities))) k ≡ word (l .multiplicities) (multiplicity-start (l .lookups) i + k) =
-          part-word (multiplicity-count (l .lookups) i) (multiplicity-start (l .lookups) i) k (l .multiplicities) (omega (arith, am)) in
+      part-word (multiplicity-count (l .lookups) i) (multiplicity-start (l .lookups) i) k (l .multiplicities) (omega (arith, am)) in
       ap₂ (λ (t : List ℕ) (c : ℕ). record { tuple = t; count = c }) (ap (map (word vals)) (tab-at (tuple-nodes l i) (tuple-count (l .lookups) i) k [] g))
       (ap (λ (x : ℕ). mulM p (word vals x) (cond (exclusive (l .lookups) i) (word vals (word (take (flag-count (l .lookups) i) (drop (flag-start (l .lookups) i) (l .flags))) k)) 1)) m
-       ∙ flagged p (word vals (word (l .multiplicities) (multiplicity-start (l .lookups) i + k))) _ _ (exclusive (l .lookups) i) (b .each _)
-         (λ x. ap (word vals) (part-word (flag-count (l .lookups) i) (flag-start (l .lookups) i) k (l .flags)
-               (let y : flag-count (l .lookups) i ≡ tuple-count (l .lookups) i = af ∙ ap (λ (c : Bool). cond c (tuple-count (l .lookups) i) 0) x in omega arith))))
+      ∙ flagged p (word vals (word (l .multiplicities) (multiplicity-start (l .lookups) i + k))) _ _ (exclusive (l .lookups) i) (b .each _)
+      (λ x. ap (word vals) (part-word (flag-count (l .lookups) i) (flag-start (l .lookups) i) k (l .flags)
+      (let y : flag-count (l .lookups) i ≡ tuple-count (l .lookups) i = af ∙ ap (λ (c : Bool). cond c (tuple-count (l .lookups) i) 0) x in omega arith))))
 
   -- one lookup on one row
   pub lookup-entries-is : row-entries p (lookup-at l i) vals ≡ logup.lookup-entries p l vals i
@@ -123,8 +123,8 @@ one-group m ms h =
     ap₂ (λ (a b : List (List Member)). a ++ b)
     (no-locals (m ∷ ms) (λ x k. bus-not-local x x (h x x k k)))
     (ap₂ (λ (b : Bool) (g : List Member). cond (b || false) [] (g ∷ []) ++ bus-groups (m ∷ ms) (m ∷ []) ms) free (keep-all (same-bus m) (m ∷ ms) (λ x k. h m x (List·Memᴰ·head refl) k))
-     ∙ ap (λ (l : List (List Member)). (m ∷ ms) ∷ l)
-       (known-groups (m ∷ ms) (m ∷ []) ms (λ x k. rw (h x m (List·Memᴰ·tail k) (List·Memᴰ·head refl)))))
+    ∙ ap (λ (l : List (List Member)). (m ∷ ms) ∷ l)
+    (known-groups (m ∷ ms) (m ∷ []) ms (λ x k. rw (h x m (List·Memᴰ·tail k) (List·Memᴰ·head refl)))))
 
 first-of : (f : ℕ → Member) (n : ℕ) → 0 < n → (m : Member) × (ms : List Member) × (tab f 0 n ≡ m ∷ ms)
 first-of f n h = go (tab f 0 n) (tab-length f 0 n)
@@ -140,7 +140,7 @@ ledger-group t o =
     let r = first-of (member-of t) n (o .some) in
     let e : members (t ∷ []) ≡ r .0 ∷ r .1 = members-one t ∙ r .2 in
     let k : (x y : Member) → List·Memᴰ x (r .0 ∷ r .1) → List·Memᴰ y (r .0 ∷ r .1) → same-bus x y ≡ true = λ x y a b.
-        (let u = tab-in (member-of t) 0 n (rw (sym (r .2)) at a) in let v = tab-in (member-of t) 0 n (rw (sym (r .2)) at b) in ap₂ same-bus (u .1) (v .1) ∙ o .each (u .0) (v .0)) in
+    (let u = tab-in (member-of t) 0 n (rw (sym (r .2)) at a) in let v = tab-in (member-of t) 0 n (rw (sym (r .2)) at b) in ap₂ same-bus (u .1) (v .1) ∙ o .each (u .0) (v .0)) in
     rw e (one-group (r .0) (r .1) k)
 
 net-below : (p : ℕ) → 0 < p → (es : List logup.Entry) (f : List ℕ → ℕ) (l : List ℕ) → f l < p → fold (logup.post p) f es l < p
@@ -198,7 +198,7 @@ ledger-nets p n t v a l = net-same p z (entries p (members (t ∷ []))) (logup.e
     row r =
         row-tally p (t .lookups) (values-of p t r) l
         ∙ total-cong (λ i. tally (logup.lookup-entries p (t .lookups) (values-of p t r) i) l) (λ i. cell i r) N
-          (λ i g. ap (λ (es : List logup.Entry). tally es l) (sym (lookup-entries-is p (t .lookups) (values-of p t r) (row-values-below r v) i (a .multiplicities-agree i g) (a .flags-agree i g))))
+        (λ i g. ap (λ (es : List logup.Entry). tally es l) (sym (lookup-entries-is p (t .lookups) (values-of p t r) (row-values-below r v) i (a .multiplicities-agree i g) (a .flags-agree i g))))
 
     by-lookup : tally (entries p (members (t ∷ []))) l ≡ total (λ i. total (cell i) H) N
     by-lookup =

@@ -247,7 +247,7 @@ module _ (l : Lists) (f : Fitted l) where
     multiplicities-is =
         ap₂ (λ (n a : ℕ). take n (drop a (G .multiplicities))) (entry-of-table t i 6 g (omega arith)) (multiplicity-starts t i h (omega arith))
         ∙ sym (part-inner (l .sizes) 11 t (multiplicity-start (T t .lookups) i) (multiplicity-count (T t .lookups) i) (G .multiplicities)
-               (omega (arith, own .multiplicities, length-of-table 11 t (G .multiplicities) h (f .multiplicities))))
+        (omega (arith, own .multiplicities, length-of-table 11 t (G .multiplicities) h (f .multiplicities))))
 
     flags-is : take (flag-count (G .lookups) M) (drop (flag-start (G .lookups) M) (G .flags)) ≡ take (flag-count (T t .lookups) i) (drop (flag-start (T t .lookups) i) (T t .flags))
     unfolding lookups-at
@@ -286,7 +286,7 @@ module _ (l : Lists) (f : Fitted l) where
         made : {a₀ a₁ : Bool} {n₀ n₁ : List ℕ} {b₀ b₁ c₀ c₁ : ℕ} {x₀ x₁ : Bool} {u₀ u₁ : List (List ℕ)} {m₀ m₁ y₀ y₁ : List ℕ}
             → a₀ ≡ a₁ → n₀ ≡ n₁ → b₀ ≡ b₁ → c₀ ≡ c₁ → x₀ ≡ x₁ → u₀ ≡ u₁ → m₀ ≡ m₁ → y₀ ≡ y₁
             → _≡_ {A = Lookup} (record { local = a₀; name = n₀; weight = b₀; column = c₀; exclusive = x₀; tuples = u₀; multiplicities = m₀; flags = y₀ })
-              (record { local = a₁; name = n₁; weight = b₁; column = c₁; exclusive = x₁; tuples = u₁; multiplicities = m₁; flags = y₁ })
+            (record { local = a₁; name = n₁; weight = b₁; column = c₁; exclusive = x₁; tuples = u₁; multiplicities = m₁; flags = y₁ })
         made a n b c x u m y = λ j. record { local = a j; name = n j; weight = b j; column = c j; exclusive = x j; tuples = u j; multiplicities = m j; flags = y j }
 
   pub whole-count : lookup-count (G .lookups) ≡ size-start (l .sizes) 8 N
@@ -298,9 +298,9 @@ module _ (l : Lists) (f : Fitted l) where
   members-are =
       flat-tab (λ (t : Table). map (λ (k : Lookup). record { table = t; lookup = k }) (tab (lookup-at (t .lookups)) 0 (lookup-count (t .lookups .lookups)))) (table-at l) N
       ∙ joined-same (λ t. map (λ (k : Lookup). record { table = table-at l t; lookup = k }) (tab (lookup-at (T t)) 0 (lookup-count (T t .lookups))))
-        (λ t. tab (λ i. record { table = table-at l t; lookup = lookup-at (T t) i }) 0 (size (l .sizes) 8 t)) N
-        (λ t h. map-tab (λ (k : Lookup). record { table = table-at l t; lookup = k }) (lookup-at (T t)) (lookup-count (T t .lookups))
-         ∙ ap (tab (λ i. record { table = table-at l t; lookup = lookup-at (T t) i }) 0) (table-lookups t h))
+      (λ t. tab (λ i. record { table = table-at l t; lookup = lookup-at (T t) i }) 0 (size (l .sizes) 8 t)) N
+      (λ t h. map-tab (λ (k : Lookup). record { table = table-at l t; lookup = k }) (lookup-at (T t)) (lookup-count (T t .lookups))
+      ∙ ap (tab (λ i. record { table = table-at l t; lookup = lookup-at (T t) i }) 0) (table-lookups t h))
       ∙ tables-tab (size (l .sizes) 8) (λ t i. record { table = table-at l t; lookup = lookup-at (T t) i }) (member-at l) N
-        (λ t i h g. ap₂ (λ (x : ℕ) (k : Lookup). record { table = table-at l x; lookup = k }) (sym (table-of-is (l .sizes) t i h g)) (sym (lookup-of-table t i h g)))
+      (λ t i h g. ap₂ (λ (x : ℕ) (k : Lookup). record { table = table-at l x; lookup = k }) (sym (table-of-is (l .sizes) t i h g)) (sym (lookup-of-table t i h g)))
       ∙ ap (tab (member-at l) 0) (sym whole-count)

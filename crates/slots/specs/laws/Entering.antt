@@ -122,14 +122,14 @@ entered-found p (s ∷ ss) e rest f h =
     let W : List ℕ = flatMap slot-words ss ++ rest in
     let A : (slot-words s ++ flatMap slot-words ss) ++ rest ≡ slot-words s ++ W = append-assoc (slot-words s) (flatMap slot-words ss) rest in
     let k : find-slot ((slot-words s ++ flatMap slot-words ss) ++ rest) (e .tuple) 0 (suc (length ss)) ≡ cond (same-list (s .tuple) (e .tuple)) 0 (suc (find-slot W (e .tuple) 0 (length ss))) =
-        ap (λ (l : List ℕ). find-slot l (e .tuple) 0 (suc (length ss))) A ∙ find-step s W (e .tuple) (length ss) (f .0) in
+    ap (λ (l : List ℕ). find-slot l (e .tuple) 0 (suc (length ss))) A ∙ find-step s W (e .tuple) (length ss) (f .0) in
     ap₂ (λ (l : List ℕ) (j : ℕ). added-at p l j (e .count)) A k ∙ go (same-list (s .tuple) (e .tuple)) (λ g. entered-found p ss e rest (f .1) g) (rw k at h)
   where
     go : (b : Bool)
         → (find-slot (flatMap slot-words ss ++ rest) (e .tuple) 0 (length ss) < length ss → added-at p (flatMap slot-words ss ++ rest) (find-slot (flatMap slot-words ss ++ rest) (e .tuple) 0 (length ss)) (e .count) ≡ flatMap slot-words (enter p ss e) ++ rest)
         → cond b 0 (suc (find-slot (flatMap slot-words ss ++ rest) (e .tuple) 0 (length ss))) < suc (length ss)
         → added-at p (slot-words s ++ (flatMap slot-words ss ++ rest)) (cond b 0 (suc (find-slot (flatMap slot-words ss ++ rest) (e .tuple) 0 (length ss)))) (e .count)
-          ≡ flatMap slot-words (cond b (record { tuple = s .tuple; net = addM p (s .net) (e .count) } ∷ ss) (s ∷ enter p ss e)) ++ rest
+        ≡ flatMap slot-words (cond b (record { tuple = s .tuple; net = addM p (s .net) (e .count) } ∷ ss) (s ∷ enter p ss e)) ++ rest
     go true ih g = added-first p s (flatMap slot-words ss ++ rest) (e .count) (f .0) ∙ sym (append-assoc (slot-words (record { tuple = s .tuple; net = addM p (s .net) (e .count) })) (flatMap slot-words ss) rest)
     go false ih g =
         added-later p (slot-words s) (flatMap slot-words ss ++ rest) (find-slot (flatMap slot-words ss ++ rest) (e .tuple) 0 (length ss)) (e .count) (slot-long s (f .0))
@@ -152,7 +152,7 @@ entered-new p [] e rest f h g = append-nil (slot-words (record { tuple = e .tupl
 entered-new p (s ∷ ss) e rest f h g =
     let W : List ℕ = flatMap slot-words ss ++ rest in
     let k : find-slot ((slot-words s ++ flatMap slot-words ss) ++ rest) (e .tuple) 0 (suc (length ss)) ≡ cond (same-list (s .tuple) (e .tuple)) 0 (suc (find-slot W (e .tuple) 0 (length ss))) =
-        ap (λ (l : List ℕ). find-slot l (e .tuple) 0 (suc (length ss))) (append-assoc (slot-words s) (flatMap slot-words ss) rest) ∙ find-step s W (e .tuple) (length ss) (f .0) in
+    ap (λ (l : List ℕ). find-slot l (e .tuple) 0 (suc (length ss))) (append-assoc (slot-words s) (flatMap slot-words ss) rest) ∙ find-step s W (e .tuple) (length ss) (f .0) in
     go (same-list (s .tuple) (e .tuple)) (λ q. entered-new p ss e rest (f .1) h q) (rw k at g)
   where
     go : (b : Bool)
@@ -170,7 +170,7 @@ entered-count p [] e rest f = ap (λ (b : Bool). cond b 0 (0 + 1)) (sym (le-ltb 
 entered-count p (s ∷ ss) e rest f =
     let W : List ℕ = flatMap slot-words ss ++ rest in
     let k : find-slot ((slot-words s ++ flatMap slot-words ss) ++ rest) (e .tuple) 0 (suc (length ss)) ≡ cond (same-list (s .tuple) (e .tuple)) 0 (suc (find-slot W (e .tuple) 0 (length ss))) =
-        ap (λ (l : List ℕ). find-slot l (e .tuple) 0 (suc (length ss))) (append-assoc (slot-words s) (flatMap slot-words ss) rest) ∙ find-step s W (e .tuple) (length ss) (f .0) in
+    ap (λ (l : List ℕ). find-slot l (e .tuple) 0 (suc (length ss))) (append-assoc (slot-words s) (flatMap slot-words ss) rest) ∙ find-step s W (e .tuple) (length ss) (f .0) in
     go (same-list (s .tuple) (e .tuple)) (entered-count p ss e rest (f .1)) ∙ ap (λ (n : ℕ). cond (ltb n (suc (length ss))) (suc (length ss)) (suc (length ss) + 1)) (sym k)
   where
     F : ℕ
@@ -281,11 +281,11 @@ module _ (p room : ℕ) (ss : List Slot) (e : Entry) (f : Fit ss) (h : length (e
       let k : 10 * N + 10 ≡ length (flatMap slot-words ss) + 10 = omega (arith, words-long ss f) in
       let z : room - 10 * N - 10 ≡ room - 10 * (N + 1) = omega arith in
       let d : drop (10 * N + 10) W ≡ replicate (room - 10 * (N + 1)) 0 =
-          ap (λ (n : ℕ). drop n W) k ∙ drop-append-add (flatMap slot-words ss) (replicate (room - 10 * N) 0) 10 ∙ drop-zeros 10 (room - 10 * N) ∙ ap (λ (n : ℕ). replicate n 0) z in
+      ap (λ (n : ℕ). drop n W) k ∙ drop-append-add (flatMap slot-words ss) (replicate (room - 10 * N) 0) 10 ∙ drop-zeros 10 (room - 10 * N) ∙ ap (λ (n : ℕ). replicate n 0) z in
       let t : take (10 * N) W ++ (new-words (e .tuple) (e .count) ++ drop (10 * N + 10) W) ≡ flatMap slot-words (enter p ss e) ++ replicate (room - 10 * (N + 1)) 0 =
-          ap₂ (λ (x y : List ℕ). x ++ (new-words (e .tuple) (e .count) ++ y)) a d
-          ∙ sym (append-assoc (flatMap slot-words ss) (new-words (e .tuple) (e .count)) (replicate (room - 10 * (N + 1)) 0))
-          ∙ ap (λ (x : List ℕ). x ++ replicate (room - 10 * (N + 1)) 0) (sym (entered-new p ss e (replicate (room - 10 * N) 0) f h g)) in
+      ap₂ (λ (x y : List ℕ). x ++ (new-words (e .tuple) (e .count) ++ y)) a d
+      ∙ sym (append-assoc (flatMap slot-words ss) (new-words (e .tuple) (e .count)) (replicate (room - 10 * (N + 1)) 0))
+      ∙ ap (λ (x : List ℕ). x ++ replicate (room - 10 * (N + 1)) 0) (sym (entered-new p ss e (replicate (room - 10 * N) 0) f h g)) in
       ap₂ (λ (x : List ℕ) (n : ℕ). made x n false) (t ∙ ap (λ (n : ℕ). flatMap slot-words (enter p ss e) ++ replicate (room - 10 * n) 0) (sym c)) (sym c)
       ∙ sym (work-open room (enter p ss e) q)
 

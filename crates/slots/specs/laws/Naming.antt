@@ -39,7 +39,7 @@ unbalanced-one k [] s =
 unbalanced-one k (x ∷ xs) s =
     let e : suc k + length xs ≡ k + suc (length xs) = omega arith in
     ap (λ (l : List Numbered). cond (eqb (x .net) 0) [] (record { number = k; slot = x } ∷ []) ++ l)
-      (unbalanced-one (suc k) xs s ∙ ap (λ (n : ℕ). unbalanced (suc k) xs ++ cond (eqb (s .net) 0) [] (record { number = n; slot = s } ∷ [])) e)
+    (unbalanced-one (suc k) xs s ∙ ap (λ (n : ℕ). unbalanced (suc k) xs ++ cond (eqb (s .net) 0) [] (record { number = n; slot = s } ∷ [])) e)
     ∙ sym (append-assoc (cond (eqb (x .net) 0) [] (record { number = k; slot = x } ∷ [])) (unbalanced (suc k) xs) (cond (eqb (s .net) 0) [] (record { number = k + suc (length xs); slot = s } ∷ [])))
 
 -- the best so far is the definition's
@@ -80,12 +80,13 @@ loud ws ss h k l b n (x ∷ xs) e =
     let f : fold earlier x (xs ++ (nth ss k ∷ [])) ≡ earlier y (nth ss k) = fold-append earlier x xs (nth ss k ∷ []) in
     let c = chosen ws ss k y (tuple-less (getD ss k nobody .tuple) (y .slot .tuple)) refl (e .1) (e .2) in
     let t : tuple-less (tuple-at ws k) (tuple-at ws (y .number)) ≡ tuple-less (getD ss k nobody .tuple) (y .slot .tuple) =
-        ap₂ tuple-less (h .tuple k l) (h .tuple (y .number) (let g : y .number < k = e .2 in omega arith) ∙ ap (λ (v : Slot). v .tuple) (sym (e .1))) in
+    ap₂ tuple-less (h .tuple k l) (h .tuple (y .number) (let g : y .number < k = e .2 in omega arith) ∙ ap (λ (v : Slot). v .tuple) (sym (e .1))) in
     let d : better-at ws b k ≡ cond (tuple-less (getD ss k nobody .tuple) (y .slot .tuple)) (best true k) (best true (y .number)) =
-        ap (λ (v : Best). better-at ws v k) (e .0) ∙ later-one ws (y .number) k (λ z. n (sym (h .net k l) ∙ z)) ∙ ap (λ (q : Bool). cond q (best true k) (best true (y .number))) t in
-    (d ∙ c .0 ∙ ap (λ (v : Numbered). best true (v .number)) (sym f),
-     ap (λ (v : Numbered). v .slot) f ∙ c .1 ∙ ap (λ (v : Numbered). getD ss (v .number) nobody) (sym f),
-     rw (ap (λ (v : Numbered). v .number) f) (c .2))
+    ap (λ (v : Best). better-at ws v k) (e .0) ∙ later-one ws (y .number) k (λ z. n (sym (h .net k l) ∙ z)) ∙ ap (λ (q : Bool). cond q (best true k) (best true (y .number))) t in (
+      d ∙ c .0 ∙ ap (λ (v : Numbered). best true (v .number)) (sym f),
+      ap (λ (v : Numbered). v .slot) f ∙ c .1 ∙ ap (λ (v : Numbered). getD ss (v .number) nobody) (sym f),
+      rw (ap (λ (v : Numbered). v .number) f) (c .2),
+    )
 
 step : (ws : List ℕ) (ss : List Slot) → Holding ws ss → (k : ℕ) → k < length ss → (us : List Numbered) (b : Best) → Agrees ss k us b
     → Agrees ss (suc k) (us ++ cond (eqb (getD ss k nobody .net) 0) [] (nth ss k ∷ [])) (better-at ws b k)
@@ -100,8 +101,8 @@ unfolding least-to unbalanced
 agrees ws ss h zero l = refl
 agrees ws ss h (suc k) l =
     let e : unbalanced 0 (take (suc k) ss) ≡ unbalanced 0 (take k ss) ++ cond (eqb (getD ss k nobody .net) 0) [] (nth ss k ∷ []) =
-        ap (unbalanced 0) (take-suc ss k nobody l) ∙ unbalanced-one 0 (take k ss) (getD ss k nobody)
-        ∙ ap (λ (n : ℕ). unbalanced 0 (take k ss) ++ cond (eqb (getD ss k nobody .net) 0) [] (record { number = n; slot = getD ss k nobody } ∷ [])) (let z : 0 + length (take k ss) ≡ k = omega (arith, length-take-le k ss (let w : k ≤ length ss = omega arith in w)) in z) in
+    ap (unbalanced 0) (take-suc ss k nobody l) ∙ unbalanced-one 0 (take k ss) (getD ss k nobody)
+    ∙ ap (λ (n : ℕ). unbalanced 0 (take k ss) ++ cond (eqb (getD ss k nobody .net) 0) [] (record { number = n; slot = getD ss k nobody } ∷ [])) (let z : 0 + length (take k ss) ≡ k = omega (arith, length-take-le k ss (let w : k ≤ length ss = omega arith in w)) in z) in
     rw e (step ws ss h k l (unbalanced 0 (take k ss)) (least-to ws k) (agrees ws ss h k (omega arith)))
 
 says : (ws : List ℕ) (ss : List Slot) → Holding ws ss → (g k : ℕ) → k ≤ length ss → (us : List Numbered) (b : Best) → Agrees ss k us b → named g ws b ≡ names-first g us
@@ -172,7 +173,7 @@ judged-is room g ss f = go (full room ss)
   where
     go : (b : Bool)
         → cond b (some WorkspaceFull) (named g (cond b (replicate room 0) (flatMap slot-words ss ++ replicate (room - 10 * length ss) 0)) (least-to (cond b (replicate room 0) (flatMap slot-words ss ++ replicate (room - 10 * length ss) 0)) (cond b 0 (length ss))))
-          ≡ cond b (some WorkspaceFull) (names-first g (unbalanced 0 ss))
+        ≡ cond b (some WorkspaceFull) (names-first g (unbalanced 0 ss))
     go true = refl
     go false = least-names (flatMap slot-words ss ++ replicate (room - 10 * length ss) 0) ss g (held ss (replicate (room - 10 * length ss) 0) f)
 

@@ -101,7 +101,7 @@ enter-held p (s ∷ ss) e l h = go (same-list (s .tuple) (e .tuple)) refl (enter
 
     go : (b : Bool) → same-list (s .tuple) (e .tuple) ≡ b → held (enter p ss e) l ≡ cond (same-list (e .tuple) l) (addM p (held ss l) (e .count)) (held ss l)
         → held (cond b (record { tuple = s .tuple; net = addM p (s .net) (e .count) } ∷ ss) (s ∷ enter p ss e)) l
-          ≡ cond (same-list (e .tuple) l) (addM p (cond (same-list (s .tuple) l) (s .net) (held ss l)) (e .count)) (cond (same-list (s .tuple) l) (s .net) (held ss l))
+        ≡ cond (same-list (e .tuple) l) (addM p (cond (same-list (s .tuple) l) (s .net) (held ss l)) (e .count)) (cond (same-list (s .tuple) l) (s .net) (held ss l))
     go true q ih = own (same-list (s .tuple) l) (same-list (e .tuple) l) (ap (λ (t : List ℕ). same-list t l) (same-list-eq (s .tuple) (e .tuple) q))
     go false q ih =
         apart (same-list (s .tuple) l) (same-list (e .tuple) l)
@@ -234,7 +234,7 @@ enter-tuples p (s ∷ ss) e = go (same-list (s .tuple) (e .tuple)) (enter-tuples
 
     go : (b : Bool) → tuples-of (enter p ss e) ≡ cond (listed (e .tuple) (tuples-of ss)) (tuples-of ss) (tuples-of ss ++ (e .tuple ∷ []))
         → tuples-of (cond b (record { tuple = s .tuple; net = addM p (s .net) (e .count) } ∷ ss) (s ∷ enter p ss e))
-          ≡ cond (b || listed (e .tuple) (tuples-of ss)) (s .tuple ∷ tuples-of ss) ((s .tuple ∷ tuples-of ss) ++ (e .tuple ∷ []))
+        ≡ cond (b || listed (e .tuple) (tuples-of ss)) (s .tuple ∷ tuples-of ss) ((s .tuple ∷ tuples-of ss) ++ (e .tuple ∷ []))
     go true ih = refl
     go false ih = ap (λ (l : List (List ℕ)). s .tuple ∷ l) ih ∙ later (listed (e .tuple) (tuples-of ss))
 

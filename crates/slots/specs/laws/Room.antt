@@ -38,7 +38,7 @@ enter-roomy n p w t count r = go (ltb (find-slot (w .words) t 0 (w .used)) (w .u
 
     go : (b c : Bool) → leb (10 * w .used + 10) (length (w .words)) ≡ c
         → Roomy n (cond b (record { words = set (w .words) (10 * K + 9) (addM p (word (w .words) (10 * K + 9)) count); used = w .used; full = false })
-          (cond c (record { words = new-at (w .words) (w .used) t count; used = w .used + 1; full = false }) (record { words = replicate (length (w .words)) 0; used = 0; full = true })))
+        (cond c (record { words = new-at (w .words) (w .used) t count; used = w .used + 1; full = false }) (record { words = replicate (length (w .words)) 0; used = 0; full = true })))
     go true c q = record { long = length-set (w .words) (10 * K + 9) _ ∙ r .long; room = r .room }
     go false true q =
         let h : 10 * w .used + 10 ≤ length (w .words) = leb-true (10 * w .used + 10) (length (w .words)) q in
