@@ -40,9 +40,13 @@ use Rattle.degree.specs.declared.door.DegreeAnswer.the-variants.{Degree,
 pub numerator-asks : {a s n d : ℕ} (tuples lookups : List ℕ) (i : ℕ) → Few lookups i → a ≡ tuple-start lookups i → s ≡ multiplicity-start lookups i → n ≡ tuple-count lookups i
     → (d ≡ denominator-at tuples lookups i) × (d ≤ 274877906880) → (n ≤ 64) × (a ≤ 64) × (s ≤ 64) × (d ≤ 274877906880) × (total (λ k. word tuples (a + k)) n ≤ d)
 unfolding denominator-at
-numerator-asks {a} {s} {n} {d} tuples lookups i f ea es en ed =
-    (omega (arith, f .tuples), omega (arith, f .tuples), omega (arith, f .multiplicities), ed .1,
-     rw (ea, en) (omega (arith, ed .0)))
+numerator-asks {a} {s} {n} {d} tuples lookups i f ea es en ed = (
+  omega (arith, f .tuples),
+  omega (arith, f .tuples),
+  omega (arith, f .multiplicities),
+  ed .1,
+  rw (ea, en) (omega (arith, ed .0)),
+)
 
 pub numerator-is : {a s n d r : ℕ} (nodes tuples lookups multiplicities : List ℕ) (i : ℕ) → a ≡ tuple-start lookups i → s ≡ multiplicity-start lookups i → n ≡ tuple-count lookups i
     → d ≡ denominator-at tuples lookups i → r ≡ greatest (λ k. word nodes (word multiplicities (s + k)) + (d - word tuples (a + k))) n → r ≡ numerator-at nodes tuples lookups multiplicities i

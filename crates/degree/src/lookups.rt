@@ -23,7 +23,13 @@ pub fn denominator_of(tuples: &[u32], lookups: &[u32], i: usize) -> u64
     denominator(tuples, first, n)
 }
 
-pub fn numerator_of(nodes: &[u32], tuples: &[u32], lookups: &[u32], multiplicities: &[u32], i: usize) -> u64
+pub fn numerator_of(
+    nodes: &[u32],
+    tuples: &[u32],
+    lookups: &[u32],
+    multiplicities: &[u32],
+    i: usize,
+) -> u64
     requires { ⌜ Few (now lookups) i ⌝ }
     ensures { λ r. ⌜ r ≡ numerator-at (now (nodes .entry)) (now (tuples .entry)) (now (lookups .entry)) (now (multiplicities .entry)) i ⌝ }
 {
@@ -34,7 +40,13 @@ pub fn numerator_of(nodes: &[u32], tuples: &[u32], lookups: &[u32], multipliciti
     numerator(nodes, multiplicities, start, tuples, first, n, sum)
 }
 
-pub fn additive_degree(nodes: &[u32], tuples: &[u32], lookups: &[u32], multiplicities: &[u32], i: usize) -> u64
+pub fn additive_degree(
+    nodes: &[u32],
+    tuples: &[u32],
+    lookups: &[u32],
+    multiplicities: &[u32],
+    i: usize,
+) -> u64
     requires { ⌜ Few (now lookups) i ⌝ }
     ensures { λ r. ⌜ r ≡ additive-at (now (nodes .entry)) (now (tuples .entry)) (now (lookups .entry)) (now (multiplicities .entry)) i ⌝ }
 {

@@ -63,4 +63,3 @@ pub fn flag_start(lookups: &[u32], i: usize) -> usize
     }
     sum
 }
-

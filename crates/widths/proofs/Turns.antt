@@ -39,7 +39,8 @@ pub same-turn : {x y : List ℕ} {i : ℕ} → SameSoFar x y i → i < length x 
 same-turn {x} {y} {i} s h e = record {
   rest = rw (add-one i) (sym (rw (eq-eqb (getD x i 0) (getD y i 0) e) at (step-at x y i h (omega (arith, s .long)))) ∙ s .rest);
   within = omega arith;
-  long = s .long }
+  long = s .long;
+}
 
 pub same-ends : {x y : List ℕ} {i : ℕ} → SameSoFar x y i → length x ≤ i → true ≡ same x y
 unfolding same
@@ -136,7 +137,8 @@ pub placing-turn : {f : ℕ → ℕ} {n i v : ℕ} {d b : List ℕ} → Placing 
 placing-turn {f} {n} {i} {v} {d} {b} s h g e = record {
   out = filled-one v 0 (s .out) (rw (s .zeros) (omega arith)) (tab-one f 0 i ∙ ap (λ (x : ℕ). tab f 0 i ++ (x ∷ [])) (ap f (let k : 0 + i ≡ i = omega arith in k) ∙ sym e));
   within = omega arith;
-  zeros = s .zeros }
+  zeros = s .zeros;
+}
 
 pub placing-ends : {f : ℕ → ℕ} {n i : ℕ} {d b : List ℕ} → Placing f n i d b → n ≤ i → b ≡ tab f 0 n ++ drop n (replicate 64 0)
 placing-ends {f} {n} {i} {d} {b} s h = let e : i ≡ n = omega (arith, s .within) in s .out .is ∙ ap₂ (λ (k : ℕ) (l : List ℕ). tab f 0 k ++ drop k l) e (s .zeros)
@@ -168,7 +170,10 @@ pub pushing-begins : {places d : List ℕ} {k n start : ℕ} → start + length 
 unfolding of-place numbers keep
 pushing-begins {places} {d} {k} {n} {start} h = record {
   out = record { is = rw (append-nil (take start d)) (sym (take-append-drop start d)); size = rw (append-nil (take start d)) (length-take-le start d (omega arith)); room = omega arith; len = refl };
-  ends = omega arith; within = zero-le; fits = h }
+  ends = omega arith;
+  within = zero-le;
+  fits = h;
+}
 
 pub pushing-room : {places d b : List ℕ} {k n start i end : ℕ} → Pushing places k n start i end d b → i < n → getD places i 0 ≡ k → end < length b
 pushing-room {places} {d} {b} {k} {n} {start} {i} {end} s h e =
@@ -181,7 +186,10 @@ pushing-yes {places} {d} {b} {b′} {k} {n} {start} {i} {end} {end′} s h e eb 
     let z : length (of-place places k (i + 1)) ≡ length (of-place places k i) + 1 = ap length m ∙ length-append (of-place places k i) (i ∷ []) in
     record {
       out = rw (eb, ee) (filled-one i 0 (s .out) (omega (arith, pushing-room s h e, s .out .len)) (rw m (sym (append-assoc (take start d) (of-place places k i) (i ∷ [])))));
-      ends = omega (arith, s .ends); within = omega arith; fits = s .fits }
+      ends = omega (arith, s .ends);
+      within = omega arith;
+      fits = s .fits;
+    }
 
 pub pushing-no : {places d b b′ : List ℕ} {k n start i end end′ : ℕ} → Pushing places k n start i end d b → i < n → (getD places i 0 ≡ k → ⊥) → b′ ≡ b → end′ ≡ end → Pushing places k n start (i + 1) end′ d b′
 pushing-no {places} {d} {b} {b′} {k} {n} {start} {i} {end} {end′} s h e eb ee =
@@ -213,7 +221,7 @@ unfolding order-of
 order-length places k n =
     let f : ℕ → ℕ = λ (i : ℕ). getD places i 0 in
     let e : length (by-place f k (numbers n)) ≡ length (keep (λ (i : ℕ). ltb (f i) k) (numbers n)) =
-        sym (ones (by-place f k (numbers n))) ∙ sum-by-place (λ (x : ℕ). 1) f k (numbers n) ∙ ones (keep (λ (i : ℕ). ltb (f i) k) (numbers n)) in
+    sym (ones (by-place f k (numbers n))) ∙ sum-by-place (λ (x : ℕ). 1) f k (numbers n) ∙ ones (keep (λ (i : ℕ). ltb (f i) k) (numbers n)) in
     rw e (omega (arith, keep-length (λ (i : ℕ). ltb (f i) k) (numbers n), numbers-length n))
 
 pub record Arranging (places : List ℕ) (n k end : ℕ) (d b : List ℕ) : Type 0 where
@@ -240,7 +248,8 @@ arranging-turn {places} {d} {b} {b′} {n} {k} {end} {e} s h g (ee, eb) =
     let q : b′ ≡ (P ++ K) ++ drop e d = eb ∙ ap₂ (λ (x y : List ℕ). (x ++ K) ++ y) t r in
     record {
       out = rw (order-one places k n) (record { is = q; size = z; room = omega (arith, arranging-fits s g, s .out .len); len = ap length q ∙ through-length d (P ++ K) e z (omega (arith, arranging-fits s g, s .out .len)) });
-      within = omega arith }
+      within = omega arith;
+    }
 
 pub arranging-ends : {places d b : List ℕ} {n k end : ℕ} → Arranging places n k end d b → n + 1 ≤ k
     → (end ≡ length (order-of places (n + 1) n)) × (b ≡ order-of places (n + 1) n ++ drop end d)
@@ -254,7 +263,7 @@ pub order-is : {r : ℕ} {ps b : List ℕ} (alone : ℕ → Bool) (name : ℕ �
 unfolding order-of arranged
 order-is {r} {ps} {b} alone name n e (er, eb) =
     let q : by-place (λ (i : ℕ). getD ps i 0) (n + 1) (numbers n) ≡ by-place (place alone name n) (suc n) (numbers n) =
-        ap (λ (k : ℕ). by-place (λ (i : ℕ). getD ps i 0) k (numbers n)) (add-one n)
-        ∙ by-place-cong (λ (i : ℕ). getD ps i 0) (place alone name n) (suc n) (numbers n)
-          (λ i m. ap (λ (l : List ℕ). getD l i 0) e ∙ getD-pad (tab (place alone name n) 0 n) 64 n i ∙ tab-get (place alone name n) 0 n i (numbers-below n i m) ∙ ap (place alone name n) (let k : 0 + i ≡ i = omega arith in k)) in
+    ap (λ (k : ℕ). by-place (λ (i : ℕ). getD ps i 0) k (numbers n)) (add-one n)
+    ∙ by-place-cong (λ (i : ℕ). getD ps i 0) (place alone name n) (suc n) (numbers n)
+    (λ i m. ap (λ (l : List ℕ). getD l i 0) e ∙ getD-pad (tab (place alone name n) 0 n) 64 n i ∙ tab-get (place alone name n) 0 n i (numbers-below n i m) ∙ ap (place alone name n) (let k : 0 + i ≡ i = omega arith in k)) in
     eb ∙ ap₂ (λ (x : List ℕ) (k : ℕ). x ++ drop k (replicate 64 0)) q (er ∙ ap length q ∙ arranged-length alone name n)

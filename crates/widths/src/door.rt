@@ -7,8 +7,8 @@ use degree::starts::name_start;
 use degree::starts::tuple_start;
 use expression::refusal::Refusal;
 use expression::refusal::Verdict;
-use expression::sizes::cabinet;
 use expression::sizes::Limits;
+use expression::sizes::cabinet;
 use expression::words::wide;
 use lookup::tests::lookups_within;
 ghost use mathlib.Core.Path.{_≡_};
@@ -85,7 +85,13 @@ fn all_fit(limits: Limits, lookups: &[u32], names: &[u8], tuples: &[u32], sizes:
 }
 
 // The answer within these limits.
-pub fn widths_within(limits: Limits, lookups: &[u32], names: &[u8], tuples: &[u32], sizes: &[u32]) -> WidthsAnswer
+pub fn widths_within(
+    limits: Limits,
+    lookups: &[u32],
+    names: &[u8],
+    tuples: &[u32],
+    sizes: &[u32],
+) -> WidthsAnswer
     requires { ⌜ Sane limits ⌝ }
     ensures { λ r. ⌜ r ≡ widths-answer limits (lent-lists (now (lookups .entry)) (now (names .entry)) (now (tuples .entry)) (now (sizes .entry))) ⌝ }
 {
@@ -101,7 +107,12 @@ pub fn widths_within(limits: Limits, lookups: &[u32], names: &[u8], tuples: &[u3
 
 // The widest bus tuple of several tables, or 0 (`check_bus_widths`). `sizes` has for each table how many lookups, bytes of
 // names and tuples it has.
-pub fn check_bus_widths(lookups: &[u32], names: &[u8], tuples: &[u32], sizes: &[u32]) -> WidthsAnswer
+pub fn check_bus_widths(
+    lookups: &[u32],
+    names: &[u8],
+    tuples: &[u32],
+    sizes: &[u32],
+) -> WidthsAnswer
     ensures { λ r. ⌜ r ≡ widths-answer cabinet (lent-lists (now (lookups .entry)) (now (names .entry)) (now (tuples .entry)) (now (sizes .entry))) ⌝ }
 {
     let limits = cabinet();

@@ -98,7 +98,7 @@ fn places(lookups: &[u32], names: &[u8], packing: bool) -> [u32; 64]
 fn push_place(places: &[u32], k: u32, n: usize, order: &mut [u32], start: usize) -> usize
     requires { ⌜ (n ≤ 64) × (n ≤ length (now places)) × (start + length (of-place (now places) k n) ≤ length (now order)) ⌝ }
     ensures { λ r. ⌜ (r ≡ start + length (of-place (now (places .entry)) k n))
-      × (now (order .exit) ≡ (take start (now (order .entry)) ++ of-place (now (places .entry)) k n) ++ drop r (now (order .entry))) ⌝ }
+        × (now (order .exit) ≡ (take start (now (order .entry)) ++ of-place (now (places .entry)) k n) ++ drop r (now (order .entry))) ⌝ }
 {
     let mut end = start;
     let mut i = 0;
@@ -116,7 +116,7 @@ fn push_place(places: &[u32], k: u32, n: usize, order: &mut [u32], start: usize)
 fn arrange(places: &[u32], n: usize, order: &mut [u32]) -> usize
     requires { ⌜ (n ≤ 64) × (n ≤ length (now places)) × (n ≤ length (now order)) ⌝ }
     ensures { λ r. ⌜ (r ≡ length (order-of (now (places .entry)) (n + 1) n))
-      × (now (order .exit) ≡ order-of (now (places .entry)) (n + 1) n ++ drop r (now (order .entry))) ⌝ }
+        × (now (order .exit) ≡ order-of (now (places .entry)) (n + 1) n ++ drop r (now (order .entry))) ⌝ }
 {
     let mut end = 0;
     let mut k = 0;

@@ -1,15 +1,15 @@
 // Refusal 6 and the widest bus tuple over several tables.
 use crate::order::order;
+use crate::seen::Seen;
 use crate::seen::first_seen;
 use crate::seen::tuples_verdict;
 use crate::seen::widest_in_lookup;
 use crate::seen::width_in_lookup;
-use crate::seen::Seen;
 use crate::spans::spans_of;
 use degree::starts::name_start;
 use degree::tuples::larger;
-use expression::refusal::first;
 use expression::refusal::Verdict;
+use expression::refusal::first;
 use expression::words::index;
 use lookup::types::name_length;
 use lookup::types::on_bus;

@@ -118,7 +118,7 @@ module _ (n : ℕ) (l : Lookups) (nodes degrees : List ℕ) (fit : Fitting l) (a
   numerator-is =
       ap (λ (d : ℕ). greatest (λ k. word nodes (word (l .multiplicities) (M + k)) + (d - word degrees (T + k))) N) denominator-is
       ∙ greatest-cong (λ k. word nodes (word (l .multiplicities) (M + k)) + (D - word degrees (T + k))) (λ k. term-degree (word nodes) D (word (l .multiplicities) (M + k)) (tuple-nodes l i k)) N
-        (λ k h. ap (λ (d : ℕ). word nodes (word (l .multiplicities) (M + k)) + (D - d)) (tuple-at k h))
+      (λ k h. ap (λ (d : ℕ). word nodes (word (l .multiplicities) (M + k)) + (D - d)) (tuple-at k h))
       ∙ sym (largest-tab (λ k. term-degree (word nodes) D (word (l .multiplicities) (M + k)) (tuple-nodes l i k)) N)
       ∙ ap (largest-of (λ (n : ℕ). n)) (sym (zip-tab (term-degree (word nodes) D) (λ k. word (l .multiplicities) (M + k)) (tuple-nodes l i) N))
       ∙ ap₂ (λ (a : List ℕ) (b : List (List ℕ)). largest-of (λ (n : ℕ). n) (zipWith (term-degree (word nodes) D) a b)) (sym multiplicities-are) (sym tuples-are)
@@ -135,13 +135,13 @@ module _ (n : ℕ) (l : Lookups) (nodes degrees : List ℕ) (fit : Fitting l) (a
   exclusive-is x =
       ap₂ (λ (a b : ℕ). max (1 + a) b)
       (greatest-cong (λ k. word nodes (word (l .flags) (F + k)) + word degrees (T + k)) (λ k. word nodes (word (l .flags) (F + k)) + tuple-degree (word nodes) (tuple-nodes l i k)) N
-       (λ k h. ap (λ (d : ℕ). word nodes (word (l .flags) (F + k)) + d) (tuple-at k h))
-       ∙ sym (largest-tab (λ k. word nodes (word (l .flags) (F + k)) + tuple-degree (word nodes) (tuple-nodes l i k)) N)
-       ∙ ap (largest-of (λ (n : ℕ). n)) (sym (zip-tab (λ f t. word nodes f + tuple-degree (word nodes) t) (λ k. word (l .flags) (F + k)) (tuple-nodes l i) N))
-       ∙ ap₂ (λ (a : List ℕ) (b : List (List ℕ)). largest-of (λ (n : ℕ). n) (zipWith (λ f t. word nodes f + tuple-degree (word nodes) t) a b)) (sym (flags-are x)) (sym tuples-are))
+      (λ k h. ap (λ (d : ℕ). word nodes (word (l .flags) (F + k)) + d) (tuple-at k h))
+      ∙ sym (largest-tab (λ k. word nodes (word (l .flags) (F + k)) + tuple-degree (word nodes) (tuple-nodes l i k)) N)
+      ∙ ap (largest-of (λ (n : ℕ). n)) (sym (zip-tab (λ f t. word nodes f + tuple-degree (word nodes) t) (λ k. word (l .flags) (F + k)) (tuple-nodes l i) N))
+      ∙ ap₂ (λ (a : List ℕ) (b : List (List ℕ)). largest-of (λ (n : ℕ). n) (zipWith (λ f t. word nodes f + tuple-degree (word nodes) t) a b)) (sym (flags-are x)) (sym tuples-are))
       (sym (largest-tab (λ k. word nodes (word (l .flags) (F + k)) + word nodes (word (l .multiplicities) (M + k))) N)
-       ∙ ap (largest-of (λ (n : ℕ). n)) (sym (zip-tab (λ f m. word nodes f + word nodes m) (λ k. word (l .flags) (F + k)) (λ k. word (l .multiplicities) (M + k)) N))
-       ∙ ap₂ (λ (a b : List ℕ). largest-of (λ (n : ℕ). n) (zipWith (λ f m. word nodes f + word nodes m) a b)) (sym (flags-are x)) (sym multiplicities-are))
+      ∙ ap (largest-of (λ (n : ℕ). n)) (sym (zip-tab (λ f m. word nodes f + word nodes m) (λ k. word (l .flags) (F + k)) (λ k. word (l .multiplicities) (M + k)) N))
+      ∙ ap₂ (λ (a b : List ℕ). largest-of (λ (n : ℕ). n) (zipWith (λ f m. word nodes f + word nodes m) a b)) (sym (flags-are x)) (sym multiplicities-are))
 
   exclusive-mark : lookup-at l i .exclusive ≡ exclusive (l .lookups) i
   unfolding lookup-at
@@ -153,6 +153,6 @@ module _ (n : ℕ) (l : Lookups) (nodes degrees : List ℕ) (fit : Fitting l) (a
     where
       go : (b : Bool) → exclusive (l .lookups) i ≡ b
           → cond b (exclusive-at nodes degrees (l .lookups) (l .multiplicities) (l .flags) i) (additive-at nodes degrees (l .lookups) (l .multiplicities) i)
-            ≡ cond b (exclusive-degree (word nodes) (lookup-at l i)) (additive-degree (word nodes) (lookup-at l i))
+          ≡ cond b (exclusive-degree (word nodes) (lookup-at l i)) (additive-degree (word nodes) (lookup-at l i))
       go true x = exclusive-is x
       go false x = additive-is

@@ -1,4 +1,4 @@
--- The worked cases c8 to c10 of document 01 and its examples of refusals 6 and 7: one table, one theorem, by computation.
+-- Worked cases c8 to c10 of document 01 and its examples of refusals 6 and 7: one table, one theorem, by computation.
 use mathlib.Core.Path.{_≡_, refl}
 use mathlib.Core.List.{List, [], _∷_, _++_, flatMap, zipWith}
 use Prim.Native.Nat.{ℕ}
@@ -113,33 +113,33 @@ room =
     record { lookups = replicate 40 9; names = replicate 5 9; tuples = replicate 5 9; multiplicities = replicate 5 9; flags = []; elements = replicate 5 9 }
 
 pub cases :
-  -- c8: two additive tuples, all of degree 1: degree 3
-  (degree-of two ≡ degree.Degree 3)
-  -- c9: four exclusive branches likewise: 3
-  × (degree-of four ≡ degree.Degree 3)
-  -- c10: five one-tuple additive lookups of degree 1 on one bus, limit 3: columns of 2, 2, 1; what lies past them is untouched
-  × (packed-with 3 five room .lists
-     ≡ record {
-         lookups = two-two-one ++ replicate 16 9;
-         names = 98 ∷ 98 ∷ 98 ∷ 9 ∷ 9 ∷ [];
-         tuples = replicate 5 1;
-         multiplicities = replicate 5 0;
-         flags = [];
-         elements = replicate 5 0;
-       })
-  -- limit 0: five
-  × (packed-with 0 five room .lists ≡ five)
-  × (packed-with 0 five room .answer
-     ≡ Packed (record { lookups = 40; names = 5; tuples = 5; multiplicities = 5; flags = 0; elements = 5 }))
-  -- a lent list that is too small is 1; two lookups do not fit where five do not merge
-  × (packed-with 0 five two ≡ record { answer = Refused SizeAtOdds; lists = two })
-  -- 6: bus "mem": 2 and 3
-  × (packed-with 3 mem room ≡ record { answer = Refused (WidthsDiffer 1 2 3); lists = room })
-  × (widths-answer cabinet (mem-tables (2 ∷ 3 ∷ [])) ≡ widths.Refused (WidthsDiffer 0 2 3))
-  × (widths-answer cabinet (mem-tables (2 ∷ 2 ∷ [])) ≡ widths.Widest 2)
-  -- 7: weights 4294967295 and 1; a merge that is not kept is none
-  × (packed-with 3 heavy room ≡ record { answer = Refused WeightTooLarge; lists = room })
-  × (packed-with 2 heavy room .answer
-     ≡ Packed (record { lookups = 16; names = 2; tuples = 2; multiplicities = 2; flags = 0; elements = 2 }))
+    -- c8: two additive tuples, all of degree 1: degree 3
+    (degree-of two ≡ degree.Degree 3)
+    -- c9: four exclusive branches likewise: 3
+    × (degree-of four ≡ degree.Degree 3)
+    -- c10: five one-tuple additive lookups of degree 1 on one bus, limit 3: columns of 2, 2, 1; what lies past them is untouched
+    × (packed-with 3 five room .lists
+    ≡ record {
+      lookups = two-two-one ++ replicate 16 9;
+      names = 98 ∷ 98 ∷ 98 ∷ 9 ∷ 9 ∷ [];
+      tuples = replicate 5 1;
+      multiplicities = replicate 5 0;
+      flags = [];
+      elements = replicate 5 0;
+    })
+    -- limit 0: five
+    × (packed-with 0 five room .lists ≡ five)
+    × (packed-with 0 five room .answer
+    ≡ Packed (record { lookups = 40; names = 5; tuples = 5; multiplicities = 5; flags = 0; elements = 5 }))
+    -- a lent list that is too small is 1; two lookups do not fit where five do not merge
+    × (packed-with 0 five two ≡ record { answer = Refused SizeAtOdds; lists = two })
+    -- 6: bus "mem": 2 and 3
+    × (packed-with 3 mem room ≡ record { answer = Refused (WidthsDiffer 1 2 3); lists = room })
+    × (widths-answer cabinet (mem-tables (2 ∷ 3 ∷ [])) ≡ widths.Refused (WidthsDiffer 0 2 3))
+    × (widths-answer cabinet (mem-tables (2 ∷ 2 ∷ [])) ≡ widths.Widest 2)
+    -- 7: weights 4294967295 and 1; a merge that is not kept is none
+    × (packed-with 3 heavy room ≡ record { answer = Refused WeightTooLarge; lists = room })
+    × (packed-with 2 heavy room .answer
+    ≡ Packed (record { lookups = 16; names = 2; tuples = 2; multiplicities = 2; flags = 0; elements = 2 }))
 unfolding total every first tab flatMap zipWith all-below all-within cabinet decode node node-degree degrees nodes-within nodes-fit constants-below nodes-known degrees-low name-start tuple-start multiplicity-start flag-start element-start tuple-width multiplicity-node flag-node tuple-nodes lookup-at lookups-of lookups-within lookups-fit lengths-agree nodes-present lists-agree sum-of largest-of greatest tuple-degree denominator-degree numerator-degree additive-degree exclusive-degree lookup-degree columns-within form-sizes nodes-refusal lists-refusal form-refusal shape-of degree-refusal degree-answer keep position by-place numbers same name-at alone-at same-bus place arranged width-in-lookup width-in-table expected by-bus lookup-refusal table-refusal widths-refusal widest-in-lookup widest-in-table widest size-start table-at tables-of lists-fit table-fits all-fit widths-answer in-order fill filled renumbered packed overweight lookup-words words-of holds columns packing-refusal packing
 cases = (refl, refl, refl, refl, refl, refl, refl, refl, refl, refl, refl)

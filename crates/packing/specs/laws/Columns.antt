@@ -84,7 +84,7 @@ module _ (l : Lookups) where
       go true e = refl
       go false e =
           sym (position-none (λ i. additive-on n (G i)) (numbers N)
-               (rw (numbers-length N) (let h : suc N ≤ K = ltb-false K (suc N) e in omega arith)))
+          (rw (numbers-length N) (let h : suc N ≤ K = ltb-false K (suc N) e in omega arith)))
 
   -- none is lost and none comes in: any sum over the lookups stays
   pub order-sum : (g : Lookup → ℕ) → sum-of g (in-order l) ≡ sum-of g (lookups-of l)
@@ -117,12 +117,13 @@ module _ (l : Lookups) where
   pub order-front : (rest : List Lookup) × (in-order l ≡ keep passes (lookups-of l) ++ rest)
   unfolding in-order arranged
   order-front =
-      let r = by-place-front P N (numbers N) in
-      (map G (r .0),
-       ap (map G) (r .1)
-       ∙ map-append G (keep (λ i. eqb (P i) 0) (numbers N)) (r .0)
-       ∙ ap (λ (x : List Lookup). x ++ map G (r .0))
-         (ap (map G) (keep-cong (λ i. eqb (P i) 0) (λ i. passes (G i)) place-zero (numbers N)) ∙ sym (keep-map passes G (numbers N)) ∙ ap (keep passes) (sym all-lookups)))
+      let r = by-place-front P N (numbers N) in (
+        map G (r .0),
+        ap (map G) (r .1)
+            ∙ map-append G (keep (λ i. eqb (P i) 0) (numbers N)) (r .0)
+            ∙ ap (λ (x : List Lookup). x ++ map G (r .0))
+            (ap (map G) (keep-cong (λ i. eqb (P i) 0) (λ i. passes (G i)) place-zero (numbers N)) ∙ sym (keep-map passes G (numbers N)) ∙ ap (keep passes) (sym all-lookups)),
+      )
 
   map-in : (xs : List ℕ) {x : Lookup} → List·Memᴰ x (map G xs) → (i : ℕ) × List·Memᴰ i xs × (x ≡ G i)
   map-in [] m = elim m [ ]
@@ -263,8 +264,8 @@ unfolding packed
 packed-within deg limit l x m =
     let r = renumbered-in 0 (filled deg limit (in-order l)) x m in
     let s = filled-all (λ (y : Lookup). (lookup-degree deg y ≤ limit) ⊎ ((i : ℕ) × (i < lookup-count (l .lookups)) × (y ≡ lookup-at l i))) deg limit
-              (λ (a b : Lookup) e. inl (leb-true (lookup-degree deg (merged a b)) limit (and-both (on-one-bus a b) (leb (lookup-degree deg (merged a b)) limit) e .1)))
-              (in-order l) (λ (y : Lookup) n. inr (order-in l n)) (r .0) (r .2) in
+    (λ (a b : Lookup) e. inl (leb-true (lookup-degree deg (merged a b)) limit (and-both (on-one-bus a b) (leb (lookup-degree deg (merged a b)) limit) e .1)))
+    (in-order l) (λ (y : Lookup) n. inr (order-in l n)) (r .0) (r .2) in
     go (r .1) (s .0) (r .3 ∙ ap (numbered (r .1)) (s .1)) (s .2)
   where
     go : (j : ℕ) (y : Lookup) → x ≡ numbered j y → (lookup-degree deg y ≤ limit) ⊎ ((i : ℕ) × (i < lookup-count (l .lookups)) × (y ≡ lookup-at l i)) → Lawful deg limit l x

@@ -77,7 +77,8 @@ packing-keeps deg limit l = record {
   others = passed;
   weights = packed-sum (λ (x : Lookup). x .weight) (λ (a b : Lookup). refl) (λ (k : ℕ) (x : Lookup). refl) deg limit l;
   count = packed-sum (λ (x : Lookup). length (x .tuples)) (λ (a b : Lookup). length-append (a .tuples) (b .tuples)) (λ (k : ℕ) (x : Lookup). refl) deg limit l;
-  within = packed-within deg limit l }
+  within = packed-within deg limit l;
+}
   where
     ls : List Lookup
     ls = lookups-of l
@@ -92,11 +93,11 @@ packing-keeps deg limit l = record {
     alone =
         append-cancel-left (keep passes ls) (keep passes (filled deg limit (front .0))) []
         (ap (λ (x : List Lookup). x ++ keep passes (filled deg limit (front .0))) (sym (keep-same passes passes (λ (x : Lookup) e. e) ls))
-         ∙ sym (keep-append passes (keep passes ls) (filled deg limit (front .0)))
-         ∙ ap (keep passes) (sym fills)
-         ∙ filled-keeps-passes deg limit (in-order l)
-         ∙ order-passes l
-         ∙ sym (append-nil (keep passes ls)))
+        ∙ sym (keep-append passes (keep passes ls) (filled deg limit (front .0)))
+        ∙ ap (keep passes) (sym fills)
+        ∙ filled-keeps-passes deg limit (in-order l)
+        ∙ order-passes l
+        ∙ sym (append-nil (keep passes ls)))
 
     passed : (columns : List Lookup) × (packed deg limit l ≡ renumbered 0 (keep passes ls ++ columns)) × (keep passes columns ≡ [])
     passed = (filled deg limit (front .0), unfold packed in ap (renumbered 0) fills, alone)

@@ -71,12 +71,12 @@ top-merged deg a b al =
     let La : ℕ = largest-of (λ (n : ℕ). n) (zipWith (term-degree deg D) (a .multiplicities) (a .tuples)) in
     let Lb : ℕ = largest-of (λ (n : ℕ). n) (zipWith (term-degree deg D) (b .multiplicities) (b .tuples)) in
     let n : numerator-degree deg (merged a b) ≡ max La Lb =
-        ap (largest-of (λ (n : ℕ). n)) (zip-append (term-degree deg D) (a .multiplicities) (b .multiplicities) (a .tuples) (b .tuples) al)
-        ∙ largest-append (zipWith (term-degree deg D) (a .multiplicities) (a .tuples)) (zipWith (term-degree deg D) (b .multiplicities) (b .tuples)) in
+    ap (largest-of (λ (n : ℕ). n)) (zip-append (term-degree deg D) (a .multiplicities) (b .multiplicities) (a .tuples) (b .tuples) al)
+    ∙ largest-append (zipWith (term-degree deg D) (a .multiplicities) (a .tuples)) (zipWith (term-degree deg D) (b .multiplicities) (b .tuples)) in
     let pa : max D La ≡ top-degree deg a + B =
-        ap (λ (x : ℕ). max x (largest-of (λ (n : ℕ). n) (zipWith (term-degree deg x) (a .multiplicities) (a .tuples)))) e ∙ shift deg A B (a .multiplicities) (a .tuples) (let r : A ≤ A = omega arith in r) in
+    ap (λ (x : ℕ). max x (largest-of (λ (n : ℕ). n) (zipWith (term-degree deg x) (a .multiplicities) (a .tuples)))) e ∙ shift deg A B (a .multiplicities) (a .tuples) (let r : A ≤ A = omega arith in r) in
     let pb : max D Lb ≡ top-degree deg b + A =
-        ap (λ (x : ℕ). max x (largest-of (λ (n : ℕ). n) (zipWith (term-degree deg x) (b .multiplicities) (b .tuples)))) e′ ∙ shift deg B A (b .multiplicities) (b .tuples) (let r : B ≤ B = omega arith in r) in
+    ap (λ (x : ℕ). max x (largest-of (λ (n : ℕ). n) (zipWith (term-degree deg x) (b .multiplicities) (b .tuples)))) e′ ∙ shift deg B A (b .multiplicities) (b .tuples) (let r : B ≤ B = omega arith in r) in
     let c : top-degree deg b + A ≡ A + top-degree deg b = native.Mathlib.Nat.add-comm (top-degree deg b) A in
     ap (max D) n ∙ max-parts D La Lb ∙ ap₂ max pa (pb ∙ c)
 

@@ -165,9 +165,10 @@ module _ {A : Type 0} where
   unfolding by-place
   by-place-front f zero xs = ([], sym (append-nil (keep (λ (x : A). eqb (f x) 0) xs)))
   by-place-front f (suc k) xs =
-      let r = by-place-front f k xs in
-      (r .0 ++ keep (λ (x : A). eqb (f x) (suc k)) xs,
-       ap (λ (l : List A). l ++ keep (λ (x : A). eqb (f x) (suc k)) xs) (r .1) ∙ append-assoc (keep (λ (x : A). eqb (f x) 0) xs) (r .0) (keep (λ (x : A). eqb (f x) (suc k)) xs))
+      let r = by-place-front f k xs in (
+        r .0 ++ keep (λ (x : A). eqb (f x) (suc k)) xs,
+        ap (λ (l : List A). l ++ keep (λ (x : A). eqb (f x) (suc k)) xs) (r .1) ∙ append-assoc (keep (λ (x : A). eqb (f x) 0) xs) (r .0) (keep (λ (x : A). eqb (f x) (suc k)) xs),
+      )
 
 -- equal lists
 pub same-eq : (xs ys : List ℕ) → same xs ys ≡ true → xs ≡ ys
