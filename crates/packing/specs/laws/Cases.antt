@@ -1,4 +1,4 @@
--- The worked cases c8 to c10 of document 01 and its examples of refusals 6 and 7: one table, one theorem, by computation.
+-- Worked cases c8 to c10 of document 01 and its examples of refusals 6 and 7: one table, one theorem, by computation.
 use mathlib.Core.Path.{_≡_, refl}
 use mathlib.Core.List.{List, [], _∷_, _++_, flatMap, zipWith}
 use Prim.Native.Nat.{ℕ}
@@ -107,6 +107,18 @@ mem-tables tuples =
 abbrev heavy : Lookups
 heavy = singles (1 ∷ 1 ∷ 4294967295 ∷ 0 ∷ 0 ∷ 1 ∷ 1 ∷ 0 ∷ 1 ∷ 1 ∷ 1 ∷ 1 ∷ 0 ∷ 1 ∷ 1 ∷ 0 ∷ []) 2
 
+-- two exclusive lookups on one bus, of one branch each
+abbrev branches : Lookups
+branches =
+    record {
+      lookups = 1 ∷ 1 ∷ 1 ∷ 0 ∷ 1 ∷ 1 ∷ 1 ∷ 1 ∷ 1 ∷ 1 ∷ 1 ∷ 1 ∷ 1 ∷ 1 ∷ 1 ∷ 1 ∷ [];
+      names = 98 ∷ 98 ∷ [];
+      tuples = 1 ∷ 1 ∷ [];
+      multiplicities = 0 ∷ 0 ∷ [];
+      flags = 0 ∷ 0 ∷ [];
+      elements = 0 ∷ 0 ∷ [];
+    }
+
 -- lent lists with room for five lookups, all 9
 abbrev room : Lookups
 room =
@@ -131,6 +143,11 @@ pub cases :
     × (packed-with 0 five room .lists ≡ five)
     × (packed-with 0 five room .answer
     ≡ Packed (record { lookups = 40; names = 5; tuples = 5; multiplicities = 5; flags = 0; elements = 5 }))
+<<<<<<< HEAD
+=======
+    -- exclusives share no column, whatever the limit
+    × (packed-with 9 branches branches .lists ≡ branches)
+>>>>>>> 330944d
     -- a lent list that is too small is 1; two lookups do not fit where five do not merge
     × (packed-with 0 five two ≡ record { answer = Refused SizeAtOdds; lists = two })
     -- 6: bus "mem": 2 and 3
@@ -142,4 +159,4 @@ pub cases :
     × (packed-with 2 heavy room .answer
     ≡ Packed (record { lookups = 16; names = 2; tuples = 2; multiplicities = 2; flags = 0; elements = 2 }))
 unfolding total every first tab flatMap zipWith all-below all-within cabinet decode node node-degree degrees nodes-within nodes-fit constants-below nodes-known degrees-low name-start tuple-start multiplicity-start flag-start element-start tuple-width multiplicity-node flag-node tuple-nodes lookup-at lookups-of lookups-within lookups-fit lengths-agree nodes-present lists-agree sum-of largest-of greatest tuple-degree denominator-degree numerator-degree additive-degree exclusive-degree lookup-degree columns-within form-sizes nodes-refusal lists-refusal form-refusal shape-of degree-refusal degree-answer keep position by-place numbers same name-at alone-at same-bus place arranged width-in-lookup width-in-table expected by-bus lookup-refusal table-refusal widths-refusal widest-in-lookup widest-in-table widest size-start table-at tables-of lists-fit table-fits all-fit widths-answer in-order fill filled renumbered packed overweight lookup-words words-of holds columns packing-refusal packing
-cases = (refl, refl, refl, refl, refl, refl, refl, refl, refl, refl, refl)
+cases = (refl, refl, refl, refl, refl, refl, refl, refl, refl, refl, refl, refl)

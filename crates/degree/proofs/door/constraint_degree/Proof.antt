@@ -6,20 +6,13 @@ use mathlib.Core.Path.{_∙_, ap}
 use borrow.Author.Needs.{needs}
 use Rattle.degree.proofs.door.constraint_degree.Statement.{statement}
 use Rattle.degree.proofs.door.constraint_degree.Tie as tie
-use Rattle.degree.proofs.door.constraint_degree.Reads as reads
-use Rattle.degree.proofs.door.constraint_degree.Lts as lts
-use Rattle.degree.proofs.door.degree_within.Reads as degree-within-reads
-use Rattle.expression.proofs.sizes.cabinet.Reads as cabinet-reads
 
--- src/door.rt:112:9
 cabinet-requires : tie.Need-cabinet-requires
 cabinet-requires c κs = search needs
 
--- src/door.rt:111:5
 degree-within-requires : tie.Need-degree-within-requires
 degree-within-requires c κs = rw (c .cabinet .ensures) cabinet-sane
 
--- src/door.rt:97:1
 returns : tie.Need-returns
 returns c = c .degree-within .ensures ∙ ap (λ (m : Limits). degree-answer m 2013265921 (c .before .before .before .before .before .before .before .before .before .args .columns) (c .before .before .before .before .before .before .before .before .before .args .nodes .now) (lent-lookups (c .before .before .before .before .before .before .before .before .before .args .lookups .now) (c .before .before .before .before .before .before .before .before .before .args .names .now) (c .before .before .before .before .before .before .before .before .before .args .tuples .now) (c .before .before .before .before .before .before .before .before .before .args .multiplicities .now) (c .before .before .before .before .before .before .before .before .before .args .flags .now) (c .before .before .before .before .before .before .before .before .before .args .elements .now)) (c .before .before .before .before .before .before .before .before .before .args .i) (c .before .before .before .before .before .before .before .before .before .args .t)) (c .before .cabinet .ensures)
 

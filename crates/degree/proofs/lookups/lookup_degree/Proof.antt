@@ -3,30 +3,20 @@ use mathlib.Core.Path.{_∙_, sym}
 use borrow.Author.Needs.{needs}
 use Rattle.degree.proofs.lookups.lookup_degree.Statement.{statement}
 use Rattle.degree.proofs.lookups.lookup_degree.Tie as tie
-use Rattle.degree.proofs.lookups.lookup_degree.Reads as reads
-use Rattle.degree.proofs.lookups.lookup_degree.Lts as lts
-use Rattle.degree.proofs.lookups.additive_degree.Reads as additive-degree-reads
-use Rattle.degree.proofs.lookups.exclusive_degree.Reads as exclusive-degree-reads
-use Rattle.lookup.proofs.types.exclusive.Reads as exclusive-reads
 
--- src/lookups.rt:78:8
 exclusive-requires : tie.Need-exclusive-requires
 exclusive-requires c κs = search needs
 
--- src/lookups.rt:79:9
 exclusive-degree-requires : tie.Need-exclusive-degree-requires
 exclusive-degree-requires c κs = search needs
 
--- src/lookups.rt:81:9
 additive-degree-requires : tie.Need-additive-degree-requires
 additive-degree-requires c κs = search needs
 
--- src/lookups.rt:67:1
 returns : tie.Need-returns
 unfolding lookup-degree-at
 returns c = rw (sym (c .before .before .exclusive .ensures) ∙ c .before .if1 .taken) (c .exclusive-degree .ensures)
 
--- src/lookups.rt:67:1
 returns-2 : tie.Need-returns-2
 unfolding lookup-degree-at
 returns-2 c = rw (sym (c .before .before .exclusive .ensures) ∙ c .before .if1 .left) (c .additive-degree .ensures)

@@ -8,40 +8,25 @@ use mathlib.Core.Path.{_∙_, ap, ap₂, sym}
 use borrow.Author.Needs.{needs}
 use Rattle.degree.proofs.lookups.numerator_of.Statement.{statement}
 use Rattle.degree.proofs.lookups.numerator_of.Tie as tie
-use Rattle.degree.proofs.lookups.numerator_of.Reads as reads
-use Rattle.degree.proofs.lookups.numerator_of.Lts as lts
-use Rattle.degree.proofs.lookups.denominator_of.Reads as denominator-of-reads
-use Rattle.degree.proofs.starts.multiplicity_start.Reads as multiplicity-start-reads
-use Rattle.degree.proofs.starts.tuple_start.Reads as tuple-start-reads
-use Rattle.degree.proofs.sums.numerator.Reads as numerator-reads
-use Rattle.expression.proofs.words.index.Reads as index-reads
-use Rattle.lookup.proofs.types.tuple_count.Reads as tuple-count-reads
 
--- src/lookups.rt:30:9
 tuple-start-requires : tie.Need-tuple-start-requires
 tuple-start-requires c κs = search needs
 
--- src/lookups.rt:31:9
 multiplicity-start-requires : tie.Need-multiplicity-start-requires
 multiplicity-start-requires c κs = search needs
 
--- src/lookups.rt:32:19
 tuple-count-requires : tie.Need-tuple-count-requires
 tuple-count-requires c κs = search needs
 
--- src/lookups.rt:32:9
 index-requires : tie.Need-index-requires
 index-requires c κs = search needs
 
--- src/lookups.rt:33:9
 denominator-of-requires : tie.Need-denominator-of-requires
 denominator-of-requires c κs = search needs
 
--- src/lookups.rt:34:5
 numerator-requires : tie.Need-numerator-requires
 numerator-requires c κs = numerator-asks (c .before .before .before .before .before .before .before .before .before .args .tuples .now) (c .before .before .before .before .before .before .before .before .before .args .lookups .now) (c .before .before .before .before .before .before .before .before .before .args .i) (c .before .before .before .before .before .before .before .before .before .pre) (c .before .before .before .before .tuple-start .ensures .0) (c .before .before .before .multiplicity-start .ensures .0) (c .before .index .ensures .0 ∙ c .before .before .tuple-count .ensures) (c .denominator-of .ensures)
 
--- src/lookups.rt:26:1
 returns : tie.Need-returns
 returns c = numerator-is (c .before .before .before .before .before .before .before .before .before .before .args .nodes .now) (c .before .before .before .before .before .before .before .before .before .before .args .tuples .now) (c .before .before .before .before .before .before .before .before .before .before .args .lookups .now) (c .before .before .before .before .before .before .before .before .before .before .args .multiplicities .now) (c .before .before .before .before .before .before .before .before .before .before .args .i) (c .before .before .before .before .before .tuple-start .ensures .0) (c .before .before .before .before .multiplicity-start .ensures .0) (c .before .before .index .ensures .0 ∙ c .before .before .before .tuple-count .ensures) (c .before .denominator-of .ensures .0) (c .numerator .ensures)
 

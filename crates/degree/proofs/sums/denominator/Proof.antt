@@ -6,10 +6,6 @@ use mathlib.Core.Path.{_∙_}
 use borrow.Author.Needs.{needs}
 use Rattle.degree.proofs.sums.denominator.Statement.{statement}
 use Rattle.degree.proofs.sums.denominator.Tie as tie
-use Rattle.degree.proofs.sums.denominator.Reads as reads
-use Rattle.degree.proofs.sums.denominator.Lts as lts
-use Rattle.degree.proofs.tuples.word_at.Reads as word-at-reads
-use Rattle.expression.proofs.words.wide.Reads as wide-reads
 
 abbrev Inv-loop : tie.InvT-loop
 Inv-loop degrees first n sum₀ k₀ sum k = Summing (λ k. word degrees (first + k)) 4294967295 n k sum
@@ -17,39 +13,30 @@ Inv-loop degrees first n sum₀ k₀ sum k = Summing (λ k. word degrees (first 
 abbrev μ-loop : tie.MeasureT-loop
 μ-loop degrees first n sum₀ k₀ sum k = n - k
 
--- src/sums.rt:24:5
 loop-holds : tie.Need-loop-holds Inv-loop μ-loop
 loop-holds c = sum-begins
 
--- src/sums.rt:25:39
 add-word-at : tie.Need-add-word-at Inv-loop μ-loop
 add-word-at c = search needs
 
--- src/sums.rt:25:22
 word-at-requires : tie.Need-word-at-requires Inv-loop μ-loop
 word-at-requires c κs = search needs
 
--- src/sums.rt:25:13
 wide-requires : tie.Need-wide-requires Inv-loop μ-loop
 wide-requires c κs = search needs
 
--- src/sums.rt:26:15
 add-sum : tie.Need-add-sum Inv-loop μ-loop
 add-sum c = search needs
 
--- src/sums.rt:27:9
 add-k : tie.Need-add-k Inv-loop μ-loop
 add-k c = search needs
 
--- src/sums.rt:24:5
 loop-less : tie.Need-loop-less Inv-loop μ-loop
 loop-less c = search needs
 
--- src/sums.rt:24:5
 loop-again : tie.Need-loop-again Inv-loop μ-loop
 loop-again c = sum-turn (c .wide .result) (c .before .before .before .loop .inv) (search needs) (c .wide .ensures .1) (c .wide .ensures .0 ∙ c .before .word-at .ensures)
 
--- src/sums.rt:18:1
 returns : tie.Need-returns Inv-loop μ-loop
 returns c = (sum-ends (c .before .loop .inv) (search needs), omega (arith, c .before .loop .inv .small, c .before .loop .inv .within))
 

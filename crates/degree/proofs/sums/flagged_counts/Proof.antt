@@ -6,12 +6,6 @@ use mathlib.Core.Path.{_∙_, ap, ap₂}
 use borrow.Author.Needs.{needs}
 use Rattle.degree.proofs.sums.flagged_counts.Statement.{statement}
 use Rattle.degree.proofs.sums.flagged_counts.Tie as tie
-use Rattle.degree.proofs.sums.flagged_counts.Reads as reads
-use Rattle.degree.proofs.sums.flagged_counts.Lts as lts
-use Rattle.degree.proofs.sums.largest.Reads as largest-reads
-use Rattle.degree.proofs.tuples.word_at.Reads as word-at-reads
-use Rattle.expression.proofs.words.index.Reads as index-reads
-use Rattle.expression.proofs.words.wide.Reads as wide-reads
 
 abbrev Inv-loop : tie.InvT-loop
 Inv-loop nodes flags start multiplicities first n top₀ k₀ top k = Rising (λ k. word nodes (word flags (start + k)) + word nodes (word multiplicities (first + k))) n k top
@@ -19,71 +13,54 @@ Inv-loop nodes flags start multiplicities first n top₀ k₀ top k = Rising (λ
 abbrev μ-loop : tie.MeasureT-loop
 μ-loop nodes flags start multiplicities first n top₀ k₀ top k = n - k
 
--- src/sums.rt:95:5
 loop-holds : tie.Need-loop-holds Inv-loop μ-loop
 loop-holds c = rise-begins
 
--- src/sums.rt:96:67
 add-word-at : tie.Need-add-word-at Inv-loop μ-loop
 add-word-at c = search needs
 
--- src/sums.rt:96:43
 word-at-requires : tie.Need-word-at-requires Inv-loop μ-loop
 word-at-requires c κs = search needs
 
--- src/sums.rt:96:37
 index-requires : tie.Need-index-requires Inv-loop μ-loop
 index-requires c κs = search needs
 
--- src/sums.rt:96:22
 word-at-requires-2 : tie.Need-word-at-requires-2 Inv-loop μ-loop
 word-at-requires-2 c κs = search needs
 
--- src/sums.rt:96:13
 wide-requires : tie.Need-wide-requires Inv-loop μ-loop
 wide-requires c κs = search needs
 
--- src/sums.rt:97:58
 add-word-at-2 : tie.Need-add-word-at-2 Inv-loop μ-loop
 add-word-at-2 c = search needs
 
--- src/sums.rt:97:43
 word-at-requires-3 : tie.Need-word-at-requires-3 Inv-loop μ-loop
 word-at-requires-3 c κs = search needs
 
--- src/sums.rt:97:37
 index-requires-2 : tie.Need-index-requires-2 Inv-loop μ-loop
 index-requires-2 c κs = search needs
 
--- src/sums.rt:97:22
 word-at-requires-4 : tie.Need-word-at-requires-4 Inv-loop μ-loop
 word-at-requires-4 c κs = search needs
 
--- src/sums.rt:97:13
 wide-requires-2 : tie.Need-wide-requires-2 Inv-loop μ-loop
 wide-requires-2 c κs = search needs
 
--- src/sums.rt:98:30
 add-largest : tie.Need-add-largest Inv-loop μ-loop
 add-largest c = search needs
 
--- src/sums.rt:98:13
 largest-requires : tie.Need-largest-requires Inv-loop μ-loop
 largest-requires c κs = search needs
 
--- src/sums.rt:100:9
 add-k : tie.Need-add-k Inv-loop μ-loop
 add-k c = search needs
 
--- src/sums.rt:95:5
 loop-less : tie.Need-loop-less Inv-loop μ-loop
 loop-less c = search needs
 
--- src/sums.rt:95:5
 loop-again : tie.Need-loop-again Inv-loop μ-loop
 loop-again c = rise-turn _ (c .before .before .before .before .before .before .before .before .before .before .loop .inv) (search needs) (c .largest .ensures) (ap₂ _+_ (c .before .wide2 .ensures .0 ∙ c .before .before .word-at4 .ensures ∙ ap (word (c .before .before .before .before .before .before .before .before .before .before .before .before .before .before .args .nodes .now)) (c .before .before .before .index2 .ensures .0 ∙ c .before .before .before .before .word-at3 .ensures)) (c .before .before .before .before .before .wide .ensures .0 ∙ c .before .before .before .before .before .before .word-at2 .ensures ∙ ap (word (c .before .before .before .before .before .before .before .before .before .before .before .before .before .before .args .nodes .now)) (c .before .before .before .before .before .before .before .index .ensures .0 ∙ c .before .before .before .before .before .before .before .before .word-at .ensures)))
 
--- src/sums.rt:82:1
 returns : tie.Need-returns Inv-loop μ-loop
 returns c = rise-ends (c .before .loop .inv) (search needs)
 

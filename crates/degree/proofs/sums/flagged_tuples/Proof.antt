@@ -6,12 +6,6 @@ use mathlib.Core.Path.{_∙_, ap, ap₂}
 use borrow.Author.Needs.{needs}
 use Rattle.degree.proofs.sums.flagged_tuples.Statement.{statement}
 use Rattle.degree.proofs.sums.flagged_tuples.Tie as tie
-use Rattle.degree.proofs.sums.flagged_tuples.Reads as reads
-use Rattle.degree.proofs.sums.flagged_tuples.Lts as lts
-use Rattle.degree.proofs.sums.largest.Reads as largest-reads
-use Rattle.degree.proofs.tuples.word_at.Reads as word-at-reads
-use Rattle.expression.proofs.words.index.Reads as index-reads
-use Rattle.expression.proofs.words.wide.Reads as wide-reads
 
 abbrev Inv-loop : tie.InvT-loop
 Inv-loop nodes flags start degrees first n top₀ k₀ top k = Rising (λ k. word nodes (word flags (start + k)) + word degrees (first + k)) n k top × (top ≤ 8589934590)
@@ -19,63 +13,48 @@ Inv-loop nodes flags start degrees first n top₀ k₀ top k = Rising (λ k. wor
 abbrev μ-loop : tie.MeasureT-loop
 μ-loop nodes flags start degrees first n top₀ k₀ top k = n - k
 
--- src/sums.rt:71:5
 loop-holds : tie.Need-loop-holds Inv-loop μ-loop
 loop-holds c = (rise-begins, search needs)
 
--- src/sums.rt:72:39
 add-word-at : tie.Need-add-word-at Inv-loop μ-loop
 add-word-at c = search needs
 
--- src/sums.rt:72:22
 word-at-requires : tie.Need-word-at-requires Inv-loop μ-loop
 word-at-requires c κs = search needs
 
--- src/sums.rt:72:13
 wide-requires : tie.Need-wide-requires Inv-loop μ-loop
 wide-requires c κs = search needs
 
--- src/sums.rt:73:58
 add-word-at-2 : tie.Need-add-word-at-2 Inv-loop μ-loop
 add-word-at-2 c = search needs
 
--- src/sums.rt:73:43
 word-at-requires-2 : tie.Need-word-at-requires-2 Inv-loop μ-loop
 word-at-requires-2 c κs = search needs
 
--- src/sums.rt:73:37
 index-requires : tie.Need-index-requires Inv-loop μ-loop
 index-requires c κs = search needs
 
--- src/sums.rt:73:22
 word-at-requires-3 : tie.Need-word-at-requires-3 Inv-loop μ-loop
 word-at-requires-3 c κs = search needs
 
--- src/sums.rt:73:13
 wide-requires-2 : tie.Need-wide-requires-2 Inv-loop μ-loop
 wide-requires-2 c κs = search needs
 
--- src/sums.rt:74:30
 add-largest : tie.Need-add-largest Inv-loop μ-loop
 add-largest c = search needs
 
--- src/sums.rt:74:13
 largest-requires : tie.Need-largest-requires Inv-loop μ-loop
 largest-requires c κs = search needs
 
--- src/sums.rt:76:9
 add-k : tie.Need-add-k Inv-loop μ-loop
 add-k c = search needs
 
--- src/sums.rt:71:5
 loop-less : tie.Need-loop-less Inv-loop μ-loop
 loop-less c = search needs
 
--- src/sums.rt:71:5
 loop-again : tie.Need-loop-again Inv-loop μ-loop
 loop-again c = (rise-turn _ (c .before .before .before .before .before .before .before .before .loop .inv .0) (search needs) (c .largest .ensures) (ap₂ _+_ (c .before .wide2 .ensures .0 ∙ c .before .before .word-at3 .ensures ∙ ap (word (c .before .before .before .before .before .before .before .before .before .before .before .before .args .nodes .now)) (c .before .before .before .index .ensures .0 ∙ c .before .before .before .before .word-at2 .ensures)) (c .before .before .before .before .before .wide .ensures .0 ∙ c .before .before .before .before .before .before .word-at .ensures)), omega (arith, c .largest .ensures, c .before .before .before .before .before .before .before .before .loop .inv .1, c .before .wide2 .ensures .1, c .before .before .before .before .before .wide .ensures .1))
 
--- src/sums.rt:58:1
 returns : tie.Need-returns Inv-loop μ-loop
 returns c = (rise-ends (c .before .loop .inv .0) (search needs), c .before .loop .inv .1)
 

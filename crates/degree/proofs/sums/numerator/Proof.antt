@@ -7,12 +7,6 @@ use mathlib.Core.Path.{_∙_, ap, ap₂}
 use borrow.Author.Needs.{needs}
 use Rattle.degree.proofs.sums.numerator.Statement.{statement}
 use Rattle.degree.proofs.sums.numerator.Tie as tie
-use Rattle.degree.proofs.sums.numerator.Reads as reads
-use Rattle.degree.proofs.sums.numerator.Lts as lts
-use Rattle.degree.proofs.sums.largest.Reads as largest-reads
-use Rattle.degree.proofs.tuples.word_at.Reads as word-at-reads
-use Rattle.expression.proofs.words.index.Reads as index-reads
-use Rattle.expression.proofs.words.wide.Reads as wide-reads
 
 abbrev Inv-loop : tie.InvT-loop
 Inv-loop nodes multiplicities start degrees first n sum top₀ k₀ top k = Rising (λ k. word nodes (word multiplicities (start + k)) + (sum - word degrees (first + k))) n k top
@@ -20,67 +14,51 @@ Inv-loop nodes multiplicities start degrees first n sum top₀ k₀ top k = Risi
 abbrev μ-loop : tie.MeasureT-loop
 μ-loop nodes multiplicities start degrees first n sum top₀ k₀ top k = n - k
 
--- src/sums.rt:47:5
 loop-holds : tie.Need-loop-holds Inv-loop μ-loop
 loop-holds c = rise-begins
 
--- src/sums.rt:48:39
 add-word-at : tie.Need-add-word-at Inv-loop μ-loop
 add-word-at c = search needs
 
--- src/sums.rt:48:22
 word-at-requires : tie.Need-word-at-requires Inv-loop μ-loop
 word-at-requires c κs = search needs
 
--- src/sums.rt:48:13
 wide-requires : tie.Need-wide-requires Inv-loop μ-loop
 wide-requires c κs = search needs
 
--- src/sums.rt:49:67
 add-word-at-2 : tie.Need-add-word-at-2 Inv-loop μ-loop
 add-word-at-2 c = search needs
 
--- src/sums.rt:49:43
 word-at-requires-2 : tie.Need-word-at-requires-2 Inv-loop μ-loop
 word-at-requires-2 c κs = search needs
 
--- src/sums.rt:49:37
 index-requires : tie.Need-index-requires Inv-loop μ-loop
 index-requires c κs = search needs
 
--- src/sums.rt:49:22
 word-at-requires-3 : tie.Need-word-at-requires-3 Inv-loop μ-loop
 word-at-requires-3 c κs = search needs
 
--- src/sums.rt:49:13
 wide-requires-2 : tie.Need-wide-requires-2 Inv-loop μ-loop
 wide-requires-2 c κs = search needs
 
--- src/sums.rt:50:35
 sub-largest : tie.Need-sub-largest Inv-loop μ-loop
 sub-largest c = omega (arith, one-of (λ k. word (c .before .before .before .before .before .before .before .before .before .before .before .args .degrees .now) (c .before .before .before .before .before .before .before .before .before .before .before .args .first + k)) (c .before .before .before .before .before .before .before .before .before .before .before .args .n) (c .before .before .before .before .before .before .before .loop .k) (c .before .before .before .before .before .before .before .before .before .before .before .args .sum) (c .before .before .before .before .before .before .before .before .before .before .before .pre .4) (c .before .before .before .before .before .before .loop-test .taken) (c .before .before .before .before .wide .ensures .0 ∙ c .before .before .before .before .before .word-at .ensures))
 
--- src/sums.rt:50:30
 add-largest : tie.Need-add-largest Inv-loop μ-loop
 add-largest c = search needs
 
--- src/sums.rt:50:13
 largest-requires : tie.Need-largest-requires Inv-loop μ-loop
 largest-requires c κs = search needs
 
--- src/sums.rt:52:9
 add-k : tie.Need-add-k Inv-loop μ-loop
 add-k c = search needs
 
--- src/sums.rt:47:5
 loop-less : tie.Need-loop-less Inv-loop μ-loop
 loop-less c = search needs
 
--- src/sums.rt:47:5
 loop-again : tie.Need-loop-again Inv-loop μ-loop
 loop-again c = rise-turn _ (c .before .before .before .before .before .before .before .before .loop .inv) (search needs) (c .largest .ensures) (ap₂ (λ (x y : ℕ). x + (c .before .before .before .before .before .before .before .before .before .before .before .before .args .sum - y)) (c .before .wide2 .ensures .0 ∙ c .before .before .word-at3 .ensures ∙ ap (word (c .before .before .before .before .before .before .before .before .before .before .before .before .args .nodes .now)) (c .before .before .before .index .ensures .0 ∙ c .before .before .before .before .word-at2 .ensures)) (c .before .before .before .before .before .wide .ensures .0 ∙ c .before .before .before .before .before .before .word-at .ensures))
 
--- src/sums.rt:33:1
 returns : tie.Need-returns Inv-loop μ-loop
 returns c = rise-ends (c .before .loop .inv) (search needs)
 

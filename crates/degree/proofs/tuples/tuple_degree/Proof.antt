@@ -5,11 +5,6 @@ use Prim.Native.Nat.{_-_}
 use borrow.Author.Needs.{needs}
 use Rattle.degree.proofs.tuples.tuple_degree.Statement.{statement}
 use Rattle.degree.proofs.tuples.tuple_degree.Tie as tie
-use Rattle.degree.proofs.tuples.tuple_degree.Reads as reads
-use Rattle.degree.proofs.tuples.tuple_degree.Lts as lts
-use Rattle.degree.proofs.tuples.larger.Reads as larger-reads
-use Rattle.degree.proofs.tuples.word_at.Reads as word-at-reads
-use Rattle.expression.proofs.words.index.Reads as index-reads
 
 abbrev Inv-loop : tie.InvT-loop
 Inv-loop degrees nodes top₀ i₀ top i = Topping (word degrees) nodes i top
@@ -17,43 +12,33 @@ Inv-loop degrees nodes top₀ i₀ top i = Topping (word degrees) nodes i top
 abbrev μ-loop : tie.MeasureT-loop
 μ-loop degrees nodes top₀ i₀ top i = length nodes - i
 
--- src/tuples.rt:32:5
 loop-holds : tie.Need-loop-holds Inv-loop μ-loop
 loop-holds c = topping-begins
 
--- src/tuples.rt:33:40
 mul-index : tie.Need-mul-index Inv-loop μ-loop
 mul-index c = search needs
 
--- src/tuples.rt:33:40
 shared-slice-read-index : tie.Need-shared-slice-read-index Inv-loop μ-loop
 shared-slice-read-index c = search needs
 
--- src/tuples.rt:33:34
 index-requires : tie.Need-index-requires Inv-loop μ-loop
 index-requires c κs = search needs
 
--- src/tuples.rt:33:13
 word-at-requires : tie.Need-word-at-requires Inv-loop μ-loop
 word-at-requires c κs = search needs
 
--- src/tuples.rt:34:13
 larger-requires : tie.Need-larger-requires Inv-loop μ-loop
 larger-requires c κs = search needs
 
--- src/tuples.rt:36:9
 add-i : tie.Need-add-i Inv-loop μ-loop
 add-i c = search needs
 
--- src/tuples.rt:32:5
 loop-less : tie.Need-loop-less Inv-loop μ-loop
 loop-less c = search needs
 
--- src/tuples.rt:32:5
 loop-again : tie.Need-loop-again Inv-loop μ-loop
 loop-again c = topping-turn (c .before .before .before .before .before .loop .inv) (search needs) (c .before .before .index .ensures .0) (c .before .word-at .ensures) (c .larger .ensures)
 
--- src/tuples.rt:27:1
 returns : tie.Need-returns Inv-loop μ-loop
 returns c = topping-ends (c .before .loop .inv) (search needs)
 

@@ -6,20 +6,13 @@ use mathlib.Core.Path.{_∙_, ap}
 use borrow.Author.Needs.{needs}
 use Rattle.widths.proofs.door.check_bus_widths.Statement.{statement}
 use Rattle.widths.proofs.door.check_bus_widths.Tie as tie
-use Rattle.widths.proofs.door.check_bus_widths.Reads as reads
-use Rattle.widths.proofs.door.check_bus_widths.Lts as lts
-use Rattle.expression.proofs.sizes.cabinet.Reads as cabinet-reads
-use Rattle.widths.proofs.door.widths_within.Reads as widths-within-reads
 
--- src/door.rt:107:9
 cabinet-requires : tie.Need-cabinet-requires
 cabinet-requires c κs = search needs
 
--- src/door.rt:108:5
 widths-within-requires : tie.Need-widths-within-requires
 widths-within-requires c κs = rw (c .cabinet .ensures) cabinet-sane
 
--- src/door.rt:104:1
 returns : tie.Need-returns
 returns c = c .widths-within .ensures ∙ ap (λ (m : Limits). widths-answer m (lent-lists (c .before .before .before .before .before .before .args .lookups .now) (c .before .before .before .before .before .before .args .names .now) (c .before .before .before .before .before .before .args .tuples .now) (c .before .before .before .before .before .before .args .sizes .now))) (c .before .cabinet .ensures)
 

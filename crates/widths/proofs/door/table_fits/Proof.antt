@@ -6,29 +6,19 @@ use mathlib.Core.Path.{_∙_, sym}
 use borrow.Author.Needs.{needs}
 use Rattle.widths.proofs.door.table_fits.Statement.{statement}
 use Rattle.widths.proofs.door.table_fits.Tie as tie
-use Rattle.widths.proofs.door.table_fits.Reads as reads
-use Rattle.widths.proofs.door.table_fits.Lts as lts
-use Rattle.lookup.proofs.tests.lookups_within.Reads as lookups-within-reads
-use Rattle.degree.proofs.starts.name_start.Reads as name-start-reads
-use Rattle.degree.proofs.starts.tuple_start.Reads as tuple-start-reads
 
--- src/door.rt:46:8
 lookups-within-requires : tie.Need-lookups-within-requires
 lookups-within-requires c κs = search needs
 
--- src/door.rt:48:25
 name-start-requires : tie.Need-name-start-requires
 name-start-requires c κs = (search needs, lookups-few (c .before .before .before .before .before .args .limits) (c .before .before .before .before .before .args .lookups .now) (c .before .before .before .before .before .args .tuples .now) (c .before .before .before .before .before .pre) (sym (c .before .lookups-within .ensures) ∙ c .if1 .taken) .0)
 
--- src/door.rt:48:68
 tuple-start-requires : tie.Need-tuple-start-requires
 tuple-start-requires c κs = (search needs, lookups-few (c .before .before .before .before .before .before .args .limits) (c .before .before .before .before .before .before .args .lookups .now) (c .before .before .before .before .before .before .args .tuples .now) (c .before .before .before .before .before .before .pre) (sym (c .before .before .lookups-within .ensures) ∙ c .before .if1 .taken) .0)
 
--- src/door.rt:42:1
 returns : tie.Need-returns
 returns c = table-yes (c .before .before .before .before .before .before .before .args .limits) (bare (c .before .before .before .before .before .before .before .args .lookups .now) (c .before .before .before .before .before .before .before .args .names .now) (c .before .before .before .before .before .before .before .args .tuples .now)) (c .before .before .before .lookups-within .ensures) (c .before .before .if1 .taken) (c .before .name-start .ensures .0) (c .tuple-start .ensures .0)
 
--- src/door.rt:42:1
 returns-2 : tie.Need-returns-2
 returns-2 c = table-no (c .before .before .before .before .before .args .limits) (bare (c .before .before .before .before .before .args .lookups .now) (c .before .before .before .before .before .args .names .now) (c .before .before .before .before .before .args .tuples .now)) (c .before .lookups-within .ensures) (c .if1 .left)
 

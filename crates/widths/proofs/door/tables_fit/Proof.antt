@@ -9,10 +9,6 @@ use Prim.Native.Nat.{_-_}
 use borrow.Author.Needs.{needs}
 use Rattle.widths.proofs.door.tables_fit.Statement.{statement}
 use Rattle.widths.proofs.door.tables_fit.Tie as tie
-use Rattle.widths.proofs.door.tables_fit.Reads as reads
-use Rattle.widths.proofs.door.tables_fit.Lts as lts
-use Rattle.widths.proofs.door.table_fits.Reads as table-fits-reads
-use Rattle.widths.proofs.spans.spans_of.Reads as spans-of-reads
 
 abbrev Inv-loop : tie.InvT-loop
 Inv-loop limits lookups names tuples sizes n ok₀ t₀ ok t = Testing (λ t. table-fits limits (table-at (lent-lists lookups names tuples sizes) t)) (table-count sizes) t ok
@@ -20,75 +16,57 @@ Inv-loop limits lookups names tuples sizes n ok₀ t₀ ok t = Testing (λ t. ta
 abbrev μ-loop : tie.MeasureT-loop
 μ-loop limits lookups names tuples sizes n ok₀ t₀ ok t = table-count sizes - t
 
--- src/door.rt:62:5
 loop-holds : tie.Need-loop-holds Inv-loop μ-loop
 loop-holds c = test-begins
 
--- src/door.rt:63:13
 spans-of-requires : tie.Need-spans-of-requires Inv-loop μ-loop
 spans-of-requires c κs = search needs
 
--- src/door.rt:70:38
 mul-table-fits : tie.Need-mul-table-fits Inv-loop μ-loop
 mul-table-fits c = omega (arith, lies (c .before .before .before .before .before .before .before .pre .1) (c .before .loop-test .taken) (c .spans-of .ensures) .lookups, lies (c .before .before .before .before .before .before .before .pre .1) (c .before .loop-test .taken) (c .spans-of .ensures) .lookups-end)
 
--- src/door.rt:70:38
 sub-table-fits : tie.Need-sub-table-fits Inv-loop μ-loop
 sub-table-fits c = lies (c .before .before .before .before .before .before .before .pre .1) (c .before .loop-test .taken) (c .spans-of .ensures) .lookups
 
--- src/door.rt:70:38
 part-table-fits-start : tie.Need-part-table-fits-start Inv-loop μ-loop
 part-table-fits-start c = lies (c .before .before .before .before .before .before .before .pre .1) (c .before .loop-test .taken) (c .spans-of .ensures) .lookups
 
--- src/door.rt:70:38
 part-table-fits-end : tie.Need-part-table-fits-end Inv-loop μ-loop
 part-table-fits-end c = lies (c .before .before .before .before .before .before .before .pre .1) (c .before .loop-test .taken) (c .spans-of .ensures) .lookups-end
 
--- src/door.rt:70:54
 sub-table-fits-2 : tie.Need-sub-table-fits-2 Inv-loop μ-loop
 sub-table-fits-2 c = lies (c .before .before .before .before .before .before .before .before .pre .1) (c .before .before .loop-test .taken) (c .before .spans-of .ensures) .names
 
--- src/door.rt:70:54
 part-table-fits-start-2 : tie.Need-part-table-fits-start-2 Inv-loop μ-loop
 part-table-fits-start-2 c = lies (c .before .before .before .before .before .before .before .before .pre .1) (c .before .before .loop-test .taken) (c .before .spans-of .ensures) .names
 
--- src/door.rt:70:54
 part-table-fits-end-2 : tie.Need-part-table-fits-end-2 Inv-loop μ-loop
 part-table-fits-end-2 c = lies (c .before .before .before .before .before .before .before .before .pre .1) (c .before .before .loop-test .taken) (c .before .spans-of .ensures) .names-end
 
--- src/door.rt:70:68
 mul-table-fits-2 : tie.Need-mul-table-fits-2 Inv-loop μ-loop
 mul-table-fits-2 c = omega (arith, lies (c .before .before .before .before .before .before .before .before .before .pre .1) (c .before .before .before .loop-test .taken) (c .before .before .spans-of .ensures) .tuples, lies (c .before .before .before .before .before .before .before .before .before .pre .1) (c .before .before .before .loop-test .taken) (c .before .before .spans-of .ensures) .tuples-end)
 
--- src/door.rt:70:68
 sub-table-fits-3 : tie.Need-sub-table-fits-3 Inv-loop μ-loop
 sub-table-fits-3 c = lies (c .before .before .before .before .before .before .before .before .before .pre .1) (c .before .before .before .loop-test .taken) (c .before .before .spans-of .ensures) .tuples
 
--- src/door.rt:70:68
 part-table-fits-start-3 : tie.Need-part-table-fits-start-3 Inv-loop μ-loop
 part-table-fits-start-3 c = lies (c .before .before .before .before .before .before .before .before .before .pre .1) (c .before .before .before .loop-test .taken) (c .before .before .spans-of .ensures) .tuples
 
--- src/door.rt:70:68
 part-table-fits-end-3 : tie.Need-part-table-fits-end-3 Inv-loop μ-loop
 part-table-fits-end-3 c = lies (c .before .before .before .before .before .before .before .before .before .pre .1) (c .before .before .before .loop-test .taken) (c .before .before .spans-of .ensures) .tuples-end
 
--- src/door.rt:70:19
 table-fits-requires : tie.Need-table-fits-requires Inv-loop μ-loop
 table-fits-requires c κs = search needs
 
--- src/door.rt:71:9
 add-t : tie.Need-add-t Inv-loop μ-loop
 add-t c = search needs
 
--- src/door.rt:62:5
 loop-less : tie.Need-loop-less Inv-loop μ-loop
 loop-less c = search needs
 
--- src/door.rt:62:5
 loop-again : tie.Need-loop-again Inv-loop μ-loop
 loop-again c = test-turn (c .before .before .before .before .before .before .loop .inv) (search needs) (ap (λ (b : Bool). c .before .before .before .before .before .before .loop .ok && b) (c .table-fits .ensures ∙ ap (table-fits (c .before .before .before .before .before .before .before .before .before .before .before .args .limits)) (lies (c .before .before .before .before .before .before .before .before .before .before .before .pre .1) (c .before .before .before .before .before .loop-test .taken) (c .before .before .before .before .spans-of .ensures) .table)))
 
--- src/door.rt:55:1
 returns : tie.Need-returns Inv-loop μ-loop
 returns c = test-ends (c .before .loop .inv) (search needs)
 

@@ -3,46 +3,31 @@ use Rattle.widths.specs.Asks.{lent-lists}
 use borrow.Author.Needs.{needs}
 use Rattle.widths.proofs.door.widths_within.Statement.{statement}
 use Rattle.widths.proofs.door.widths_within.Tie as tie
-use Rattle.widths.proofs.door.widths_within.Reads as reads
-use Rattle.widths.proofs.door.widths_within.Lts as lts
-use Rattle.expression.proofs.words.wide.Reads as wide-reads
-use Rattle.widths.proofs.door.all_fit.Reads as all-fit-reads
-use Rattle.widths.proofs.tables.bus_widths.Reads as bus-widths-reads
-use Rattle.widths.proofs.tables.widest.Reads as widest-reads
 
--- src/door.rt:92:9
 all-fit-requires : tie.Need-all-fit-requires
 all-fit-requires c κs = search needs
 
--- src/door.rt:93:9
 returns : tie.Need-returns
 returns c = answer-size (c .before .before .before .before .before .before .args .limits) (lent-lists (c .before .before .before .before .before .before .args .lookups .now) (c .before .before .before .before .before .before .args .names .now) (c .before .before .before .before .before .before .args .tuples .now) (c .before .before .before .before .before .before .args .sizes .now)) (c .before .all-fit .ensures) (c .if1 .taken)
 
--- src/door.rt:95:9
 bus-widths-requires : tie.Need-bus-widths-requires
 bus-widths-requires c κs = tabled (c .before .before .before .before .before .before .args .limits) (lent-lists (c .before .before .before .before .before .before .args .lookups .now) (c .before .before .before .before .before .before .args .names .now) (c .before .before .before .before .before .before .args .tuples .now) (c .before .before .before .before .before .before .args .sizes .now)) (c .before .before .before .before .before .before .pre) (c .before .all-fit .ensures) (c .if1 .left)
 
--- src/door.rt:97:56
 enum-told : tie.Need-enum-told
 enum-told c = search needs
 
--- src/door.rt:97:56
 widest-requires : tie.Need-widest-requires
 widest-requires c κs = tabled (c .before .before .before .before .before .before .before .before .before .args .limits) (lent-lists (c .before .before .before .before .before .before .before .before .before .args .lookups .now) (c .before .before .before .before .before .before .before .before .before .args .names .now) (c .before .before .before .before .before .before .before .before .before .args .tuples .now) (c .before .before .before .before .before .before .before .before .before .args .sizes .now)) (c .before .before .before .before .before .before .before .before .before .pre) (c .before .before .before .before .all-fit .ensures) (c .before .before .before .if1 .left)
 
--- src/door.rt:97:51
 wide-requires : tie.Need-wide-requires
 wide-requires c κs = search needs
 
--- src/door.rt:98:26
 enum-known-v : tie.Need-enum-known-v
 enum-known-v c = search needs
 
--- src/door.rt:88:1
 returns-2 : tie.Need-returns-2
 returns-2 c = answer-widest (c .before .before .before .before .before .before .before .before .before .before .before .args .limits) (lent-lists (c .before .before .before .before .before .before .before .before .before .before .before .args .lookups .now) (c .before .before .before .before .before .before .before .before .before .before .before .args .names .now) (c .before .before .before .before .before .before .before .before .before .before .before .args .tuples .now) (c .before .before .before .before .before .before .before .before .before .before .before .args .sizes .now)) (c .before .before .before .before .before .before .all-fit .ensures) (c .before .before .before .before .before .if1 .left) (c .before .before .before .before .bus-widths .ensures) (c .before .before .enum-told .given .1) (c .before .widest .ensures) (c .wide .ensures .0)
 
--- src/door.rt:88:1
 returns-3 : tie.Need-returns-3
 returns-3 c = answer-refused (c .before .before .before .before .before .before .before .before .before .before .args .limits) (lent-lists (c .before .before .before .before .before .before .before .before .before .before .args .lookups .now) (c .before .before .before .before .before .before .before .before .before .before .args .names .now) (c .before .before .before .before .before .before .before .before .before .before .args .tuples .now) (c .before .before .before .before .before .before .before .before .before .before .args .sizes .now)) (c .before .before .before .before .before .all-fit .ensures) (c .before .before .before .before .if1 .left) (c .before .before .before .bus-widths .ensures) (c .before .v .given .1)
 

@@ -2,29 +2,20 @@ use Rattle.widths.specs.Order.{alone-at}
 use borrow.Author.Needs.{needs}
 use Rattle.widths.proofs.order.alone.Statement.{statement}
 use Rattle.widths.proofs.order.alone.Tie as tie
-use Rattle.widths.proofs.order.alone.Reads as reads
-use Rattle.widths.proofs.order.alone.Lts as lts
-use Rattle.lookup.proofs.types.exclusive.Reads as exclusive-reads
-use Rattle.lookup.proofs.types.on_bus.Reads as on-bus-reads
 
--- src/order.rt:53:17
 on-bus-requires : tie.Need-on-bus-requires
 on-bus-requires c κs = search needs
 
--- src/order.rt:53:38
 exclusive-requires : tie.Need-exclusive-requires
 exclusive-requires c κs = search needs
 
--- src/order.rt:53:9
 returns : tie.Need-returns
 unfolding alone-at
 returns c = rw (c .before .before .if1 .taken) (cc)
 
--- src/order.rt:55:6
 on-bus-requires-2 : tie.Need-on-bus-requires-2
 on-bus-requires-2 c κs = search needs
 
--- src/order.rt:48:1
 returns-2 : tie.Need-returns-2
 unfolding alone-at
 returns-2 c = rw (c .before .if1 .left) (cc)

@@ -3,9 +3,6 @@ use Prim.Native.Nat.{_+_, _-_}
 use borrow.Author.Needs.{needs}
 use Rattle.widths.proofs.order.arrange.Statement.{statement}
 use Rattle.widths.proofs.order.arrange.Tie as tie
-use Rattle.widths.proofs.order.arrange.Reads as reads
-use Rattle.widths.proofs.order.arrange.Lts as lts
-use Rattle.widths.proofs.order.push_place.Reads as push-place-reads
 
 abbrev Inv-loop : tie.InvT-loop
 Inv-loop places n order₀ end₀ k₀ order end k = Arranging places n k end order₀ order
@@ -13,39 +10,30 @@ Inv-loop places n order₀ end₀ k₀ order end k = Arranging places n k end or
 abbrev μ-loop : tie.MeasureT-loop
 μ-loop places n order₀ end₀ k₀ order end k = (n + 1) - k
 
--- src/order.rt:137:5
 loop-holds : tie.Need-loop-holds Inv-loop μ-loop
 loop-holds c = arranging-begins
 
--- src/order.rt:137:15
 add-loop : tie.Need-add-loop Inv-loop μ-loop
 add-loop c = search needs
 
--- src/order.rt:138:36
 cast-push-place : tie.Need-cast-push-place Inv-loop μ-loop
 cast-push-place c = search needs
 
--- src/order.rt:138:13
 push-place-requires : tie.Need-push-place-requires Inv-loop μ-loop
 push-place-requires c κs = (search needs, search needs, arranging-fits (c .before .before .loop .inv) (search needs))
 
--- src/order.rt:140:9
 add-k : tie.Need-add-k Inv-loop μ-loop
 add-k c = search needs
 
--- src/order.rt:137:5
 loop-less : tie.Need-loop-less Inv-loop μ-loop
 loop-less c = search needs
 
--- src/order.rt:137:5
 loop-again : tie.Need-loop-again Inv-loop μ-loop
 loop-again c = arranging-turn (c .before .before .before .before .before .loop .inv) (search needs) (search needs) (c .before .before .push-place .ensures)
 
--- src/order.rt:130:1
 same-length : tie.Need-same-length Inv-loop μ-loop
 same-length c = search needs
 
--- src/order.rt:130:1
 returns : tie.Need-returns Inv-loop μ-loop
 returns c = arranging-ends (c .before .loop .inv) (search needs)
 

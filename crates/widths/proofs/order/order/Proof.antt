@@ -4,28 +4,19 @@ use Rattle.widths.specs.Order.{alone-at, name-at}
 use borrow.Author.Needs.{needs}
 use Rattle.widths.proofs.order.order.Statement.{statement}
 use Rattle.widths.proofs.order.order.Tie as tie
-use Rattle.widths.proofs.order.order.Reads as reads
-use Rattle.widths.proofs.order.order.Lts as lts
-use Rattle.widths.proofs.order.arrange.Reads as arrange-reads
-use Rattle.widths.proofs.order.places.Reads as places-reads
 
--- src/order.rt:151:14
 places-requires : tie.Need-places-requires
 places-requires c κs = search needs
 
--- src/order.rt:153:22
 slice-aggregate-arrange : tie.Need-slice-aggregate-arrange
 slice-aggregate-arrange c = search needs
 
--- src/order.rt:153:30
 slice-aggregate-arrange-2 : tie.Need-slice-aggregate-arrange-2
 slice-aggregate-arrange-2 c = search needs
 
--- src/order.rt:153:9
 arrange-requires : tie.Need-arrange-requires
 arrange-requires c κs = search needs
 
--- src/order.rt:146:1
 returns : tie.Need-returns
 returns c = order-is (alone-at (c .before .before .before .before .before .before .before .args .packing) (c .before .before .before .before .before .before .before .args .lookups .now)) (name-at (c .before .before .before .before .before .before .before .args .lookups .now) (c .before .before .before .before .before .before .before .args .names .now)) (lookup-count (c .before .before .before .before .before .before .before .args .lookups .now)) (c .before .before .before .before .places .ensures) (c .before .arrange .ensures)
 

@@ -5,10 +5,6 @@ use Prim.Native.Nat.{_-_}
 use borrow.Author.Needs.{needs}
 use Rattle.widths.proofs.order.place_of.Statement.{statement}
 use Rattle.widths.proofs.order.place_of.Tie as tie
-use Rattle.widths.proofs.order.place_of.Reads as reads
-use Rattle.widths.proofs.order.place_of.Lts as lts
-use Rattle.widths.proofs.order.alone.Reads as alone-reads
-use Rattle.widths.proofs.order.same_bus.Reads as same-bus-reads
 
 abbrev Inv-loop : tie.InvT-loop
 Inv-loop lookups names packing i n j₀ j = Searched (same-bus (alone-at packing lookups) (name-at lookups names) i) (lookup-count lookups) j
@@ -16,55 +12,42 @@ Inv-loop lookups names packing i n j₀ j = Searched (same-bus (alone-at packing
 abbrev μ-loop : tie.MeasureT-loop
 μ-loop lookups names packing i n j₀ j = lookup-count lookups - j
 
--- src/order.rt:81:8
 alone-requires : tie.Need-alone-requires Inv-loop μ-loop
 alone-requires c κs = search needs
 
--- src/order.rt:82:9
 returns : tie.Need-returns Inv-loop μ-loop
 returns c = place-alone _ _ _ _ (c .before .alone .ensures) (c .if1 .taken)
 
--- src/order.rt:86:5
 loop-holds : tie.Need-loop-holds Inv-loop μ-loop
 loop-holds c = search-begins
 
--- src/order.rt:87:12
 same-bus-requires : tie.Need-same-bus-requires Inv-loop μ-loop
 same-bus-requires c κs = search needs
 
--- src/order.rt:88:21
 add-result : tie.Need-add-result Inv-loop μ-loop
 add-result c = search needs
 
--- src/order.rt:88:20
 cast-result : tie.Need-cast-result Inv-loop μ-loop
 cast-result c = search needs
 
--- src/order.rt:88:13
 returns-2 : tie.Need-returns-2 Inv-loop μ-loop
 returns-2 c = place-bus _ _ _ _ (c .before .before .before .before .before .alone .ensures) (c .before .before .before .before .if1 .left) (search-hits (c .before .before .before .loop .inv) (search needs) (c .before .same-bus .ensures) (c .if2 .taken))
 
--- src/order.rt:90:9
 add-j : tie.Need-add-j Inv-loop μ-loop
 add-j c = search needs
 
--- src/order.rt:86:5
 loop-less : tie.Need-loop-less Inv-loop μ-loop
 loop-less c = search needs
 
--- src/order.rt:86:5
 loop-again : tie.Need-loop-again Inv-loop μ-loop
 loop-again c = search-turn (c .before .before .before .loop .inv) (search needs) (c .before .same-bus .ensures) (c .if2 .left)
 
--- src/order.rt:92:6
 add-result-2 : tie.Need-add-result-2 Inv-loop μ-loop
 add-result-2 c = search needs
 
--- src/order.rt:92:5
 cast-result-2 : tie.Need-cast-result-2 Inv-loop μ-loop
 cast-result-2 c = search needs
 
--- src/order.rt:77:1
 returns-3 : tie.Need-returns-3 Inv-loop μ-loop
 returns-3 c = place-bus _ _ _ _ (c .before .before .before .alone .ensures) (c .before .before .if1 .left) (search-ends (c .before .loop .inv) (search needs))
 

@@ -5,9 +5,6 @@ use Prim.Native.Nat.{_-_}
 use borrow.Author.Needs.{needs}
 use Rattle.widths.proofs.order.places.Statement.{statement}
 use Rattle.widths.proofs.order.places.Tie as tie
-use Rattle.widths.proofs.order.places.Reads as reads
-use Rattle.widths.proofs.order.places.Lts as lts
-use Rattle.widths.proofs.order.place_of.Reads as place-of-reads
 
 abbrev Inv-loop : tie.InvT-loop
 Inv-loop lookups names packing n out₀ i₀ out i = Placing (place (alone-at packing lookups) (name-at lookups names) (lookup-count lookups)) (lookup-count lookups) i out₀ out
@@ -15,35 +12,27 @@ Inv-loop lookups names packing n out₀ i₀ out i = Placing (place (alone-at pa
 abbrev μ-loop : tie.MeasureT-loop
 μ-loop lookups names packing n out₀ i₀ out i = lookup-count lookups - i
 
--- src/order.rt:103:5
 loop-holds : tie.Need-loop-holds Inv-loop μ-loop
 loop-holds c = placing-begins
 
--- src/order.rt:104:13
 place-of-requires : tie.Need-place-of-requires Inv-loop μ-loop
 place-of-requires c κs = search needs
 
--- src/order.rt:105:9
 mul-out : tie.Need-mul-out Inv-loop μ-loop
 mul-out c = search needs
 
--- src/order.rt:105:9
 array-write-out : tie.Need-array-write-out Inv-loop μ-loop
 array-write-out c = search needs
 
--- src/order.rt:106:9
 add-i : tie.Need-add-i Inv-loop μ-loop
 add-i c = search needs
 
--- src/order.rt:103:5
 loop-less : tie.Need-loop-less Inv-loop μ-loop
 loop-less c = search needs
 
--- src/order.rt:103:5
 loop-again : tie.Need-loop-again Inv-loop μ-loop
 loop-again c = placing-turn (c .before .before .loop .inv) (search needs) (search needs) (c .place-of .ensures)
 
--- src/order.rt:96:1
 returns : tie.Need-returns Inv-loop μ-loop
 returns c = placing-ends (c .before .loop .inv) (search needs)
 

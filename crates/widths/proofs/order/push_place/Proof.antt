@@ -4,8 +4,6 @@ use Prim.Native.Nat.{_-_}
 use borrow.Author.Needs.{needs}
 use Rattle.widths.proofs.order.push_place.Statement.{statement}
 use Rattle.widths.proofs.order.push_place.Tie as tie
-use Rattle.widths.proofs.order.push_place.Reads as reads
-use Rattle.widths.proofs.order.push_place.Lts as lts
 
 abbrev Inv-loop : tie.InvT-loop
 Inv-loop places k n order₀ start end₀ i₀ order end i = Pushing places k n start i end order₀ order
@@ -13,51 +11,39 @@ Inv-loop places k n order₀ start end₀ i₀ order end i = Pushing places k n 
 abbrev μ-loop : tie.MeasureT-loop
 μ-loop places k n order₀ start end₀ i₀ order end i = n - i
 
--- src/order.rt:119:5
 loop-holds : tie.Need-loop-holds Inv-loop μ-loop
 loop-holds c = pushing-begins (search needs)
 
--- src/order.rt:120:12
 mul-if1 : tie.Need-mul-if1 Inv-loop μ-loop
 mul-if1 c = search needs
 
--- src/order.rt:120:12
 shared-slice-read-if1 : tie.Need-shared-slice-read-if1 Inv-loop μ-loop
 shared-slice-read-if1 c = search needs
 
--- src/order.rt:121:26
 cast-order : tie.Need-cast-order Inv-loop μ-loop
 cast-order c = search needs
 
--- src/order.rt:121:13
 mul-order : tie.Need-mul-order Inv-loop μ-loop
 mul-order c = search needs
 
--- src/order.rt:121:13
 slice-write-order : tie.Need-slice-write-order Inv-loop μ-loop
 slice-write-order c = pushing-room (c .before .before .before .loop .inv) (search needs) (c .if1 .taken)
 
--- src/order.rt:122:13
 add-end : tie.Need-add-end Inv-loop μ-loop
 add-end c = search needs
 
--- src/order.rt:124:9
 add-i : tie.Need-add-i Inv-loop μ-loop
 add-i c = search needs
 
--- src/order.rt:119:5
 loop-less : tie.Need-loop-less Inv-loop μ-loop
 loop-less c = search needs
 
--- src/order.rt:119:5
 loop-again : tie.Need-loop-again Inv-loop μ-loop
 loop-again c = ⊎-elim (λ w. pushing-yes (c .before .before .before .loop .inv) (search needs) (w .0 .taken) (w .1) (w .2)) (λ w. pushing-no (c .before .before .before .loop .inv) (search needs) (w .0 .left) (w .1) (w .2)) (c .if1 .came)
 
--- src/order.rt:112:1
 same-length : tie.Need-same-length Inv-loop μ-loop
 same-length c = search needs
 
--- src/order.rt:112:1
 returns : tie.Need-returns Inv-loop μ-loop
 returns c = pushing-ends (c .before .loop .inv) (search needs)
 

@@ -6,91 +6,64 @@ use mathlib.Core.Path.{_∙_, refl, ap₂}
 use borrow.Author.Needs.{needs}
 use Rattle.widths.proofs.order.same_bus.Statement.{statement}
 use Rattle.widths.proofs.order.same_bus.Tie as tie
-use Rattle.widths.proofs.order.same_bus.Reads as reads
-use Rattle.widths.proofs.order.same_bus.Lts as lts
-use Rattle.expression.proofs.words.index.Reads as index-reads
-use Rattle.lookup.proofs.types.name_length.Reads as name-length-reads
-use Rattle.widths.proofs.order.alone.Reads as alone-reads
-use Rattle.degree.proofs.starts.name_start.Reads as name-start-reads
-use Rattle.widths.proofs.order.same_bytes.Reads as same-bytes-reads
 
--- src/order.rt:63:8
 alone-requires : tie.Need-alone-requires
 alone-requires c κs = search needs
 
--- src/order.rt:64:9
 returns : tie.Need-returns
 returns c = bus-first _ _ _ _ (c .before .alone .ensures) (c .if1 .taken)
 
--- src/order.rt:66:8
 alone-requires-2 : tie.Need-alone-requires-2
 alone-requires-2 c κs = search needs
 
--- src/order.rt:67:9
 returns-2 : tie.Need-returns-2
 returns-2 c = bus-second _ _ _ _ (c .before .before .before .alone .ensures) (c .before .before .if1 .left) (c .before .alone2 .ensures) (c .if2 .taken)
 
--- src/order.rt:69:9
 name-start-requires : tie.Need-name-start-requires
 name-start-requires c κs = search needs
 
--- src/order.rt:70:9
 name-start-requires-2 : tie.Need-name-start-requires-2
 name-start-requires-2 c κs = search needs
 
--- src/order.rt:71:23
 name-length-requires : tie.Need-name-length-requires
 name-length-requires c κs = search needs
 
--- src/order.rt:71:17
 index-requires : tie.Need-index-requires
 index-requires c κs = search needs
 
--- src/order.rt:71:13
 add-c : tie.Need-add-c
 add-c c = search needs
 
--- src/order.rt:72:23
 name-length-requires-2 : tie.Need-name-length-requires-2
 name-length-requires-2 c κs = search needs
 
--- src/order.rt:72:17
 index-requires-2 : tie.Need-index-requires-2
 index-requires-2 c κs = search needs
 
--- src/order.rt:72:13
 add-d : tie.Need-add-d
 add-d c = search needs
 
--- src/order.rt:73:16
 sub-same-bytes : tie.Need-sub-same-bytes
 sub-same-bytes c = search needs
 
--- src/order.rt:73:16
 part-same-bytes-start : tie.Need-part-same-bytes-start
 part-same-bytes-start c = search needs
 
--- src/order.rt:73:16
 part-same-bytes-end : tie.Need-part-same-bytes-end
 part-same-bytes-end c = name-in (c .before .before .before .before .before .before .before .before .before .before .before .before .args .lookups .now) (c .before .before .before .before .before .before .before .before .before .before .before .before .args .names .now) (c .before .before .before .before .before .before .before .before .before .before .before .before .args .i) (c .before .before .before .before .before .before .before .before .before .before .before .before .pre .0) (c .before .before .before .before .before .before .before .before .before .before .before .before .pre .1) (c .before .before .before .before .before .name-start .ensures .0) (c .before .before .index .ensures .0 ∙ c .before .before .before .name-length .ensures)
 
--- src/order.rt:73:30
 sub-same-bytes-2 : tie.Need-sub-same-bytes-2
 sub-same-bytes-2 c = search needs
 
--- src/order.rt:73:30
 part-same-bytes-start-2 : tie.Need-part-same-bytes-start-2
 part-same-bytes-start-2 c = search needs
 
--- src/order.rt:73:30
 part-same-bytes-end-2 : tie.Need-part-same-bytes-end-2
 part-same-bytes-end-2 c = name-in (c .before .before .before .before .before .before .before .before .before .before .before .before .before .args .lookups .now) (c .before .before .before .before .before .before .before .before .before .before .before .before .before .args .names .now) (c .before .before .before .before .before .before .before .before .before .before .before .before .before .args .j) (c .before .before .before .before .before .before .before .before .before .before .before .before .before .pre .0) (c .before .before .before .before .before .before .before .before .before .before .before .before .before .pre .2) (c .before .before .before .before .before .name-start2 .ensures .0) (c .before .index2 .ensures .0 ∙ c .before .before .name-length2 .ensures)
 
--- src/order.rt:73:5
 same-bytes-requires : tie.Need-same-bytes-requires
 same-bytes-requires c κs = search needs
 
--- src/order.rt:59:1
 returns-3 : tie.Need-returns-3
 returns-3 c = bus-both _ _ _ _ (c .before .before .before .before .before .before .before .before .before .before .before .before .alone .ensures) (c .before .before .before .before .before .before .before .before .before .before .before .if1 .left) (c .before .before .before .before .before .before .before .before .before .before .alone2 .ensures) (c .before .before .before .before .before .before .before .before .before .if2 .left) (c .same-bytes .ensures ∙ ap₂ (λ (x y : List ℕ). same x y) (name-is (c .before .before .before .before .before .before .before .before .before .before .before .before .before .before .before .args .lookups .now) (c .before .before .before .before .before .before .before .before .before .before .before .before .before .before .before .args .names .now) (c .before .before .before .before .before .before .before .before .before .before .before .before .before .before .before .args .i) (c .before .before .before .before .before .before .before .before .name-start .ensures .0) (c .before .before .before .before .before .index .ensures .0 ∙ c .before .before .before .before .before .before .name-length .ensures) refl) (name-is (c .before .before .before .before .before .before .before .before .before .before .before .before .before .before .before .args .lookups .now) (c .before .before .before .before .before .before .before .before .before .before .before .before .before .before .before .args .names .now) (c .before .before .before .before .before .before .before .before .before .before .before .before .before .before .before .args .j) (c .before .before .before .before .before .before .before .name-start2 .ensures .0) (c .before .before .before .index2 .ensures .0 ∙ c .before .before .before .before .name-length2 .ensures) refl))
 

@@ -4,8 +4,6 @@ use Prim.Native.Nat.{_-_}
 use borrow.Author.Needs.{needs}
 use Rattle.widths.proofs.order.same_bytes.Statement.{statement}
 use Rattle.widths.proofs.order.same_bytes.Tie as tie
-use Rattle.widths.proofs.order.same_bytes.Reads as reads
-use Rattle.widths.proofs.order.same_bytes.Lts as lts
 
 abbrev Inv-loop : tie.InvT-loop
 Inv-loop x y i₀ i = SameSoFar x y i
@@ -13,39 +11,30 @@ Inv-loop x y i₀ i = SameSoFar x y i
 abbrev μ-loop : tie.MeasureT-loop
 μ-loop x y i₀ i = length x - i
 
--- src/order.rt:20:9
 returns : tie.Need-returns Inv-loop μ-loop
 returns c = same-lengths _ _ (c .if1 .taken)
 
--- src/order.rt:23:5
 loop-holds : tie.Need-loop-holds Inv-loop μ-loop
 loop-holds c = same-begins (search needs)
 
--- src/order.rt:24:12
 shared-slice-read-if2 : tie.Need-shared-slice-read-if2 Inv-loop μ-loop
 shared-slice-read-if2 c = search needs
 
--- src/order.rt:24:20
 shared-slice-read-if2-2 : tie.Need-shared-slice-read-if2-2 Inv-loop μ-loop
 shared-slice-read-if2-2 c = search needs
 
--- src/order.rt:25:13
 returns-2 : tie.Need-returns-2 Inv-loop μ-loop
 returns-2 c = same-differs (c .before .before .before .before .loop .inv) (search needs) (c .if2 .taken)
 
--- src/order.rt:27:9
 add-i : tie.Need-add-i Inv-loop μ-loop
 add-i c = search needs
 
--- src/order.rt:23:5
 loop-less : tie.Need-loop-less Inv-loop μ-loop
 loop-less c = search needs
 
--- src/order.rt:23:5
 loop-again : tie.Need-loop-again Inv-loop μ-loop
 loop-again c = same-turn (c .before .before .before .before .loop .inv) (search needs) (search needs)
 
--- src/order.rt:16:1
 returns-3 : tie.Need-returns-3 Inv-loop μ-loop
 returns-3 c = same-ends (c .before .loop .inv) (search needs)
 

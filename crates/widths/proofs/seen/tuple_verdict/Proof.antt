@@ -2,35 +2,25 @@ use Rattle.widths.proofs.Finds.{widths-same, widths-differ}
 use borrow.Author.Needs.{needs}
 use Rattle.widths.proofs.seen.tuple_verdict.Statement.{statement}
 use Rattle.widths.proofs.seen.tuple_verdict.Tie as tie
-use Rattle.widths.proofs.seen.tuple_verdict.Reads as reads
-use Rattle.widths.proofs.seen.tuple_verdict.Lts as lts
-use Rattle.expression.proofs.words.wide.Reads as wide-reads
 
--- src/seen.rt:85:26
 enum-told : tie.Need-enum-told
 enum-told c = search needs
 
--- src/seen.rt:86:21
 enum-known-expected : tie.Need-enum-known-expected
 enum-known-expected c = search needs
 
--- src/seen.rt:90:66
 wide-requires : tie.Need-wide-requires
 wide-requires c κs = search needs
 
--- src/seen.rt:90:75
 wide-requires-2 : tie.Need-wide-requires-2
 wide-requires-2 c κs = search needs
 
--- src/seen.rt:81:1
 returns : tie.Need-returns
 returns c = search needs
 
--- src/seen.rt:81:1
 returns-2 : tie.Need-returns-2
 returns-2 c = widths-same _ (c .before .before .expected .given .1) (c .if1 .taken)
 
--- src/seen.rt:81:1
 returns-3 : tie.Need-returns-3
 returns-3 c = widths-differ _ (c .before .before .before .before .expected .given .1) (c .before .before .if1 .left) (c .before .wide .ensures .0) (c .wide2 .ensures .0)
 

@@ -9,13 +9,6 @@ use Prim.Native.Nat.{_-_}
 use borrow.Author.Needs.{needs}
 use Rattle.widths.proofs.seen.tuples_verdict.Statement.{statement}
 use Rattle.widths.proofs.seen.tuples_verdict.Tie as tie
-use Rattle.widths.proofs.seen.tuples_verdict.Reads as reads
-use Rattle.widths.proofs.seen.tuples_verdict.Lts as lts
-use Rattle.expression.proofs.refusal.first.Reads as first-reads
-use Rattle.expression.proofs.words.index.Reads as index-reads
-use Rattle.lookup.proofs.types.tuple_count.Reads as tuple-count-reads
-use Rattle.degree.proofs.starts.tuple_start.Reads as tuple-start-reads
-use Rattle.widths.proofs.seen.tuple_verdict.Reads as tuple-verdict-reads
 
 abbrev Inv-loop : tie.InvT-loop
 Inv-loop expected lookups tuples i s n v₀ k₀ v k = Finding (λ k. tuple-refusal i (seen expected) (tuple-width lookups tuples i k)) n k (refusal v)
@@ -23,55 +16,42 @@ Inv-loop expected lookups tuples i s n v₀ k₀ v k = Finding (λ k. tuple-refu
 abbrev μ-loop : tie.MeasureT-loop
 μ-loop expected lookups tuples i s n v₀ k₀ v k = n - k
 
--- src/seen.rt:101:9
 tuple-start-requires : tie.Need-tuple-start-requires Inv-loop μ-loop
 tuple-start-requires c κs = search needs
 
--- src/seen.rt:102:19
 tuple-count-requires : tie.Need-tuple-count-requires Inv-loop μ-loop
 tuple-count-requires c κs = search needs
 
--- src/seen.rt:102:9
 index-requires : tie.Need-index-requires Inv-loop μ-loop
 index-requires c κs = search needs
 
--- src/seen.rt:105:5
 loop-holds : tie.Need-loop-holds Inv-loop μ-loop
 loop-holds c = find-begins
 
--- src/seen.rt:106:24
 add-w : tie.Need-add-w Inv-loop μ-loop
 add-w c = search needs
 
--- src/seen.rt:106:17
 mul-w : tie.Need-mul-w Inv-loop μ-loop
 mul-w c = search needs
 
--- src/seen.rt:106:17
 shared-slice-read-w : tie.Need-shared-slice-read-w Inv-loop μ-loop
 shared-slice-read-w c = search needs
 
--- src/seen.rt:107:13
 tuple-verdict-requires : tie.Need-tuple-verdict-requires Inv-loop μ-loop
 tuple-verdict-requires c κs = search needs
 
--- src/seen.rt:108:13
 first-requires : tie.Need-first-requires Inv-loop μ-loop
 first-requires c κs = search needs
 
--- src/seen.rt:110:9
 add-k : tie.Need-add-k Inv-loop μ-loop
 add-k c = search needs
 
--- src/seen.rt:105:5
 loop-less : tie.Need-loop-less Inv-loop μ-loop
 loop-less c = search needs
 
--- src/seen.rt:105:5
 loop-again : tie.Need-loop-again Inv-loop μ-loop
 loop-again c = find-turn (refusal (c .before .tuple-verdict .result)) (c .before .before .before .before .loop .inv) (search needs) (c .first .ensures) (c .before .tuple-verdict .ensures ∙ ap (tuple-refusal (c .before .before .before .before .before .before .before .before .before .before .args .i) (seen (c .before .before .before .before .before .before .before .before .before .before .args .expected))) (width-is (c .before .before .before .before .before .before .before .before .before .before .args .lookups .now) (c .before .before .before .before .before .before .before .before .before .before .args .tuples .now) (c .before .before .before .before .before .before .before .before .before .before .args .i) (c .before .before .before .before .loop .k) (c .before .before .before .before .before .before .before .tuple-start .ensures .0)))
 
--- src/seen.rt:97:1
 returns : tie.Need-returns Inv-loop μ-loop
 returns c = rw (← c .before .before .before .tuple-count .ensures, ← c .before .before .index .ensures .0) (find-ends (c .before .loop .inv) (search needs))
 

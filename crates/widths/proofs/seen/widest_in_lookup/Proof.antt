@@ -9,13 +9,6 @@ use Prim.Native.Nat.{_-_}
 use borrow.Author.Needs.{needs}
 use Rattle.widths.proofs.seen.widest_in_lookup.Statement.{statement}
 use Rattle.widths.proofs.seen.widest_in_lookup.Tie as tie
-use Rattle.widths.proofs.seen.widest_in_lookup.Reads as reads
-use Rattle.widths.proofs.seen.widest_in_lookup.Lts as lts
-use Rattle.expression.proofs.words.index.Reads as index-reads
-use Rattle.lookup.proofs.types.on_bus.Reads as on-bus-reads
-use Rattle.lookup.proofs.types.tuple_count.Reads as tuple-count-reads
-use Rattle.degree.proofs.tuples.larger.Reads as larger-reads
-use Rattle.degree.proofs.starts.tuple_start.Reads as tuple-start-reads
 
 abbrev Inv-loop : tie.InvT-loop
 Inv-loop lookups names tuples i s n top₀ k₀ top k = Rising (tuple-width lookups tuples i) n k top
@@ -23,59 +16,45 @@ Inv-loop lookups names tuples i s n top₀ k₀ top k = Rising (tuple-width look
 abbrev μ-loop : tie.MeasureT-loop
 μ-loop lookups names tuples i s n top₀ k₀ top k = n - k
 
--- src/seen.rt:120:9
 on-bus-requires : tie.Need-on-bus-requires Inv-loop μ-loop
 on-bus-requires c κs = search needs
 
--- src/seen.rt:121:9
 returns : tie.Need-returns Inv-loop μ-loop
 returns c = widest-local _ _ _ _ (c .before .on-bus .ensures) (c .if1 .taken)
 
--- src/seen.rt:123:9
 tuple-start-requires : tie.Need-tuple-start-requires Inv-loop μ-loop
 tuple-start-requires c κs = search needs
 
--- src/seen.rt:124:19
 tuple-count-requires : tie.Need-tuple-count-requires Inv-loop μ-loop
 tuple-count-requires c κs = search needs
 
--- src/seen.rt:124:9
 index-requires : tie.Need-index-requires Inv-loop μ-loop
 index-requires c κs = search needs
 
--- src/seen.rt:127:5
 loop-holds : tie.Need-loop-holds Inv-loop μ-loop
 loop-holds c = rise-begins
 
--- src/seen.rt:128:36
 add-larger : tie.Need-add-larger Inv-loop μ-loop
 add-larger c = search needs
 
--- src/seen.rt:128:29
 mul-larger : tie.Need-mul-larger Inv-loop μ-loop
 mul-larger c = search needs
 
--- src/seen.rt:128:29
 shared-slice-read-larger : tie.Need-shared-slice-read-larger Inv-loop μ-loop
 shared-slice-read-larger c = omega (arith, tuples-in (c .before .before .before .before .before .before .before .before .before .before .before .args .i) (c .before .before .before .before .before .before .before .before .before .before .before .pre .0) (c .before .before .before .before .before .before .before .before .before .before .before .pre .1), c .before .before .before .before .before .tuple-start .ensures .0, c .before .before .before .before .tuple-count .ensures, c .before .before .before .index .ensures .0)
 
--- src/seen.rt:128:13
 larger-requires : tie.Need-larger-requires Inv-loop μ-loop
 larger-requires c κs = search needs
 
--- src/seen.rt:130:9
 add-k : tie.Need-add-k Inv-loop μ-loop
 add-k c = search needs
 
--- src/seen.rt:127:5
 loop-less : tie.Need-loop-less Inv-loop μ-loop
 loop-less c = search needs
 
--- src/seen.rt:127:5
 loop-again : tie.Need-loop-again Inv-loop μ-loop
 loop-again c = rise-turn _ (c .before .before .before .loop .inv) (search needs) (c .larger .ensures) (width-is (c .before .before .before .before .before .before .before .before .before .before .before .before .args .lookups .now) (c .before .before .before .before .before .before .before .before .before .before .before .before .args .tuples .now) (c .before .before .before .before .before .before .before .before .before .before .before .before .args .i) (c .before .before .before .loop .k) (c .before .before .before .before .before .before .tuple-start .ensures .0))
 
--- src/seen.rt:116:1
 returns-2 : tie.Need-returns-2 Inv-loop μ-loop
 returns-2 c = widest-bus (c .before .before .before .before .before .before .before .before .before .before .args .lookups .now) (c .before .before .before .before .before .before .before .before .before .before .args .names .now) (c .before .before .before .before .before .before .before .before .before .before .args .tuples .now) (c .before .before .before .before .before .before .before .before .before .before .args .i) (c .before .before .before .before .before .before .on-bus .ensures) (c .before .before .before .before .before .if1 .left) (c .before .before .index .ensures .0 ∙ c .before .before .before .tuple-count .ensures) (rise-ends (c .before .loop .inv) (search needs))
 

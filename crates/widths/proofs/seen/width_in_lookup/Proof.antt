@@ -9,81 +9,55 @@ use mathlib.Core.Path.{_∙_, refl, ap}
 use borrow.Author.Needs.{needs}
 use Rattle.widths.proofs.seen.width_in_lookup.Statement.{statement}
 use Rattle.widths.proofs.seen.width_in_lookup.Tie as tie
-use Rattle.widths.proofs.seen.width_in_lookup.Reads as reads
-use Rattle.widths.proofs.seen.width_in_lookup.Lts as lts
-use Rattle.expression.proofs.words.index.Reads as index-reads
-use Rattle.lookup.proofs.types.name_length.Reads as name-length-reads
-use Rattle.lookup.proofs.types.on_bus.Reads as on-bus-reads
-use Rattle.lookup.proofs.types.tuple_count.Reads as tuple-count-reads
-use Rattle.degree.proofs.starts.name_start.Reads as name-start-reads
-use Rattle.widths.proofs.order.same_bytes.Reads as same-bytes-reads
-use Rattle.degree.proofs.starts.tuple_start.Reads as tuple-start-reads
 
--- src/seen.rt:65:9
 on-bus-requires : tie.Need-on-bus-requires
 on-bus-requires c κs = search needs
 
--- src/seen.rt:66:9
 returns : tie.Need-returns
 returns c = seen-local _ _ _ _ _ (c .before .on-bus .ensures) (c .if1 .taken)
 
--- src/seen.rt:68:9
 name-start-requires : tie.Need-name-start-requires
 name-start-requires c κs = search needs
 
--- src/seen.rt:69:23
 name-length-requires : tie.Need-name-length-requires
 name-length-requires c κs = search needs
 
--- src/seen.rt:69:17
 index-requires : tie.Need-index-requires
 index-requires c κs = search needs
 
--- src/seen.rt:69:13
 add-c : tie.Need-add-c
 add-c c = search needs
 
--- src/seen.rt:70:25
 sub-same-bytes : tie.Need-sub-same-bytes
 sub-same-bytes c = search needs
 
--- src/seen.rt:70:25
 part-same-bytes-start : tie.Need-part-same-bytes-start
 part-same-bytes-start c = search needs
 
--- src/seen.rt:70:25
 part-same-bytes-end : tie.Need-part-same-bytes-end
 part-same-bytes-end c = name-in (c .before .before .before .before .before .before .before .before .before .args .lookups .now) (c .before .before .before .before .before .before .before .before .before .args .names .now) (c .before .before .before .before .before .before .before .before .before .args .i) (named (c .before .before .before .before .before .before .before .before .before .pre .0)) (c .before .before .before .before .before .before .before .before .before .pre .1) (c .before .before .name-start .ensures .0) (c .index .ensures .0 ∙ c .before .name-length .ensures)
 
--- src/seen.rt:70:9
 same-bytes-requires : tie.Need-same-bytes-requires
 same-bytes-requires c κs = search needs
 
--- src/seen.rt:71:9
 returns-2 : tie.Need-returns-2
 returns-2 c = seen-other (c .before .before .before .before .before .before .before .before .before .before .before .before .args .bus .now) (c .before .before .before .before .before .before .before .before .before .before .before .before .args .lookups .now) (c .before .before .before .before .before .before .before .before .before .before .before .before .args .names .now) (c .before .before .before .before .before .before .before .before .before .before .before .before .args .tuples .now) (c .before .before .before .before .before .before .before .before .before .before .before .before .args .i) (c .before .before .before .before .before .before .before .on-bus .ensures) (c .before .before .before .before .before .before .if1 .left) (c .before .same-bytes .ensures ∙ ap (λ (x : List ℕ). same (c .before .before .before .before .before .before .before .before .before .before .before .before .args .bus .now) x) (name-is (c .before .before .before .before .before .before .before .before .before .before .before .before .args .lookups .now) (c .before .before .before .before .before .before .before .before .before .before .before .before .args .names .now) (c .before .before .before .before .before .before .before .before .before .before .before .before .args .i) (c .before .before .before .before .before .name-start .ensures .0) (c .before .before .before .index .ensures .0 ∙ c .before .before .before .before .name-length .ensures) refl)) (c .if2 .taken)
 
--- src/seen.rt:73:14
 tuple-count-requires : tie.Need-tuple-count-requires
 tuple-count-requires c κs = search needs
 
--- src/seen.rt:74:9
 returns-3 : tie.Need-returns-3
 returns-3 c = seen-none (c .before .before .before .before .before .before .before .before .before .before .before .before .before .before .args .bus .now) (c .before .before .before .before .before .before .before .before .before .before .before .before .before .before .args .lookups .now) (c .before .before .before .before .before .before .before .before .before .before .before .before .before .before .args .names .now) (c .before .before .before .before .before .before .before .before .before .before .before .before .before .before .args .tuples .now) (c .before .before .before .before .before .before .before .before .before .before .before .before .before .before .args .i) (c .before .before .before .before .before .before .before .before .before .on-bus .ensures) (c .before .before .before .before .before .before .before .before .if1 .left) (c .before .before .before .same-bytes .ensures ∙ ap (λ (x : List ℕ). same (c .before .before .before .before .before .before .before .before .before .before .before .before .before .before .args .bus .now) x) (name-is (c .before .before .before .before .before .before .before .before .before .before .before .before .before .before .args .lookups .now) (c .before .before .before .before .before .before .before .before .before .before .before .before .before .before .args .names .now) (c .before .before .before .before .before .before .before .before .before .before .before .before .before .before .args .i) (c .before .before .before .before .before .before .before .name-start .ensures .0) (c .before .before .before .before .before .index .ensures .0 ∙ c .before .before .before .before .before .before .name-length .ensures) refl)) (c .before .before .if2 .left) (c .before .tuple-count .ensures) (c .if3 .taken)
 
--- src/seen.rt:76:9
 tuple-start-requires : tie.Need-tuple-start-requires
 tuple-start-requires c κs = search needs
 
--- src/seen.rt:77:17
 mul-t11 : tie.Need-mul-t11
 mul-t11 c = search needs
 
--- src/seen.rt:77:17
 shared-slice-read-t12 : tie.Need-shared-slice-read-t12
 shared-slice-read-t12 c = omega (arith, tuples-in (c .before .before .before .before .before .before .before .before .before .before .before .before .before .before .before .before .args .i) (c .before .before .before .before .before .before .before .before .before .before .before .before .before .before .before .before .pre .0) (c .before .before .before .before .before .before .before .before .before .before .before .before .before .before .before .before .pre .1), c .before .tuple-start .ensures .0, c .before .before .before .tuple-count .ensures, has-tuple {n = c .before .before .before .tuple-count .result} (c .before .before .if3 .left))
 
--- src/seen.rt:61:1
 returns-4 : tie.Need-returns-4
 returns-4 c = seen-width (c .before .before .before .before .before .before .before .before .before .before .before .before .before .before .before .before .args .bus .now) (c .before .before .before .before .before .before .before .before .before .before .before .before .before .before .before .before .args .lookups .now) (c .before .before .before .before .before .before .before .before .before .before .before .before .before .before .before .before .args .names .now) (c .before .before .before .before .before .before .before .before .before .before .before .before .before .before .before .before .args .tuples .now) (c .before .before .before .before .before .before .before .before .before .before .before .before .before .before .before .before .args .i) (c .before .before .before .before .before .before .before .before .before .before .before .on-bus .ensures) (c .before .before .before .before .before .before .before .before .before .before .if1 .left) (c .before .before .before .before .before .same-bytes .ensures ∙ ap (λ (x : List ℕ). same (c .before .before .before .before .before .before .before .before .before .before .before .before .before .before .before .before .args .bus .now) x) (name-is (c .before .before .before .before .before .before .before .before .before .before .before .before .before .before .before .before .args .lookups .now) (c .before .before .before .before .before .before .before .before .before .before .before .before .before .before .before .before .args .names .now) (c .before .before .before .before .before .before .before .before .before .before .before .before .before .before .before .before .args .i) (c .before .before .before .before .before .before .before .before .before .name-start .ensures .0) (c .before .before .before .before .before .before .before .index .ensures .0 ∙ c .before .before .before .before .before .before .before .before .name-length .ensures) refl)) (c .before .before .before .before .if2 .left) (c .before .before .before .tuple-count .ensures) (c .before .before .if3 .left) (c .before .tuple-start .ensures .0)
 

@@ -6,9 +6,6 @@ use mathlib.Core.Path.{_∙_}
 use borrow.Author.Needs.{needs}
 use Rattle.widths.proofs.spans.size_start.Statement.{statement}
 use Rattle.widths.proofs.spans.size_start.Tie as tie
-use Rattle.widths.proofs.spans.size_start.Reads as reads
-use Rattle.widths.proofs.spans.size_start.Lts as lts
-use Rattle.expression.proofs.words.index.Reads as index-reads
 
 abbrev Inv-loop : tie.InvT-loop
 Inv-loop sizes f t sum₀ j₀ sum j = Summing (size sizes f) 4294967295 t j sum
@@ -16,47 +13,36 @@ Inv-loop sizes f t sum₀ j₀ sum j = Summing (size sizes f) 4294967295 t j sum
 abbrev μ-loop : tie.MeasureT-loop
 μ-loop sizes f t sum₀ j₀ sum j = t - j
 
--- src/spans.rt:25:5
 loop-holds : tie.Need-loop-holds Inv-loop μ-loop
 loop-holds c = sum-begins
 
--- src/spans.rt:26:29
 mul-index : tie.Need-mul-index Inv-loop μ-loop
 mul-index c = search needs
 
--- src/spans.rt:26:29
 add-index : tie.Need-add-index Inv-loop μ-loop
 add-index c = search needs
 
--- src/spans.rt:26:23
 mul-index-2 : tie.Need-mul-index-2 Inv-loop μ-loop
 mul-index-2 c = search needs
 
--- src/spans.rt:26:23
 shared-slice-read-index : tie.Need-shared-slice-read-index Inv-loop μ-loop
 shared-slice-read-index c = search needs
 
--- src/spans.rt:26:13
 index-requires : tie.Need-index-requires Inv-loop μ-loop
 index-requires c κs = search needs
 
--- src/spans.rt:27:15
 add-sum : tie.Need-add-sum Inv-loop μ-loop
 add-sum c = search needs
 
--- src/spans.rt:28:9
 add-j : tie.Need-add-j Inv-loop μ-loop
 add-j c = search needs
 
--- src/spans.rt:25:5
 loop-less : tie.Need-loop-less Inv-loop μ-loop
 loop-less c = search needs
 
--- src/spans.rt:25:5
 loop-again : tie.Need-loop-again Inv-loop μ-loop
 loop-again c = sum-turn (c .index .result) (c .before .before .before .loop .inv) (search needs) (c .index .ensures .1) (c .index .ensures .0)
 
--- src/spans.rt:19:1
 returns : tie.Need-returns Inv-loop μ-loop
 unfolding size-start
 returns c = (sum-ends (c .before .loop .inv) (search needs), omega (arith, c .before .loop .inv .small, c .before .loop .inv .within))

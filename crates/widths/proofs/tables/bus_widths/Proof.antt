@@ -11,11 +11,6 @@ use Prim.Native.Nat.{_-_}
 use borrow.Author.Needs.{needs}
 use Rattle.widths.proofs.tables.bus_widths.Statement.{statement}
 use Rattle.widths.proofs.tables.bus_widths.Tie as tie
-use Rattle.widths.proofs.tables.bus_widths.Reads as reads
-use Rattle.widths.proofs.tables.bus_widths.Lts as lts
-use Rattle.expression.proofs.refusal.first.Reads as first-reads
-use Rattle.widths.proofs.spans.spans_of.Reads as spans-of-reads
-use Rattle.widths.proofs.tables.table_verdict.Reads as table-verdict-reads
 
 abbrev Inv-loop : tie.InvT-loop
 Inv-loop lookups names tuples sizes n v₀ t₀ v t = Finding (λ t. table-refusal (tables-of (lent-lists lookups names tuples sizes)) (table-at (lent-lists lookups names tuples sizes) t)) (table-count sizes) t (refusal v)
@@ -23,79 +18,60 @@ Inv-loop lookups names tuples sizes n v₀ t₀ v t = Finding (λ t. table-refus
 abbrev μ-loop : tie.MeasureT-loop
 μ-loop lookups names tuples sizes n v₀ t₀ v t = table-count sizes - t
 
--- src/tables.rt:132:5
 loop-holds : tie.Need-loop-holds Inv-loop μ-loop
 loop-holds c = find-begins
 
--- src/tables.rt:133:13
 spans-of-requires : tie.Need-spans-of-requires Inv-loop μ-loop
 spans-of-requires c κs = search needs
 
--- src/tables.rt:145:13
 mul-table-verdict : tie.Need-mul-table-verdict Inv-loop μ-loop
 mul-table-verdict c = omega (arith, lies (c .before .before .before .before .before .before .before .pre .spanned) (c .before .loop-test .taken) (c .spans-of .ensures) .lookups, lies (c .before .before .before .before .before .before .before .pre .spanned) (c .before .loop-test .taken) (c .spans-of .ensures) .lookups-end)
 
--- src/tables.rt:145:13
 sub-table-verdict : tie.Need-sub-table-verdict Inv-loop μ-loop
 sub-table-verdict c = (lies (c .before .before .before .before .before .before .before .pre .spanned) (c .before .loop-test .taken) (c .spans-of .ensures)) .lookups
 
--- src/tables.rt:145:13
 part-table-verdict-start : tie.Need-part-table-verdict-start Inv-loop μ-loop
 part-table-verdict-start c = (lies (c .before .before .before .before .before .before .before .pre .spanned) (c .before .loop-test .taken) (c .spans-of .ensures)) .lookups
 
--- src/tables.rt:145:13
 part-table-verdict-end : tie.Need-part-table-verdict-end Inv-loop μ-loop
 part-table-verdict-end c = (lies (c .before .before .before .before .before .before .before .pre .spanned) (c .before .loop-test .taken) (c .spans-of .ensures)) .lookups-end
 
--- src/tables.rt:146:13
 sub-table-verdict-2 : tie.Need-sub-table-verdict-2 Inv-loop μ-loop
 sub-table-verdict-2 c = (lies (c .before .before .before .before .before .before .before .before .pre .spanned) (c .before .before .loop-test .taken) (c .before .spans-of .ensures)) .names
 
--- src/tables.rt:146:13
 part-table-verdict-start-2 : tie.Need-part-table-verdict-start-2 Inv-loop μ-loop
 part-table-verdict-start-2 c = (lies (c .before .before .before .before .before .before .before .before .pre .spanned) (c .before .before .loop-test .taken) (c .before .spans-of .ensures)) .names
 
--- src/tables.rt:146:13
 part-table-verdict-end-2 : tie.Need-part-table-verdict-end-2 Inv-loop μ-loop
 part-table-verdict-end-2 c = (lies (c .before .before .before .before .before .before .before .before .pre .spanned) (c .before .before .loop-test .taken) (c .before .spans-of .ensures)) .names-end
 
--- src/tables.rt:147:13
 mul-table-verdict-2 : tie.Need-mul-table-verdict-2 Inv-loop μ-loop
 mul-table-verdict-2 c = omega (arith, lies (c .before .before .before .before .before .before .before .before .before .pre .spanned) (c .before .before .before .loop-test .taken) (c .before .before .spans-of .ensures) .tuples, lies (c .before .before .before .before .before .before .before .before .before .pre .spanned) (c .before .before .before .loop-test .taken) (c .before .before .spans-of .ensures) .tuples-end)
 
--- src/tables.rt:147:13
 sub-table-verdict-3 : tie.Need-sub-table-verdict-3 Inv-loop μ-loop
 sub-table-verdict-3 c = (lies (c .before .before .before .before .before .before .before .before .before .pre .spanned) (c .before .before .before .loop-test .taken) (c .before .before .spans-of .ensures)) .tuples
 
--- src/tables.rt:147:13
 part-table-verdict-start-3 : tie.Need-part-table-verdict-start-3 Inv-loop μ-loop
 part-table-verdict-start-3 c = (lies (c .before .before .before .before .before .before .before .before .before .pre .spanned) (c .before .before .before .loop-test .taken) (c .before .before .spans-of .ensures)) .tuples
 
--- src/tables.rt:147:13
 part-table-verdict-end-3 : tie.Need-part-table-verdict-end-3 Inv-loop μ-loop
 part-table-verdict-end-3 c = (lies (c .before .before .before .before .before .before .before .before .before .pre .spanned) (c .before .before .before .loop-test .taken) (c .before .before .spans-of .ensures)) .tuples-end
 
--- src/tables.rt:140:13
 table-verdict-requires : tie.Need-table-verdict-requires Inv-loop μ-loop
 table-verdict-requires c κs = (c .before .before .before .before .before .before .before .before .before .before .pre, owned (c .before .before .before .before .before .before .before .before .before .before .pre) (c .before .before .before .before .loop-test .taken) (c .before .before .before .spans-of .ensures))
 
--- src/tables.rt:149:13
 first-requires : tie.Need-first-requires Inv-loop μ-loop
 first-requires c κs = search needs
 
--- src/tables.rt:151:9
 add-t : tie.Need-add-t Inv-loop μ-loop
 add-t c = search needs
 
--- src/tables.rt:132:5
 loop-less : tie.Need-loop-less Inv-loop μ-loop
 loop-less c = search needs
 
--- src/tables.rt:132:5
 loop-again : tie.Need-loop-again Inv-loop μ-loop
 loop-again c = find-turn (refusal (c .before .table-verdict .result)) (c .before .before .before .before .before .before .before .loop .inv) (search needs) (c .first .ensures) (c .before .table-verdict .ensures ∙ ap (table-refusal (tables-of (lent-lists (c .before .before .before .before .before .before .before .before .before .before .before .before .args .lookups .now) (c .before .before .before .before .before .before .before .before .before .before .before .before .args .names .now) (c .before .before .before .before .before .before .before .before .before .before .before .before .args .tuples .now) (c .before .before .before .before .before .before .before .before .before .before .before .before .args .sizes .now)))) (lies (c .before .before .before .before .before .before .before .before .before .before .before .before .pre .spanned) (c .before .before .before .before .before .before .loop-test .taken) (c .before .before .before .before .before .spans-of .ensures) .table))
 
--- src/tables.rt:125:1
 returns : tie.Need-returns Inv-loop μ-loop
 unfolding widths-refusal tables-of
 returns c = find-ends (c .before .loop .inv) (search needs)

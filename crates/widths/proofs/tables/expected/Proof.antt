@@ -11,11 +11,6 @@ use Prim.Native.Nat.{_-_}
 use borrow.Author.Needs.{needs}
 use Rattle.widths.proofs.tables.expected.Statement.{statement}
 use Rattle.widths.proofs.tables.expected.Tie as tie
-use Rattle.widths.proofs.tables.expected.Reads as reads
-use Rattle.widths.proofs.tables.expected.Lts as lts
-use Rattle.widths.proofs.seen.first_seen.Reads as first-seen-reads
-use Rattle.widths.proofs.spans.spans_of.Reads as spans-of-reads
-use Rattle.widths.proofs.tables.width_in_table.Reads as width-in-table-reads
 
 abbrev Inv-loop : tie.InvT-loop
 Inv-loop bus lookups names tuples sizes n found₀ t₀ found t = Finding (λ t. width-in-table bus (table-at (lent-lists lookups names tuples sizes) t)) (table-count sizes) t (seen found)
@@ -23,79 +18,60 @@ Inv-loop bus lookups names tuples sizes n found₀ t₀ found t = Finding (λ t.
 abbrev μ-loop : tie.MeasureT-loop
 μ-loop bus lookups names tuples sizes n found₀ t₀ found t = table-count sizes - t
 
--- src/tables.rt:49:5
 loop-holds : tie.Need-loop-holds Inv-loop μ-loop
 loop-holds c = find-begins
 
--- src/tables.rt:50:13
 spans-of-requires : tie.Need-spans-of-requires Inv-loop μ-loop
 spans-of-requires c κs = search needs
 
--- src/tables.rt:57:37
 mul-width-in-table : tie.Need-mul-width-in-table Inv-loop μ-loop
 mul-width-in-table c = omega (arith, lies (c .before .before .before .before .before .before .before .before .pre .spanned) (c .before .loop-test .taken) (c .spans-of .ensures) .lookups, lies (c .before .before .before .before .before .before .before .before .pre .spanned) (c .before .loop-test .taken) (c .spans-of .ensures) .lookups-end)
 
--- src/tables.rt:57:37
 sub-width-in-table : tie.Need-sub-width-in-table Inv-loop μ-loop
 sub-width-in-table c = (lies (c .before .before .before .before .before .before .before .before .pre .spanned) (c .before .loop-test .taken) (c .spans-of .ensures)) .lookups
 
--- src/tables.rt:57:37
 part-width-in-table-start : tie.Need-part-width-in-table-start Inv-loop μ-loop
 part-width-in-table-start c = (lies (c .before .before .before .before .before .before .before .before .pre .spanned) (c .before .loop-test .taken) (c .spans-of .ensures)) .lookups
 
--- src/tables.rt:57:37
 part-width-in-table-end : tie.Need-part-width-in-table-end Inv-loop μ-loop
 part-width-in-table-end c = (lies (c .before .before .before .before .before .before .before .before .pre .spanned) (c .before .loop-test .taken) (c .spans-of .ensures)) .lookups-end
 
--- src/tables.rt:57:53
 sub-width-in-table-2 : tie.Need-sub-width-in-table-2 Inv-loop μ-loop
 sub-width-in-table-2 c = (lies (c .before .before .before .before .before .before .before .before .before .pre .spanned) (c .before .before .loop-test .taken) (c .before .spans-of .ensures)) .names
 
--- src/tables.rt:57:53
 part-width-in-table-start-2 : tie.Need-part-width-in-table-start-2 Inv-loop μ-loop
 part-width-in-table-start-2 c = (lies (c .before .before .before .before .before .before .before .before .before .pre .spanned) (c .before .before .loop-test .taken) (c .before .spans-of .ensures)) .names
 
--- src/tables.rt:57:53
 part-width-in-table-end-2 : tie.Need-part-width-in-table-end-2 Inv-loop μ-loop
 part-width-in-table-end-2 c = (lies (c .before .before .before .before .before .before .before .before .before .pre .spanned) (c .before .before .loop-test .taken) (c .before .spans-of .ensures)) .names-end
 
--- src/tables.rt:57:67
 mul-width-in-table-2 : tie.Need-mul-width-in-table-2 Inv-loop μ-loop
 mul-width-in-table-2 c = omega (arith, lies (c .before .before .before .before .before .before .before .before .before .before .pre .spanned) (c .before .before .before .loop-test .taken) (c .before .before .spans-of .ensures) .tuples, lies (c .before .before .before .before .before .before .before .before .before .before .pre .spanned) (c .before .before .before .loop-test .taken) (c .before .before .spans-of .ensures) .tuples-end)
 
--- src/tables.rt:57:67
 sub-width-in-table-3 : tie.Need-sub-width-in-table-3 Inv-loop μ-loop
 sub-width-in-table-3 c = (lies (c .before .before .before .before .before .before .before .before .before .before .pre .spanned) (c .before .before .before .loop-test .taken) (c .before .before .spans-of .ensures)) .tuples
 
--- src/tables.rt:57:67
 part-width-in-table-start-3 : tie.Need-part-width-in-table-start-3 Inv-loop μ-loop
 part-width-in-table-start-3 c = (lies (c .before .before .before .before .before .before .before .before .before .before .pre .spanned) (c .before .before .before .loop-test .taken) (c .before .before .spans-of .ensures)) .tuples
 
--- src/tables.rt:57:67
 part-width-in-table-end-3 : tie.Need-part-width-in-table-end-3 Inv-loop μ-loop
 part-width-in-table-end-3 c = (lies (c .before .before .before .before .before .before .before .before .before .before .pre .spanned) (c .before .before .before .loop-test .taken) (c .before .before .spans-of .ensures)) .tuples-end
 
--- src/tables.rt:57:13
 width-in-table-requires : tie.Need-width-in-table-requires Inv-loop μ-loop
 width-in-table-requires c κs = owned (c .before .before .before .before .before .before .before .before .before .before .before .pre) (c .before .before .before .before .loop-test .taken) (c .before .before .before .spans-of .ensures)
 
--- src/tables.rt:58:13
 first-seen-requires : tie.Need-first-seen-requires Inv-loop μ-loop
 first-seen-requires c κs = search needs
 
--- src/tables.rt:60:9
 add-t : tie.Need-add-t Inv-loop μ-loop
 add-t c = search needs
 
--- src/tables.rt:49:5
 loop-less : tie.Need-loop-less Inv-loop μ-loop
 loop-less c = search needs
 
--- src/tables.rt:49:5
 loop-again : tie.Need-loop-again Inv-loop μ-loop
 loop-again c = find-turn (seen (c .before .width-in-table .result)) (c .before .before .before .before .before .before .before .loop .inv) (search needs) (c .first-seen .ensures) (c .before .width-in-table .ensures ∙ ap (width-in-table (c .before .before .before .before .before .before .before .before .before .before .before .before .before .args .bus .now)) (lies (c .before .before .before .before .before .before .before .before .before .before .before .before .before .pre .spanned) (c .before .before .before .before .before .before .loop-test .taken) (c .before .before .before .before .before .spans-of .ensures) .table))
 
--- src/tables.rt:42:1
 returns : tie.Need-returns Inv-loop μ-loop
 unfolding expected tables-of
 returns c = find-ends (c .before .loop .inv) (search needs)

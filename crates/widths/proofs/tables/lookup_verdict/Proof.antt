@@ -10,60 +10,40 @@ use mathlib.Core.Path.{_∙_, refl, ap}
 use borrow.Author.Needs.{needs}
 use Rattle.widths.proofs.tables.lookup_verdict.Statement.{statement}
 use Rattle.widths.proofs.tables.lookup_verdict.Tie as tie
-use Rattle.widths.proofs.tables.lookup_verdict.Reads as reads
-use Rattle.widths.proofs.tables.lookup_verdict.Lts as lts
-use Rattle.expression.proofs.words.index.Reads as index-reads
-use Rattle.lookup.proofs.types.name_length.Reads as name-length-reads
-use Rattle.lookup.proofs.types.on_bus.Reads as on-bus-reads
-use Rattle.degree.proofs.starts.name_start.Reads as name-start-reads
-use Rattle.widths.proofs.seen.tuples_verdict.Reads as tuples-verdict-reads
-use Rattle.widths.proofs.tables.expected.Reads as expected-reads
 
--- src/tables.rt:79:9
 on-bus-requires : tie.Need-on-bus-requires
 on-bus-requires c κs = search needs
 
--- src/tables.rt:80:9
 returns : tie.Need-returns
 returns c = verdict-local _ _ _ _ _ (c .before .on-bus .ensures) (c .if1 .taken)
 
--- src/tables.rt:82:9
 name-start-requires : tie.Need-name-start-requires
 name-start-requires c κs = search needs
 
--- src/tables.rt:83:23
 name-length-requires : tie.Need-name-length-requires
 name-length-requires c κs = search needs
 
--- src/tables.rt:83:17
 index-requires : tie.Need-index-requires
 index-requires c κs = search needs
 
--- src/tables.rt:83:13
 add-c : tie.Need-add-c
 add-c c = search needs
 
--- src/tables.rt:84:22
 sub-expected : tie.Need-sub-expected
 sub-expected c = search needs
 
--- src/tables.rt:84:22
 part-expected-start : tie.Need-part-expected-start
 part-expected-start c = search needs
 
--- src/tables.rt:84:22
 part-expected-end : tie.Need-part-expected-end
 part-expected-end c = name-in (c .before .before .before .before .before .before .before .before .before .before .before .before .args .own-lookups .now) (c .before .before .before .before .before .before .before .before .before .before .before .before .args .own-names .now) (c .before .before .before .before .before .before .before .before .before .before .before .before .args .i) (named (c .before .before .before .before .before .before .before .before .before .before .before .before .pre .1)) (c .before .before .before .before .before .before .before .before .before .before .before .before .pre .2) (c .before .before .name-start .ensures .0) (c .index .ensures .0 ∙ c .before .name-length .ensures)
 
--- src/tables.rt:84:9
 expected-requires : tie.Need-expected-requires
 expected-requires c κs = search needs
 
--- src/tables.rt:85:5
 tuples-verdict-requires : tie.Need-tuples-verdict-requires
 tuples-verdict-requires c κs = (c .before .before .before .before .before .before .before .before .before .before .before .before .before .before .pre .1 .few, c .before .before .before .before .before .before .before .before .before .before .before .before .before .before .pre .2, tuples-in (c .before .before .before .before .before .before .before .before .before .before .before .before .before .before .args .i) (c .before .before .before .before .before .before .before .before .before .before .before .before .before .before .pre .1) (c .before .before .before .before .before .before .before .before .before .before .before .before .before .before .pre .2))
 
--- src/tables.rt:66:1
 returns-2 : tie.Need-returns-2
 returns-2 c = verdict-bus (tables-of (lent-lists (c .before .before .before .before .before .before .before .before .before .before .before .before .before .before .before .args .lookups .now) (c .before .before .before .before .before .before .before .before .before .before .before .before .before .before .before .args .names .now) (c .before .before .before .before .before .before .before .before .before .before .before .before .before .before .before .args .tuples .now) (c .before .before .before .before .before .before .before .before .before .before .before .before .before .before .before .args .sizes .now))) (c .before .before .before .before .before .before .before .before .before .before .before .before .before .before .before .args .own-lookups .now) (c .before .before .before .before .before .before .before .before .before .before .before .before .before .before .before .args .own-names .now) (c .before .before .before .before .before .before .before .before .before .before .before .before .before .before .before .args .own-tuples .now) (c .before .before .before .before .before .before .before .before .before .before .before .before .before .before .before .args .i) (c .before .before .before .before .before .before .before .on-bus .ensures) (c .before .before .before .before .before .before .if1 .left) (c .before .expected .ensures ∙ ap (λ (x : List ℕ). expected (tables-of (lent-lists (c .before .before .before .before .before .before .before .before .before .before .before .before .before .before .before .args .lookups .now) (c .before .before .before .before .before .before .before .before .before .before .before .before .before .before .before .args .names .now) (c .before .before .before .before .before .before .before .before .before .before .before .before .before .before .before .args .tuples .now) (c .before .before .before .before .before .before .before .before .before .before .before .before .before .before .before .args .sizes .now))) x) (name-is (c .before .before .before .before .before .before .before .before .before .before .before .before .before .before .before .args .own-lookups .now) (c .before .before .before .before .before .before .before .before .before .before .before .before .before .before .before .args .own-names .now) (c .before .before .before .before .before .before .before .before .before .before .before .before .before .before .before .args .i) (c .before .before .before .before .before .name-start .ensures .0) (c .before .before .before .index .ensures .0 ∙ c .before .before .before .before .name-length .ensures) refl)) (c .tuples-verdict .ensures)
 

@@ -10,12 +10,6 @@ use Prim.Native.Nat.{_-_}
 use borrow.Author.Needs.{needs}
 use Rattle.widths.proofs.tables.table_verdict.Statement.{statement}
 use Rattle.widths.proofs.tables.table_verdict.Tie as tie
-use Rattle.widths.proofs.tables.table_verdict.Reads as reads
-use Rattle.widths.proofs.tables.table_verdict.Lts as lts
-use Rattle.expression.proofs.refusal.first.Reads as first-reads
-use Rattle.expression.proofs.words.index.Reads as index-reads
-use Rattle.widths.proofs.order.order.Reads as order-reads
-use Rattle.widths.proofs.tables.lookup_verdict.Reads as lookup-verdict-reads
 
 abbrev Inv-loop : tie.InvT-loop
 Inv-loop lookups names tuples sizes own-lookups own-names own-tuples n ordered v₀ k₀ v k = Finding (λ k. lookup-refusal (tables-of (lent-lists lookups names tuples sizes)) (bare own-lookups own-names own-tuples) (word (by-bus (bare own-lookups own-names own-tuples)) k)) (lookup-count own-lookups) k (refusal v)
@@ -23,47 +17,36 @@ Inv-loop lookups names tuples sizes own-lookups own-names own-tuples n ordered v
 abbrev μ-loop : tie.MeasureT-loop
 μ-loop lookups names tuples sizes own-lookups own-names own-tuples n ordered v₀ k₀ v k = lookup-count own-lookups - k
 
--- src/tables.rt:102:18
 order-requires : tie.Need-order-requires Inv-loop μ-loop
 order-requires c κs = named (c .before .before .before .before .before .before .before .pre .1)
 
--- src/tables.rt:105:5
 loop-holds : tie.Need-loop-holds Inv-loop μ-loop
 loop-holds c = find-begins
 
--- src/tables.rt:106:23
 mul-index : tie.Need-mul-index Inv-loop μ-loop
 mul-index c = search needs
 
--- src/tables.rt:106:23
 array-read-index : tie.Need-array-read-index Inv-loop μ-loop
 array-read-index c = search needs
 
--- src/tables.rt:106:13
 index-requires : tie.Need-index-requires Inv-loop μ-loop
 index-requires c κs = search needs
 
--- src/tables.rt:107:13
 lookup-verdict-requires : tie.Need-lookup-verdict-requires Inv-loop μ-loop
 lookup-verdict-requires c κs = (c .before .before .before .before .before .before .before .before .before .before .before .pre .0, c .before .before .before .before .before .before .before .before .before .before .before .pre .1, bus-below (c .before .before .before .before .before .before .before .before .before .before .before .args .own-lookups .now) (c .before .before .before .before .before .before .before .before .before .before .before .args .own-names .now) (c .before .before .before .before .before .before .before .before .before .before .before .args .own-tuples .now) (c .before .before .loop .k) (c .before .loop-test .taken) (c .before .before .before .order .ensures) (c .index .ensures .0))
 
--- src/tables.rt:117:13
 first-requires : tie.Need-first-requires Inv-loop μ-loop
 first-requires c κs = search needs
 
--- src/tables.rt:119:9
 add-k : tie.Need-add-k Inv-loop μ-loop
 add-k c = search needs
 
--- src/tables.rt:105:5
 loop-less : tie.Need-loop-less Inv-loop μ-loop
 loop-less c = search needs
 
--- src/tables.rt:105:5
 loop-again : tie.Need-loop-again Inv-loop μ-loop
 loop-again c = find-turn (refusal (c .before .lookup-verdict .result)) (c .before .before .before .before .loop .inv) (search needs) (c .first .ensures) (c .before .lookup-verdict .ensures ∙ ap (lookup-refusal (tables-of (lent-lists (c .before .before .before .before .before .before .before .before .before .before .before .before .before .args .lookups .now) (c .before .before .before .before .before .before .before .before .before .before .before .before .before .args .names .now) (c .before .before .before .before .before .before .before .before .before .before .before .before .before .args .tuples .now) (c .before .before .before .before .before .before .before .before .before .before .before .before .before .args .sizes .now))) (bare (c .before .before .before .before .before .before .before .before .before .before .before .before .before .args .own-lookups .now) (c .before .before .before .before .before .before .before .before .before .before .before .before .before .args .own-names .now) (c .before .before .before .before .before .before .before .before .before .before .before .before .before .args .own-tuples .now))) (bus-at (c .before .before .before .before .before .before .before .before .before .before .before .before .before .args .own-lookups .now) (c .before .before .before .before .before .before .before .before .before .before .before .before .before .args .own-names .now) (c .before .before .before .before .before .before .before .before .before .before .before .before .before .args .own-tuples .now) (c .before .before .before .before .loop .k) (c .before .before .before .before .before .order .ensures) (c .before .before .index .ensures .0)))
 
--- src/tables.rt:89:1
 returns : tie.Need-returns Inv-loop μ-loop
 unfolding table-refusal
 returns c = find-ends (c .before .loop .inv) (search needs)

@@ -10,11 +10,6 @@ use Prim.Native.Nat.{_-_}
 use borrow.Author.Needs.{needs}
 use Rattle.widths.proofs.tables.widest.Statement.{statement}
 use Rattle.widths.proofs.tables.widest.Tie as tie
-use Rattle.widths.proofs.tables.widest.Reads as reads
-use Rattle.widths.proofs.tables.widest.Lts as lts
-use Rattle.degree.proofs.tuples.larger.Reads as larger-reads
-use Rattle.widths.proofs.spans.spans_of.Reads as spans-of-reads
-use Rattle.widths.proofs.tables.widest_in_table.Reads as widest-in-table-reads
 
 abbrev Inv-loop : tie.InvT-loop
 Inv-loop lookups names tuples sizes n top₀ t₀ top t = Rising (λ t. widest-in-table (table-at (lent-lists lookups names tuples sizes) t)) (table-count sizes) t top
@@ -22,79 +17,60 @@ Inv-loop lookups names tuples sizes n top₀ t₀ top t = Rising (λ t. widest-i
 abbrev μ-loop : tie.MeasureT-loop
 μ-loop lookups names tuples sizes n top₀ t₀ top t = table-count sizes - t
 
--- src/tables.rt:181:5
 loop-holds : tie.Need-loop-holds Inv-loop μ-loop
 loop-holds c = rise-begins
 
--- src/tables.rt:182:13
 spans-of-requires : tie.Need-spans-of-requires Inv-loop μ-loop
 spans-of-requires c κs = search needs
 
--- src/tables.rt:189:33
 mul-widest-in-table : tie.Need-mul-widest-in-table Inv-loop μ-loop
 mul-widest-in-table c = omega (arith, lies (c .before .before .before .before .before .before .before .pre .spanned) (c .before .loop-test .taken) (c .spans-of .ensures) .lookups, lies (c .before .before .before .before .before .before .before .pre .spanned) (c .before .loop-test .taken) (c .spans-of .ensures) .lookups-end)
 
--- src/tables.rt:189:33
 sub-widest-in-table : tie.Need-sub-widest-in-table Inv-loop μ-loop
 sub-widest-in-table c = (lies (c .before .before .before .before .before .before .before .pre .spanned) (c .before .loop-test .taken) (c .spans-of .ensures)) .lookups
 
--- src/tables.rt:189:33
 part-widest-in-table-start : tie.Need-part-widest-in-table-start Inv-loop μ-loop
 part-widest-in-table-start c = (lies (c .before .before .before .before .before .before .before .pre .spanned) (c .before .loop-test .taken) (c .spans-of .ensures)) .lookups
 
--- src/tables.rt:189:33
 part-widest-in-table-end : tie.Need-part-widest-in-table-end Inv-loop μ-loop
 part-widest-in-table-end c = (lies (c .before .before .before .before .before .before .before .pre .spanned) (c .before .loop-test .taken) (c .spans-of .ensures)) .lookups-end
 
--- src/tables.rt:189:49
 sub-widest-in-table-2 : tie.Need-sub-widest-in-table-2 Inv-loop μ-loop
 sub-widest-in-table-2 c = (lies (c .before .before .before .before .before .before .before .before .pre .spanned) (c .before .before .loop-test .taken) (c .before .spans-of .ensures)) .names
 
--- src/tables.rt:189:49
 part-widest-in-table-start-2 : tie.Need-part-widest-in-table-start-2 Inv-loop μ-loop
 part-widest-in-table-start-2 c = (lies (c .before .before .before .before .before .before .before .before .pre .spanned) (c .before .before .loop-test .taken) (c .before .spans-of .ensures)) .names
 
--- src/tables.rt:189:49
 part-widest-in-table-end-2 : tie.Need-part-widest-in-table-end-2 Inv-loop μ-loop
 part-widest-in-table-end-2 c = (lies (c .before .before .before .before .before .before .before .before .pre .spanned) (c .before .before .loop-test .taken) (c .before .spans-of .ensures)) .names-end
 
--- src/tables.rt:189:63
 mul-widest-in-table-2 : tie.Need-mul-widest-in-table-2 Inv-loop μ-loop
 mul-widest-in-table-2 c = omega (arith, lies (c .before .before .before .before .before .before .before .before .before .pre .spanned) (c .before .before .before .loop-test .taken) (c .before .before .spans-of .ensures) .tuples, lies (c .before .before .before .before .before .before .before .before .before .pre .spanned) (c .before .before .before .loop-test .taken) (c .before .before .spans-of .ensures) .tuples-end)
 
--- src/tables.rt:189:63
 sub-widest-in-table-3 : tie.Need-sub-widest-in-table-3 Inv-loop μ-loop
 sub-widest-in-table-3 c = (lies (c .before .before .before .before .before .before .before .before .before .pre .spanned) (c .before .before .before .loop-test .taken) (c .before .before .spans-of .ensures)) .tuples
 
--- src/tables.rt:189:63
 part-widest-in-table-start-3 : tie.Need-part-widest-in-table-start-3 Inv-loop μ-loop
 part-widest-in-table-start-3 c = (lies (c .before .before .before .before .before .before .before .before .before .pre .spanned) (c .before .before .before .loop-test .taken) (c .before .before .spans-of .ensures)) .tuples
 
--- src/tables.rt:189:63
 part-widest-in-table-end-3 : tie.Need-part-widest-in-table-end-3 Inv-loop μ-loop
 part-widest-in-table-end-3 c = (lies (c .before .before .before .before .before .before .before .before .before .pre .spanned) (c .before .before .before .loop-test .taken) (c .before .before .spans-of .ensures)) .tuples-end
 
--- src/tables.rt:189:13
 widest-in-table-requires : tie.Need-widest-in-table-requires Inv-loop μ-loop
 widest-in-table-requires c κs = owned (c .before .before .before .before .before .before .before .before .before .before .pre) (c .before .before .before .before .loop-test .taken) (c .before .before .before .spans-of .ensures)
 
--- src/tables.rt:190:13
 larger-requires : tie.Need-larger-requires Inv-loop μ-loop
 larger-requires c κs = search needs
 
--- src/tables.rt:192:9
 add-t : tie.Need-add-t Inv-loop μ-loop
 add-t c = search needs
 
--- src/tables.rt:181:5
 loop-less : tie.Need-loop-less Inv-loop μ-loop
 loop-less c = search needs
 
--- src/tables.rt:181:5
 loop-again : tie.Need-loop-again Inv-loop μ-loop
 loop-again c = rise-turn (c .before .widest-in-table .result) (c .before .before .before .before .before .before .before .loop .inv) (search needs) (c .larger .ensures) (c .before .widest-in-table .ensures ∙ ap widest-in-table (lies (c .before .before .before .before .before .before .before .before .before .before .before .before .pre .spanned) (c .before .before .before .before .before .before .loop-test .taken) (c .before .before .before .before .before .spans-of .ensures) .table))
 
--- src/tables.rt:174:1
 returns : tie.Need-returns Inv-loop μ-loop
 unfolding widest tables-of
 returns c = rise-ends (c .before .loop .inv) (search needs)

@@ -6,10 +6,6 @@ use Prim.Native.Nat.{_-_}
 use borrow.Author.Needs.{needs}
 use Rattle.widths.proofs.tables.width_in_table.Statement.{statement}
 use Rattle.widths.proofs.tables.width_in_table.Tie as tie
-use Rattle.widths.proofs.tables.width_in_table.Reads as reads
-use Rattle.widths.proofs.tables.width_in_table.Lts as lts
-use Rattle.widths.proofs.seen.first_seen.Reads as first-seen-reads
-use Rattle.widths.proofs.seen.width_in_lookup.Reads as width-in-lookup-reads
 
 abbrev Inv-loop : tie.InvT-loop
 Inv-loop bus lookups names tuples n found₀ i₀ found i = Finding (width-in-lookup bus (bare lookups names tuples)) (lookup-count lookups) i (seen found)
@@ -17,31 +13,24 @@ Inv-loop bus lookups names tuples n found₀ i₀ found i = Finding (width-in-lo
 abbrev μ-loop : tie.MeasureT-loop
 μ-loop bus lookups names tuples n found₀ i₀ found i = lookup-count lookups - i
 
--- src/tables.rt:32:5
 loop-holds : tie.Need-loop-holds Inv-loop μ-loop
 loop-holds c = find-begins
 
--- src/tables.rt:33:13
 width-in-lookup-requires : tie.Need-width-in-lookup-requires Inv-loop μ-loop
 width-in-lookup-requires c κs = search needs
 
--- src/tables.rt:34:13
 first-seen-requires : tie.Need-first-seen-requires Inv-loop μ-loop
 first-seen-requires c κs = search needs
 
--- src/tables.rt:36:9
 add-i : tie.Need-add-i Inv-loop μ-loop
 add-i c = search needs
 
--- src/tables.rt:32:5
 loop-less : tie.Need-loop-less Inv-loop μ-loop
 loop-less c = search needs
 
--- src/tables.rt:32:5
 loop-again : tie.Need-loop-again Inv-loop μ-loop
 loop-again c = find-turn (seen (c .before .width-in-lookup .result)) (c .before .before .before .loop .inv) (search needs) (c .first-seen .ensures) (c .before .width-in-lookup .ensures)
 
--- src/tables.rt:25:1
 returns : tie.Need-returns Inv-loop μ-loop
 unfolding width-in-table
 returns c = find-ends (c .before .loop .inv) (search needs)
