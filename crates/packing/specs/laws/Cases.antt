@@ -143,11 +143,8 @@ pub cases :
     × (packed-with 0 five room .lists ≡ five)
     × (packed-with 0 five room .answer
     ≡ Packed (record { lookups = 40; names = 5; tuples = 5; multiplicities = 5; flags = 0; elements = 5 }))
-<<<<<<< HEAD
-=======
     -- exclusives share no column, whatever the limit
     × (packed-with 9 branches branches .lists ≡ branches)
->>>>>>> 330944d
     -- a lent list that is too small is 1; two lookups do not fit where five do not merge
     × (packed-with 0 five two ≡ record { answer = Refused SizeAtOdds; lists = two })
     -- 6: bus "mem": 2 and 3
