@@ -1,0 +1,4 @@
+pub mod Table
+pub mod Lookup
+pub mod Tested
+pub mod Entry
