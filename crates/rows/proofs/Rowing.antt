@@ -1,5 +1,5 @@
 -- One row: its node values, its accumulator and its fractions.
-use mathlib.Core.Path.{_≡_, sym, ap, _∙_, subst}
+use mathlib.Core.Path.{_≡_, sym, ap, _∙_}
 use mathlib.Core.List.{List, _++_}
 use Prim.Native.Nat.{ℕ, _+_, _*_, _-_}
 use native.Mathlib.Omega.{arith}
@@ -14,20 +14,12 @@ use Rattle.field.specs.Element.{Word4}
 use Rattle.expression.specs.Node.{node-count}
 use Rattle.expression.specs.Window.{Traces}
 use Rattle.expression.specs.Values.{row-values}
-use Rattle.expression.specs.Valid.{Below, Evaluable}
-use Rattle.expression.specs.laws.Values.{values-part, row-values-below}
 use Rattle.expression.specs.Refusal.{refusal}
 use Rattle.expression.specs.declared.refusal.Verdict.{Verdict}
 use Rattle.lookup.specs.Lookups.{Lookups, lookup-count}
 use Rattle.logup.specs.Rows.{place, fraction-at, row-sum, fault-at, row-fault}
+use Rattle.prepared.specs.laws.Values.{vals-are}
 use Rattle.rows.specs.laws.Lengths.{fractions-length}
-
-module _ {b : List ℕ} (p : ℕ) (nodes : List ℕ) (t : Traces) (r : ℕ) (e : b ≡ row-values p nodes t r ++ replicate (1024 - node-count nodes) 0) where
-  pub vals-are : take (node-count nodes - 0) b ≡ row-values p nodes t r
-  vals-are = let k : node-count nodes - 0 ≡ node-count nodes = omega arith in rw k (values-part p nodes t r (1024 - node-count nodes) e)
-
-  pub vals-below : Evaluable p t nodes → Below p (take (node-count nodes - 0) b)
-  vals-below v = subst (Below p) (sym vals-are) (row-values-below r v)
 
 -- the accumulator, then the fractions
 pub put-first : {acc : Ext} {d ys : List ℕ} (n : ℕ) → length d ≡ 4 * n + 4 → ys ≡ ws acc → Filled d (ws acc) 4 (putMid 0 (4 - 0) d ys)

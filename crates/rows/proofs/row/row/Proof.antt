@@ -1,4 +1,5 @@
-use Rattle.rows.proofs.Rowing.{vals-below, rest-length, row-is}
+use Rattle.prepared.specs.laws.Values.{vals-below}
+use Rattle.rows.proofs.Rowing.{rest-length, row-is}
 use borrow.Author.Needs.{needs}
 use Rattle.rows.proofs.row.row.Statement.{statement}
 use Rattle.rows.proofs.row.row.Tie as tie

@@ -1,2 +1,0 @@
-// The constraints over a whole trace (`eval_all`).
-pub mod terms;
