@@ -1,2 +1,2 @@
-pub mod Terms
+pub mod Entry
 pub mod laws

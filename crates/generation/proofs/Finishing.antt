@@ -1,20 +1,15 @@
--- The table of powers, the answer and the buffer after the rows, and the door's outcome.
+-- The answer and the buffer after the rows, and the door's outcome.
 use mathlib.Core.Path.{_≡_, refl, sym, ap, ap₂, _∙_}
 use mathlib.Core.Bool.{true, false}
 use mathlib.Core.Option.{Option, none, some}
-use mathlib.Core.List.{List, [], _∷_, _++_}
-use Prim.Native.Nat.{ℕ, zero, suc, _+_, _*_, _-_, _<_, _≤_, zero-le}
+use mathlib.Core.List.{List, [], _++_}
+use Prim.Native.Nat.{ℕ, _+_, _*_, _-_, _≤_, zero-le}
 use native.Mathlib.Omega.{arith}
 use lib.ListN.{length, take, drop, replicate, length-append}
 use lib.Seq.{drop-at}
 use borrow.Rule.Slice.PartMut.{putMid}
-use Rattle.lists.specs.Count.{joined}
-use Rattle.lists.specs.Tab.{tab}
 use Rattle.lists.specs.laws.Filled.{put-mid}
 use Rattle.lists.specs.laws.Parts.{part-length}
-use Rattle.field.specs.Element.{power4, element}
-use Rattle.field.specs.Modulus.{babybear, babybear-w}
-use Rattle.field.specs.laws.Extension.{babybear-certificate}
 use Rattle.expression.specs.Limits.{cabinet}
 use Rattle.expression.specs.Refusal.{refusal}
 use Rattle.expression.specs.Values.{row-values}
@@ -29,32 +24,10 @@ use Rattle.lookup.specs.Tests.{has-lookups}
 use Rattle.logup.specs.Rows.{row-sum, accumulator, row-words, trace, first-fault, used}
 use Rattle.logup.specs.Generation.{Answer, refused, absent, terminal, rows-outcome, entry-refusal, entry-outcome, generation}
 use Rattle.generation.specs.Entry.{rows-answer, cleared}
-use Rattle.generation.specs.Ready.{lent-values, Powered, Field}
-use Rattle.generation.specs.laws.Table.{joined-length, element-append, powers-table, row-size, table-element}
-use Rattle.generation.specs.laws.Unnamed.{unnamed-accumulator, unnamed-trace, unnamed-first-fault}
-use Rattle.generation.proofs.Lining.{sum-four}
-use Rattle.generation.proofs.Rowing.{fractions-length}
-
-module _ {A : Type 0} where
-  tab-same : (f g : ℕ → A) (n : ℕ) → ((j : ℕ) → j < n → f j ≡ g j) → tab f 0 n ≡ tab g 0 n
-  unfolding tab
-  tab-same f g zero h = refl
-  tab-same f g (suc n) h = ap₂ (λ (l : List A) (x : A). l ++ (x ∷ [])) (tab-same f g n (λ j k. h j (omega arith))) (h (0 + n) (omega arith))
-
-pub powered : {table : List ℕ} (p w : ℕ) (cs : List ℕ) (n : ℕ) (rest : List ℕ) → table ≡ powers-table p w (λ i. element cs (2 * i + 1)) n ++ rest → Powered p w cs table n
-powered {table} p w cs n rest e =
-    record {
-      size = rw e (simp length-append (omega (arith, long)));
-      powers =
-          λ i h.
-          tab-same (λ e. element table (8 * i + e)) (power4 p w (element cs (2 * i + 1))) 8
-          (λ k t.
-          ap (λ (l : List ℕ). element l (8 * i + k)) e ∙ element-append (powers-table p w (λ i. element cs (2 * i + 1)) n) rest (8 * i + k) (omega (arith, long))
-          ∙ table-element p w (λ i. element cs (2 * i + 1)) n i k h t);
-    }
-  where
-    long : length (powers-table p w (λ i. element cs (2 * i + 1)) n) ≡ 32 * n
-    long = joined-length (λ i. joined (power4 p w (element cs (2 * i + 1))) 0 8) 32 n (row-size p w (λ i. element cs (2 * i + 1)) n)
+use Rattle.prepared.specs.Ready.{lent-values}
+use Rattle.prepared.specs.laws.Table.{joined-length}
+use Rattle.rows.specs.laws.Lengths.{sum-four, fractions-length}
+use Rattle.rows.specs.laws.Unnamed.{unnamed-accumulator, unnamed-trace, unnamed-first-fault}
 
 pub finish-none : (v : Verdict) (e b : List ℕ) (u : ℕ) → v ≡ Accepted → (terminal e ≡ rows-answer (refusal v) e) × (b ≡ cleared (refusal v) u b)
 finish-none v e b u k = (rw k, rw k)
@@ -148,6 +121,3 @@ rows-finished m p w shape main preprocessed public-values nodes lookups names tu
 pub at-cabinet : {m : Limits} {a : Answer} {b : List ℕ} (p w : ℕ) (t : Table) (cs buffer : List ℕ) → m ≡ cabinet
     → (a ≡ generation m p w t cs buffer .answer) × (b ≡ generation m p w t cs buffer .buffer) → (a ≡ generation cabinet p w t cs buffer .answer) × (b ≡ generation cabinet p w t cs buffer .buffer)
 at-cabinet p w t cs buffer e (ea, eb) = (ea ∙ ap (λ (m : Limits). generation m p w t cs buffer .answer) e, eb ∙ ap (λ (m : Limits). generation m p w t cs buffer .buffer) e)
-
-pub babybear-field : Field babybear babybear-w
-babybear-field = record { modulus = record { big = omega arith; small = omega arith }; low = omega arith; certificate = babybear-certificate }

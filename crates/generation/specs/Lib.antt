@@ -1,4 +1,1 @@
-pub mod Ready
 pub mod Entry
-pub mod Tested
-pub mod laws

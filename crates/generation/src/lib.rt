@@ -1,4 +1,2 @@
-// Generation: the rows of the permutation trace, in parts, behind the tests of the door; and the row reader.
-pub mod parts;
+// Generation: the tests of the door around the rows of the permutation trace; and the row reader.
 pub mod permutation;
-pub mod row;

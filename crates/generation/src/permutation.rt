@@ -2,30 +2,27 @@
 ghost use mathlib.Core.Path.{_≡_};
 ghost use mathlib.Core.Option.{none};
 ghost use mathlib.Core.List.{List};
-ghost use mathlib.Core.Bool.{_&&_};
-ghost use Prim.Native.Nat.{ℕ, _<_, _≤_, _*_, _%_};
+ghost use Prim.Native.Nat.{ℕ, _≤_, _*_, _%_};
 ghost use lib.Dec.{eqb};
 ghost use lib.ListN.{length};
 ghost use Rattle.field.specs.Ext.{ws};
 ghost use Rattle.field.specs.Modulus.{babybear, babybear-w};
 ghost use Rattle.expression.specs.Valid.{Below, Evaluable};
+ghost use Rattle.expression.specs.Words.{all-below};
 ghost use Rattle.expression.specs.Limits as Sizes;
 ghost use Rattle.expression.specs.Limits.{Sane};
-ghost use Rattle.expression.specs.Node.{node-count};
 ghost use Rattle.expression.specs.Refusal.{refusal};
 ghost use Rattle.expression.specs.Window.{lent-traces};
 ghost use Rattle.expression.specs.declared.sizes.Limits as Declared;
 ghost use Rattle.lookup.specs.Lookups.{lent-lookups, lookup-count};
 ghost use Rattle.lookup.specs.Table.{lent-table};
-ghost use Rattle.lookup.specs.Tests.{sizes};
 ghost use Rattle.logup.specs.Rows.{used, first-fault};
 ghost use Rattle.logup.specs.Generation.{answer-of, rows-outcome, generation};
 ghost use Rattle.logup.specs.Reader.{row-part};
-ghost use Rattle.generation.specs.Ready.{lent-values, Lists, Field};
-ghost use Rattle.generation.specs.Entry.{words-tested, lists-tested, table-tests, door-tests, rows-answer, cleared};
-ghost use Rattle.generation.specs.Tested.{Tested};
-use crate::parts;
-use crate::parts::Progress;
+ghost use Rattle.prepared.specs.Ready.{lent-values, Lists, Field};
+ghost use Rattle.prepared.specs.Entry.{table-tests};
+ghost use Rattle.prepared.specs.Tested.{Tested};
+ghost use Rattle.generation.specs.Entry.{door-tests, rows-answer, cleared};
 use expression::refusal::Refusal;
 use expression::refusal::Verdict;
 use expression::sizes;
@@ -33,139 +30,12 @@ use expression::sizes::Limits;
 use expression::sizes::Shape;
 use expression::words::all_below;
 use logup::logup::Generated;
-use lookup::entry;
 use lookup::tests;
 use lookup::types::LookupTerminal;
-use screening::degrees::degrees_low;
-use screening::nodes::constants_below;
-use screening::nodes::nodes_known;
-
-// Refusal 1 of the table and the challenges.
-fn sizes_tested(
-    limits: Limits,
-    shape: Shape,
-    main: &[u32],
-    preprocessed: &[u32],
-    public_values: &[u32],
-    nodes: &[u32],
-    lookups: &[u32],
-    names: &[u8],
-    tuples: &[u32],
-    multiplicities: &[u32],
-    flags: &[u32],
-    elements: &[u32],
-    challenges: &[u32],
-) -> bool
-    requires { ⌜ Sane limits ⌝ }
-    ensures { λ r. ⌜ r ≡ (sizes limits (lent-table shape (now (main .entry)) (now (preprocessed .entry)) (now («public_values» .entry)) (now (nodes .entry)) (lent-lookups (now (lookups .entry)) (now (names .entry)) (now (tuples .entry)) (now (multiplicities .entry)) (now (flags .entry)) (now (elements .entry)))) && eqb (length (now (challenges .entry)) % 4) 0) ⌝ }
-{
-    entry::sizes(
-        limits,
-        shape,
-        main,
-        preprocessed,
-        public_values,
-        nodes,
-        lookups,
-        names,
-        tuples,
-        multiplicities,
-        flags,
-        elements,
-    )
-        & (challenges.len() % 4 == 0)
-}
-
-// Refusal 2.
-fn words_tested(
-    p: u32,
-    main: &[u32],
-    preprocessed: &[u32],
-    public_values: &[u32],
-    nodes: &[u32],
-    challenges: &[u32],
-) -> bool
-    ensures { λ r. ⌜ r ≡ words-tested p (now (main .entry)) (now (preprocessed .entry)) (now («public_values» .entry)) (now (nodes .entry)) (now (challenges .entry)) ⌝ }
-{
-    all_below(p, main)
-        & all_below(p, preprocessed)
-        & all_below(p, public_values)
-        & constants_below(p, nodes)
-        & all_below(p, challenges)
-}
-
-// Refusal 5.
-fn lists_tested(
-    nodes: &[u32],
-    lookups: &[u32],
-    multiplicities: &[u32],
-    flags: &[u32],
-    elements: &[u32],
-) -> bool
-    requires { ⌜ node-count (now nodes) ≤ 1024 ⌝ }
-    ensures { λ r. ⌜ r ≡ lists-tested (node-count (now (nodes .entry))) (now (lookups .entry)) (now (multiplicities .entry)) (now (flags .entry)) (now (elements .entry)) ⌝ }
-{
-    tests::lists_agree(
-        (nodes.len() / 3) as u32,
-        lookups,
-        multiplicities,
-        flags,
-        elements,
-    )
-        & tests::in_position(lookups)
-}
-
-// The first of refusals 1 to 5.
-fn table_refusal(
-    limits: Limits,
-    p: u32,
-    shape: Shape,
-    main: &[u32],
-    preprocessed: &[u32],
-    public_values: &[u32],
-    nodes: &[u32],
-    lookups: &[u32],
-    names: &[u8],
-    tuples: &[u32],
-    multiplicities: &[u32],
-    flags: &[u32],
-    elements: &[u32],
-    challenges: &[u32],
-) -> Verdict
-    requires { ⌜ Sane limits ⌝ }
-    ensures { λ r. ⌜ refusal r ≡ table-tests limits p (lent-table shape (now (main .entry)) (now (preprocessed .entry)) (now («public_values» .entry)) (now (nodes .entry)) (lent-lookups (now (lookups .entry)) (now (names .entry)) (now (tuples .entry)) (now (multiplicities .entry)) (now (flags .entry)) (now (elements .entry)))) (now (challenges .entry)) none ⌝ }
-{
-    if !sizes_tested(
-        limits,
-        shape,
-        main,
-        preprocessed,
-        public_values,
-        nodes,
-        lookups,
-        names,
-        tuples,
-        multiplicities,
-        flags,
-        elements,
-        challenges,
-    ) {
-        return Verdict::Refused(Refusal::SizeAtOdds);
-    }
-    if !words_tested(p, main, preprocessed, public_values, nodes, challenges) {
-        return Verdict::Refused(Refusal::WordTooLarge);
-    }
-    if !nodes_known(shape, public_values.len(), nodes) {
-        return Verdict::Refused(Refusal::NodeInvalid);
-    }
-    if !degrees_low(limits, nodes) {
-        return Verdict::Refused(Refusal::DegreeTooHigh);
-    }
-    if !lists_tested(nodes, lookups, multiplicities, flags, elements) {
-        return Verdict::Refused(Refusal::LookupInvalid);
-    }
-    Verdict::Accepted
-}
+use prepared::door;
+use prepared::powers;
+use rows::parts;
+use rows::parts::Progress;
 
 // How many words the used part of the trace has.
 fn used_words(shape: Shape, lookups: &[u32]) -> usize
@@ -238,7 +108,7 @@ fn generate_rows(
 {
     let n = lookups.len() / 8;
     let mut table = [0u32; 2048];
-    parts::write_table(p, w, challenges, n, &mut table);
+    powers::write_table(p, w, challenges, n, &mut table);
     let progress = parts::parts(
         p,
         w,
@@ -278,10 +148,10 @@ fn entry_refusal(
     room: usize,
 ) -> Verdict
     requires { ⌜ Sane limits ⌝ }
-    ensures { λ r. ⌜ (refusal r ≡ table-tests limits p (lent-table shape (now (main .entry)) (now (preprocessed .entry)) (now («public_values» .entry)) (now (nodes .entry)) (lent-lookups (now (lookups .entry)) (now (names .entry)) (now (tuples .entry)) (now (multiplicities .entry)) (now (flags .entry)) (now (elements .entry)))) (now (challenges .entry)) (door-tests shape (now (lookups .entry)) (length (now (challenges .entry))) room))
-        × (refusal r ≡ none → Tested limits p (lent-table shape (now (main .entry)) (now (preprocessed .entry)) (now («public_values» .entry)) (now (nodes .entry)) (lent-lookups (now (lookups .entry)) (now (names .entry)) (now (tuples .entry)) (now (multiplicities .entry)) (now (flags .entry)) (now (elements .entry)))) (now (challenges .entry)) × (door-tests shape (now (lookups .entry)) (length (now (challenges .entry))) room ≡ none)) ⌝ }
+    ensures { λ r. ⌜ (refusal r ≡ table-tests limits p (lent-table shape (now (main .entry)) (now (preprocessed .entry)) (now («public_values» .entry)) (now (nodes .entry)) (lent-lookups (now (lookups .entry)) (now (names .entry)) (now (tuples .entry)) (now (multiplicities .entry)) (now (flags .entry)) (now (elements .entry)))) (eqb (length (now (challenges .entry)) % 4) 0) (all-below p (now (challenges .entry))) (door-tests shape (now (lookups .entry)) (length (now (challenges .entry))) room))
+        × (refusal r ≡ none → Tested limits p (lent-table shape (now (main .entry)) (now (preprocessed .entry)) (now («public_values» .entry)) (now (nodes .entry)) (lent-lookups (now (lookups .entry)) (now (names .entry)) (now (tuples .entry)) (now (multiplicities .entry)) (now (flags .entry)) (now (elements .entry)))) (eqb (length (now (challenges .entry)) % 4) 0) (all-below p (now (challenges .entry))) × (door-tests shape (now (lookups .entry)) (length (now (challenges .entry))) room ≡ none)) ⌝ }
 {
-    let verdict = table_refusal(
+    let verdict = door::table_refusal(
         limits,
         p,
         shape,
@@ -295,7 +165,8 @@ fn entry_refusal(
         multiplicities,
         flags,
         elements,
-        challenges,
+        challenges.len() % 4 == 0,
+        all_below(p, challenges),
     );
     match verdict {
         Verdict::Refused(f) => Verdict::Refused(f),

@@ -1,7 +1,8 @@
 use mathlib.Core.Path.{sym, subst}
 use Rattle.expression.specs.laws.Tested.{cabinet-sane}
 use Rattle.expression.specs.Limits.{Sane}
-use Rattle.generation.proofs.Finishing.{at-cabinet, babybear-field}
+use Rattle.prepared.specs.laws.Tested.{babybear-field}
+use Rattle.generation.proofs.Finishing.{at-cabinet}
 use borrow.Author.Needs.{needs}
 use Rattle.generation.proofs.permutation.generate.Statement.{statement}
 use Rattle.generation.proofs.permutation.generate.Tie as tie

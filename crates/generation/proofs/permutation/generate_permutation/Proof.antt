@@ -1,7 +1,8 @@
 use mathlib.Core.Path.{sym, ap, _∙_}
 use Rattle.expression.specs.Refusal.{refusal}
 use Rattle.generation.proofs.Finishing.{refused-is, absent-is, rows-are}
-use Rattle.generation.proofs.Testing.{entry-is, accepted-answer, refused-answer, rows-ready}
+use Rattle.prepared.specs.laws.Entry.{accepted-answer, refused-answer}
+use Rattle.generation.proofs.Testing.{entry-is, rows-ready}
 use borrow.Author.Needs.{needs}
 use Rattle.generation.proofs.permutation.generate_permutation.Statement.{statement}
 use Rattle.generation.proofs.permutation.generate_permutation.Tie as tie

@@ -1,4 +1,5 @@
-use Rattle.generation.proofs.Finishing.{powered, room-after, rows-finished}
+use Rattle.prepared.specs.laws.Table.{powered}
+use Rattle.generation.proofs.Finishing.{room-after, rows-finished}
 use borrow.Author.Needs.{needs}
 use Rattle.generation.proofs.permutation.generate_rows.Statement.{statement}
 use Rattle.generation.proofs.permutation.generate_rows.Tie as tie

@@ -1,0 +1,31 @@
+use mathlib.Core.Path.{_∙_}
+use Rattle.prepared.specs.laws.Table.{powered}
+use Rattle.constraints.specs.laws.Unnamed.{unnamed-verdict}
+use borrow.Author.Needs.{needs}
+use Rattle.constraints.proofs.eval.rows_verdict.Statement.{statement}
+use Rattle.constraints.proofs.eval.rows_verdict.Tie as tie
+
+slice-aggregate-write-table : tie.Need-slice-aggregate-write-table
+slice-aggregate-write-table c = search needs
+
+write-table-requires : tie.Need-write-table-requires
+write-table-requires c κs = search needs
+
+slice-aggregate-eval-rows : tie.Need-slice-aggregate-eval-rows
+slice-aggregate-eval-rows c = search needs
+
+eval-rows-requires : tie.Need-eval-rows-requires
+eval-rows-requires c κs = (record { field = c .before .before .before .before .before .before .before .before .before .before .before .before .before .before .before .pre .0; lists = c .before .before .before .before .before .before .before .before .before .before .before .before .before .before .before .pre .1; below = c .before .before .before .before .before .before .before .before .before .before .before .before .before .before .before .pre .3; enough = c .before .before .before .before .before .before .before .before .before .before .before .before .before .before .before .pre .4; powered = powered _ _ _ _ _ (c .before .before .write-table .ensures) }, c .before .before .before .before .before .before .before .before .before .before .before .before .before .before .before .pre .2, c .before .before .before .before .before .before .before .before .before .before .before .before .before .before .before .pre .6, c .before .before .before .before .before .before .before .before .before .before .before .before .before .before .before .pre .7, c .before .before .before .before .before .before .before .before .before .before .before .before .before .before .before .pre .5)
+
+returns : tie.Need-returns
+returns c = λ names. c .eval-rows .ensures ∙ unnamed-verdict _ _ _ names _ _ _ _ _ _ _ _ _ _
+
+pub rows-verdict-spec : {M : Type 1} → statement M
+rows-verdict-spec =
+    tie.close
+    (tie.spec
+    slice-aggregate-write-table
+    write-table-requires
+    slice-aggregate-eval-rows
+    eval-rows-requires
+    returns)

@@ -1,2 +1,0 @@
-pub mod Unnamed
-pub mod Table

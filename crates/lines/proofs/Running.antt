@@ -1,0 +1,113 @@
+-- One row of the trace, and the turns of the loop over the rows.
+use mathlib.Core.Path.{_≡_, refl, sym, ap, ap₂, _∙_}
+use mathlib.Core.Bool.{Bool, true, false, cond, true≢false}
+use mathlib.Core.Option.{Option, none, some}
+use mathlib.Core.List.{List}
+use Prim.Native.Nat.{ℕ, _+_, _*_, _<_, _≤_, zero-le}
+use native.Mathlib.Nat.{add-zero, suc-mul, mul-le-mul-right, zero-mul}
+use native.Mathlib.Numerals.{add-one}
+use native.Mathlib.Omega.{arith}
+use lib.Dec.{eqb, ltb}
+use lib.ListN.{length}
+use Rattle.lists.specs.Count.{or-else, first}
+use Rattle.lists.specs.laws.Count.{first-stop}
+use Rattle.field.specs.Element.{sub4, element}
+use Rattle.expression.specs.declared.refusal.Refusal.{Refusal}
+use Rattle.lookup.specs.Lookups.{Lookups, lookup-count}
+use Rattle.logup.specs.Rows.{place}
+use Rattle.logup.specs.Constraints.{must-vanish, cell, cell-sum, lookup-constraint, step, binding, row-verdict}
+use Rattle.terms.specs.Constraint.{vanishing}
+use Rattle.lines.specs.Line.{line-sum, line-verdict, becomes, end-verdict, is-refused, Traced}
+
+next-times : (a b m : ℕ) → a < b → a * m + m ≤ b * m
+next-times a b m h = rw suc-mul at (mul-le-mul-right m h)
+
+-- where a row lies
+module _ {p height width n : ℕ} {words : List ℕ} {base : ℕ} (r : ℕ) (s : Traced p height width n words) (e : base ≡ r * width) where
+  pub row-in : r < height → 4 * (base + width) ≤ length words
+  row-in h = omega (arith, next-times r height width h, s .size, e)
+
+  pub fractions-in : r < height → 4 * (base + (n + 1)) ≤ length words
+  fractions-in h = omega (arith, row-in h, s .wide)
+
+  pub accumulator-in : r < height → 4 * base + 4 ≤ length words
+  accumulator-in h = omega (arith, row-in h, s .wide)
+
+  pub next-in : r + 1 < height → 4 * (base + width) + 4 ≤ length words
+  next-in h = omega (arith, next-times (r + 1) height width h, s .size, s .wide, e)
+
+-- the verdict on a row is that of its lookups, then that of its end
+module _ (p w : ℕ) (l : Lookups) (cs : List ℕ) (values : ℕ → List ℕ) (width : ℕ) (words terminal : List ℕ) (height r : ℕ) where
+  abbrev n : ℕ
+  n = lookup-count (l .lookups)
+
+  last : (b : Bool) (x a s : List ℕ)
+      → must-vanish (sub4 p (sub4 p (cond b x terminal) a) s) r (cond b (n + 1) (n + 2))
+      ≡ cond b (must-vanish (sub4 p (sub4 p x a) s) r (n + 1)) (must-vanish (sub4 p (sub4 p terminal a) s) r (n + 2))
+  last true x a s = refl
+  last false x a s = refl
+
+  both : or-else (line-verdict p w l cs (values r) words (r * width) r n)
+      (end-verdict p (cell p w l cs values width words terminal r 0) (cond (ltb (r + 1) height) (cell p w l cs values width words terminal (r + 1) 0) terminal) (cell-sum p w l cs values width words terminal r) n r height)
+      ≡ row-verdict p w l cs values width words terminal height r
+  unfolding row-verdict lookup-constraint step binding cell-sum cell line-verdict end-verdict vanishing place
+  both =
+      ap (λ (o : Option Refusal). or-else (line-verdict p w l cs (values r) words (r * width) r n) (or-else (cond (eqb r 0) (must-vanish (element words (r * width + 0)) r n) none) o))
+      (last (ltb (r + 1) height) (element words ((r + 1) * width + 0)) (element words (r * width + 0)) (cell-sum p w l cs values width words terminal r))
+
+  pub row-is : {o : Option Refusal} {vals sum acc next : List ℕ} {base : ℕ} (x y : Option Refusal) → base ≡ r * width → vals ≡ values r → sum ≡ line-sum p words base n
+      → x ≡ line-verdict p w l cs vals words base r n → acc ≡ element words base → next ≡ becomes words (base + width) r height terminal
+      → y ≡ end-verdict p acc next sum n r height → o ≡ or-else x y → o ≡ row-verdict p w l cs values width words terminal height r
+  unfolding line-sum becomes cell-sum cell
+  row-is {o} {vals} {sum} {acc} {next} {base} x y eb evals es ex ea en ey eo =
+      eo
+      ∙ ap₂ or-else (ex ∙ ap₂ (λ (v : List ℕ) (b : ℕ). line-verdict p w l cs v words b r n) evals eb)
+      (ey ∙ (λ j. end-verdict p (acc≡ j) (next≡ j) (sum≡ j) n r height))
+      ∙ both
+    where
+      acc≡ : acc ≡ element words (r * width + 0)
+      acc≡ = ea ∙ ap (element words) (eb ∙ sym (add-zero (r * width)))
+
+      next≡ : next ≡ cond (ltb (r + 1) height) (element words ((r + 1) * width + 0)) terminal
+      next≡ = en ∙ ap (λ (k : ℕ). cond (ltb (r + 1) height) (element words k) terminal) (ap (λ (k : ℕ). k + width) eb ∙ sym (add-zero ((r + 1) * width) ∙ ap (λ (k : ℕ). k * width) (add-one r) ∙ suc-mul r width))
+
+      sum≡ : sum ≡ cell-sum p w l cs values width words terminal r
+      sum≡ = es ∙ ap (λ (b : ℕ). line-sum p words b n) eb
+
+-- r rows without a refusal
+pub record Running (f : ℕ → Option Refusal) (p height width n : ℕ) (words : List ℕ) (base r : ℕ) : Type 0 where
+  pub cap : 4 * length words < 18446744073709551616
+  pub traced : Traced p height width n words
+  pub within : r ≤ height
+  pub base≡ : base ≡ r * width
+  pub none≡ : first f r ≡ none
+
+pub running-begins : {f : ℕ → Option Refusal} {p height width n : ℕ} {words : List ℕ} → 4 * length words < 18446744073709551616 → Traced p height width n words → Running f p height width n words 0 0
+unfolding first
+running-begins {width = width} c s = record { cap = c; traced = s; within = zero-le; base≡ = sym (zero-mul width); none≡ = refl }
+
+accepted : (o : Option Refusal) → is-refused o ≡ false → o ≡ none
+accepted none e = refl
+accepted (some f) e = absurd (true≢false e)
+
+module _ {f : ℕ → Option Refusal} {p height width n : ℕ} {words : List ℕ} {base r : ℕ} (s : Running f p height width n words base r) where
+  pub running-turn : {b : Bool} (o : Option Refusal) → r < height → o ≡ f r → b ≡ is-refused o → b ≡ false → Running f p height width n words (base + width) (r + 1)
+  unfolding first
+  running-turn o h e eb q =
+      record {
+        cap = s .cap;
+        traced = s .traced;
+        within = omega arith;
+        base≡ = rw (add-one r, suc-mul r width, s .base≡);
+        none≡ = rw (add-one r) (ap₂ or-else (s .none≡) (sym e ∙ accepted o (sym eb ∙ q)));
+      }
+
+  pub running-stops : {b : Bool} (o : Option Refusal) → r < height → o ≡ f r → b ≡ is-refused o → b ≡ true → o ≡ first f height
+  running-stops o h e eb q = go o e (sym eb ∙ q)
+    where
+      go : (o : Option Refusal) → o ≡ f r → is-refused o ≡ true → o ≡ first f height
+      go none e t = absurd (true≢false (sym t))
+      go (some x) e t = sym (first-stop f height r x h (s .none≡) (sym e))
+
+  pub running-ends : height ≤ r → none ≡ first f height
+  running-ends h = let e : r ≡ height = omega (arith, s .within) in sym (s .none≡) ∙ ap (first f) e

@@ -1,0 +1,4 @@
+pub mod Ready
+pub mod Entry
+pub mod Tested
+pub mod laws

@@ -1,0 +1,95 @@
+-- What stands in a list that is made of lists of one length, and so in a table of powers.
+use mathlib.Core.Path.{_≡_, refl, sym, ap, ap₂, _∙_}
+use mathlib.Core.List.{List, [], _∷_, _++_}
+use Prim.Native.Nat.{ℕ, zero, suc, _+_, _*_, _<_, _≤_}
+use native.Mathlib.Nat.{zero-add, mul-le-mul-left, mul-suc}
+use native.Mathlib.Omega.{arith}
+use lib.ListN.{length, length-append, List·getD-append}
+use lib.Seq.{getD-append-add}
+use Rattle.lists.specs.Count.{joined}
+use Rattle.lists.specs.Tab.{tab}
+use Rattle.lists.specs.laws.Count.{last-or-below}
+use Rattle.field.specs.Element.{at, mul4, power4, element}
+use Rattle.column.specs.laws.Powers.{power-four}
+use Rattle.prepared.specs.Ready.{Powered}
+
+pub joined-length : (f : ℕ → List ℕ) (m n : ℕ) → ((i : ℕ) → length (f i) ≡ m) → length (joined f 0 n) ≡ m * n
+unfolding joined
+joined-length f m zero h = omega arith
+joined-length f m (suc n) h = simp length-append (omega (arith, joined-length f m n h, h (0 + n), mul-suc m n))
+
+-- word c of list i
+pub joined-at : (f : ℕ → List ℕ) (m n i c : ℕ) → ((i : ℕ) → length (f i) ≡ m) → i < n → c < m → at (joined f 0 n) (m * i + c) ≡ at (f i) c
+unfolding joined
+joined-at f m zero i c h l k = absurd (omega arith)
+joined-at f m (suc n) i c h l k =
+    last-or-below (λ (i : ℕ). at (joined f 0 n ++ f (0 + n)) (m * i + c) ≡ at (f i) c) n i l
+    (ap (λ (x : ℕ). at (joined f 0 n ++ f (0 + n)) (x + c)) (sym (joined-length f m n h)) ∙ getD-append-add (joined f 0 n) (f (0 + n)) c 0 ∙ ap (λ (j : ℕ). at (f j) c) (zero-add n))
+    (λ t. List·getD-append (joined f 0 n) (f (0 + n)) 0 (m * i + c) (rw (joined-length f m n h) (below t)) ∙ joined-at f m n i c h t k)
+  where
+    below : i < n → m * i + c < m * n
+    below t = omega (arith, mul-suc m i, mul-le-mul-left m t)
+
+pub element-append : (l k : List ℕ) (i : ℕ) → 4 * i + 4 ≤ length l → element (l ++ k) i ≡ element l i
+unfolding element
+element-append l k i h =
+    λ j.
+    List·getD-append l k 0 (4 * i) (omega arith) j
+    ∷ List·getD-append l k 0 (4 * i + 1) (omega arith) j
+    ∷ List·getD-append l k 0 (4 * i + 2) (omega arith) j
+    ∷ List·getD-append l k 0 (4 * i + 3) (omega arith) j
+    ∷ []
+
+power-words : (p w : ℕ) (b : List ℕ) (n : ℕ) → at (power4 p w b n) 0 ∷ at (power4 p w b n) 1 ∷ at (power4 p w b n) 2 ∷ at (power4 p w b n) 3 ∷ [] ≡ power4 p w b n
+unfolding power4 mul4
+power-words p w b zero = refl
+power-words p w b (suc n) = refl
+
+-- the powers of lookup i, in a table of the powers of n lookups
+module _ (p w : ℕ) (beta : ℕ → List ℕ) (n : ℕ) where
+  abbrev pub powers-table : List ℕ
+  powers-table = joined (λ i. joined (power4 p w (beta i)) 0 8) 0 n
+
+  pub row-size : (i : ℕ) → length (joined (power4 p w (beta i)) 0 8) ≡ 32
+  row-size i = joined-length (power4 p w (beta i)) 4 8 (power-four p w (beta i))
+
+  table-at : (i e c : ℕ) → i < n → e < 8 → c < 4 → at powers-table (4 * (8 * i + e) + c) ≡ at (power4 p w (beta i) e) c
+  table-at i e c h k l =
+      ap (at powers-table) q ∙ joined-at (λ i. joined (power4 p w (beta i)) 0 8) 32 n i (4 * e + c) row-size h (omega arith) ∙ joined-at (power4 p w (beta i)) 4 8 e c (power-four p w (beta i)) k l
+    where
+      q : 4 * (8 * i + e) + c ≡ 32 * i + (4 * e + c)
+      q = omega arith
+
+  pub table-element : (i e : ℕ) → i < n → e < 8 → element powers-table (8 * i + e) ≡ power4 p w (beta i) e
+  unfolding element
+  table-element i e h k =
+      (λ j. first j ∷ table-at i e 1 h k (omega arith) j ∷ table-at i e 2 h k (omega arith) j ∷ table-at i e 3 h k (omega arith) j ∷ []) ∙ power-words p w (beta i) e
+    where
+      zeroth : 4 * (8 * i + e) ≡ 4 * (8 * i + e) + 0
+      zeroth = omega arith
+
+      first : at powers-table (4 * (8 * i + e)) ≡ at (power4 p w (beta i) e) 0
+      first = ap (at powers-table) zeroth ∙ table-at i e 0 h k (omega arith)
+
+module _ {A : Type 0} where
+  -- tables that agree entry by entry
+  tab-same : (f g : ℕ → A) (n : ℕ) → ((j : ℕ) → j < n → f j ≡ g j) → tab f 0 n ≡ tab g 0 n
+  unfolding tab
+  tab-same f g zero h = refl
+  tab-same f g (suc n) h = ap₂ (λ (l : List A) (x : A). l ++ (x ∷ [])) (tab-same f g n (λ j k. h j (omega arith))) (h (0 + n) (omega arith))
+
+-- what the rows require of the table
+pub powered : {table : List ℕ} (p w : ℕ) (cs : List ℕ) (n : ℕ) (rest : List ℕ) → table ≡ powers-table p w (λ i. element cs (2 * i + 1)) n ++ rest → Powered p w cs table n
+powered {table} p w cs n rest e =
+    record {
+      size = rw e (simp length-append (omega (arith, long)));
+      powers =
+          λ i h.
+          tab-same (λ e. element table (8 * i + e)) (power4 p w (element cs (2 * i + 1))) 8
+          (λ k t.
+          ap (λ (l : List ℕ). element l (8 * i + k)) e ∙ element-append (powers-table p w (λ i. element cs (2 * i + 1)) n) rest (8 * i + k) (omega (arith, long))
+          ∙ table-element p w (λ i. element cs (2 * i + 1)) n i k h t);
+    }
+  where
+    long : length (powers-table p w (λ i. element cs (2 * i + 1)) n) ≡ 32 * n
+    long = joined-length (λ i. joined (power4 p w (element cs (2 * i + 1))) 0 8) 32 n (row-size p w (λ i. element cs (2 * i + 1)) n)

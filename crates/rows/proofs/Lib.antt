@@ -1,0 +1,4 @@
+pub mod Fraction
+pub mod Lining
+pub mod Rowing
+pub mod Parting

@@ -1,0 +1,38 @@
+-- How many words fractions and sums have.
+use mathlib.Core.Path.{_≡_, refl}
+use mathlib.Core.Bool.{Bool, true, false, cond}
+use mathlib.Core.Option.{Option, none, some}
+use mathlib.Core.List.{List}
+use Prim.Native.Nat.{ℕ, zero, suc, _*_}
+use lib.ListN.{length}
+use Rattle.lists.specs.Count.{joined}
+use Rattle.field.specs.Element.{add4, scale4, sum4}
+use Rattle.lookup.specs.Lookups.{Lookups, exclusive}
+use Rattle.logup.specs.Tuple.{quotient4}
+use Rattle.logup.specs.Column.{Place, branches, multiplicity, flag, used-denom, chosen, branch-fraction, exclusive-fraction, additive-fraction, fraction}
+use Rattle.logup.specs.Rows.{place, fraction-at}
+use Rattle.prepared.specs.laws.Table.{joined-length}
+
+-- a fraction is four words
+option-four : (p w : ℕ) (c : Place) (o : Option ℕ) → length (branch-fraction p w c o) ≡ 4
+unfolding quotient4 scale4
+option-four p w c none = refl
+option-four p w c (some k) = refl
+
+pub sum-four : (p : ℕ) (f : ℕ → List ℕ) (n : ℕ) → length (sum4 p f n) ≡ 4
+unfolding sum4 add4
+sum-four p f zero = refl
+sum-four p f (suc n) = refl
+
+cond-four : (b : Bool) (x y : List ℕ) → length x ≡ 4 → length y ≡ 4 → length (cond b x y) ≡ 4
+cond-four true x y h k = h
+cond-four false x y h k = k
+
+fraction-four : (p w : ℕ) (c : Place) → length (fraction p w c) ≡ 4
+unfolding fraction exclusive-fraction additive-fraction
+fraction-four p w c =
+    cond-four (exclusive (c .lookups .lookups) (c .lookup)) _ _ (option-four p w c (chosen (flag c) (branches c))) (sum-four p (λ k. quotient4 p w (multiplicity c k) (used-denom p w c k)) (branches c))
+
+pub fractions-length : (p w : ℕ) (l : Lookups) (cs : List ℕ) (values : ℕ → List ℕ) (r n : ℕ) → length (joined (fraction-at p w l cs values r) 0 n) ≡ 4 * n
+unfolding fraction-at
+fractions-length p w l cs values r n = joined-length (fraction-at p w l cs values r) 4 n (λ i. fraction-four p w (place p w l cs values r i))

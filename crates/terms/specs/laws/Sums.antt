@@ -1,0 +1,79 @@
+-- Sums and products over the tuples of a lookup: N ÷ D + m ÷ d = (N·d + m·D) ÷ (D·d), tuple by tuple.
+use mathlib.Core.Path.{_≡_, refl, sym, ap, ap₂, _∙_}
+use mathlib.Core.Bool.{Bool, true, false, cond}
+use mathlib.Core.List.{List, [], _∷_}
+use Prim.Native.Nat.{ℕ, zero, suc, _<_, _*_, _%_}
+use native.Mathlib.Omega.{arith}
+use native.Mathlib.Nat.{zero-mul, zero-mod}
+use lib.Dec.{eqb}
+use Rattle.lists.specs.laws.Count.{eqb-true, eqb-false}
+use Rattle.field.specs.Modulus.{Certificate}
+use Rattle.field.specs.Element.{at, zero4, one4, lift, add4, mul4, scale4, sum4, product4}
+use Rattle.field.specs.laws.Extension.{h}
+use Rattle.field.specs.laws.Element.{word-mul4, word-lift, mul4-comm, mul4-assoc, mul4-add, mul4-one, scale4-is}
+
+pub sum4-cong : (p : ℕ) (f g : ℕ → List ℕ) (n : ℕ) → ((i : ℕ) → i < n → f i ≡ g i) → sum4 p f n ≡ sum4 p g n
+unfolding sum4
+sum4-cong p f g zero e = refl
+sum4-cong p f g (suc n) e = ap₂ (add4 p) (sum4-cong p f g n (λ i l. e i (omega arith))) (e n (omega arith))
+
+pub product4-cong : (p w : ℕ) (f g : ℕ → List ℕ) (n : ℕ) → ((i : ℕ) → i < n → f i ≡ g i) → product4 p w f n ≡ product4 p w g n
+unfolding product4
+product4-cong p w f g zero e = refl
+product4-cong p w f g (suc n) e = ap₂ (mul4 p w) (product4-cong p w f g n (λ i l. e i (omega arith))) (e n (omega arith))
+
+module _ (p w : ℕ) (C : Certificate p w) where
+  product4-one : (f : ℕ → List ℕ) (n : ℕ) → mul4 p w (product4 p w f n) one4 ≡ product4 p w f n
+  unfolding product4 mul4
+  product4-one f zero = mul4-one p w C 1 0 0 0 (word-lift p (h p w C) 1 (C .prime .big))
+  product4-one f (suc n) = mul4-one p w C _ _ _ _ (word-mul4 p (h p w C) w (product4 p w f n) (f n))
+
+  zero-times : (d : List ℕ) → mul4 p w zero4 d ≡ zero4
+  unfolding scale4
+  zero-times d =
+      sym (scale4-is p w C 0 d)
+      ∙ (λ j. none (at d 0) j ∷ none (at d 1) j ∷ none (at d 2) j ∷ none (at d 3) j ∷ [])
+    where
+      none : (a : ℕ) → (0 * a) % p ≡ 0
+      none a = ap (λ (n : ℕ). n % p) (zero-mul a) ∙ zero-mod p
+
+  -- a factor goes into a sum
+  sum4-times : (f : ℕ → List ℕ) (d : List ℕ) (n : ℕ) → mul4 p w (sum4 p f n) d ≡ sum4 p (λ i. mul4 p w (f i) d) n
+  unfolding sum4
+  sum4-times f d zero = zero-times d
+  sum4-times f d (suc n) =
+      mul4-comm p w C (add4 p (sum4 p f n) (f n)) d ∙ mul4-add p w C d (sum4 p f n) (f n)
+      ∙ ap₂ (add4 p) (mul4-comm p w C d (sum4 p f n) ∙ sum4-times f d n) (mul4-comm p w C d (f n))
+
+  scale-times : (m : ℕ) (a d : List ℕ) → mul4 p w (scale4 p m a) d ≡ scale4 p m (mul4 p w a d)
+  scale-times m a d =
+      ap (λ (x : List ℕ). mul4 p w x d) (scale4-is p w C m a) ∙ mul4-assoc p w C (lift m) a d ∙ sym (scale4-is p w C m (mul4 p w a d))
+
+  module _ (m : ℕ → ℕ) (d : ℕ → List ℕ) where
+    -- the product of the first n denominators but the k-th
+    abbrev pub all-but : ℕ → ℕ → List ℕ
+    all-but n k = product4 p w (λ j. cond (eqb j k) one4 (d j)) n
+
+    -- the numerator of the first n tuples
+    abbrev pub numerator-to : ℕ → List ℕ
+    numerator-to n = sum4 p (λ k. scale4 p (m k) (all-but n k)) n
+
+    but-last : (n : ℕ) → all-but n n ≡ product4 p w d n
+    but-last n = product4-cong p w (λ j. cond (eqb j n) one4 (d j)) d n (λ j l. ap (λ (b : Bool). cond b one4 (d j)) (eqb-false {a = j} {b = n} (λ (e : j ≡ n). omega arith)))
+
+    but-next : (n k : ℕ) → k < n → all-but (suc n) k ≡ mul4 p w (all-but n k) (d n)
+    unfolding product4
+    but-next n k l = ap (λ (b : Bool). mul4 p w (all-but n k) (cond b one4 (d n))) (eqb-false {a = n} {b = k} (λ (e : n ≡ k). omega arith))
+
+    but-self : (n : ℕ) → all-but (suc n) n ≡ product4 p w d n
+    unfolding product4
+    but-self n = ap (λ (b : Bool). mul4 p w (all-but n n) (cond b one4 (d n))) (eqb-true {a = n} refl) ∙ product4-one (λ j. cond (eqb j n) one4 (d j)) n ∙ but-last n
+
+    pub numerator-next : (n : ℕ) → numerator-to (suc n) ≡ add4 p (mul4 p w (numerator-to n) (d n)) (scale4 p (m n) (product4 p w d n))
+    unfolding sum4
+    numerator-next n =
+        ap₂ (add4 p)
+        (sum4-cong p (λ k. scale4 p (m k) (all-but (suc n) k)) (λ k. mul4 p w (scale4 p (m k) (all-but n k)) (d n)) n
+        (λ k l. ap (scale4 p (m k)) (but-next n k l) ∙ sym (scale-times (m k) (all-but n k) (d n)))
+        ∙ sym (sum4-times (λ k. scale4 p (m k) (all-but n k)) (d n) n))
+        (ap (scale4 p (m n)) (but-self n))
