@@ -1,12 +1,12 @@
 // `check_lookups`: whether every group of lookups is balanced over all tables.
-use crate::tests::lists_fit;
-use crate::tests::tables_verdict;
 use expression::refusal::Refusal;
 use expression::refusal::Verdict;
 use expression::sizes::Limits;
 use expression::sizes::cabinet;
 use groups::visits::accepted;
 use groups::visits::visit_groups;
+use several::tests::lists_fit;
+use several::tests::tables_verdict;
 ghost use mathlib.Core.Path.{_≡_};
 ghost use Rattle.field.specs.Modulus.{Modulus, babybear};
 ghost use Rattle.expression.specs.Limits as Sizes;

@@ -1,4 +1,2 @@
-// Balance's door (`check_lookups`), and the tests of several tables before it.
+// Balance's door (`check_lookups`).
 pub mod debug_util;
-pub mod spans;
-pub mod tests;

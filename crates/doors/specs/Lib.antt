@@ -1,2 +1,3 @@
 pub mod Element
 pub mod Generation
+pub mod Types

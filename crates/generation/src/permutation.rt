@@ -26,9 +26,6 @@ ghost use Rattle.generation.specs.Entry.{words-tested, lists-tested, tab
 ghost use Rattle.generation.specs.Tested.{Tested};
 use crate::parts;
 use crate::parts::Progress;
-use expression::degrees::degrees_low;
-use expression::nodes::constants_below;
-use expression::nodes::nodes_known;
 use expression::refusal::Refusal;
 use expression::refusal::Verdict;
 use expression::sizes;
@@ -39,6 +36,9 @@ use logup::logup::Generated;
 use lookup::entry;
 use lookup::tests;
 use lookup::types::LookupTerminal;
+use screening::degrees::degrees_low;
+use screening::nodes::constants_below;
+use screening::nodes::nodes_known;
 
 // Refusal 1 of the table and the challenges.
 fn sizes_tested(

@@ -16,11 +16,11 @@ ghost use Rattle.generation.specs.Ready.{lent-values, Lists, Ready, Stan
 use column::fractions;
 use column::fractions::Fraction;
 use column::tuple;
+use evaluation::traits;
 use expression::refusal;
 use expression::refusal::Refusal;
 use expression::refusal::Verdict;
 use expression::sizes::Shape;
-use expression::traits;
 use expression::words::index;
 use field::extension;
 use field::extension::Ext;
