@@ -1,8 +1,8 @@
 // Refusals 1 to 5 and 9 of several tables.
+use crate::spans::spans_of;
 use answers::numbers::number;
 use balance::tables::shape_of;
 use balance::tables::size_start;
-use crate::spans::spans_of;
 use expression::refusal::Refusal;
 use expression::refusal::Verdict;
 use expression::refusal::first;
