@@ -1,4 +1,3 @@
-// Balance: the tables of a call, their groups, and the door.
-pub mod groups;
+// Balance: the tables of a call, and what one of their lookups enters.
 pub mod member;
 pub mod tables;

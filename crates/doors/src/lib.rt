@@ -1,5 +1,6 @@
 // Functions for other languages: numbers and slices of words in, a refusal's number and details out.
 pub mod answer;
+pub mod balancing;
 pub mod element;
 pub mod permutation;
 pub mod small;

@@ -155,7 +155,7 @@ module _ (l : Lists) (f : Fitted l) where
       omega (arith, e)
 
   -- a word of a lookup
-  entry-of-table : (t i k : ℕ) → i < size (l .sizes) 8 t → k < 8 → entry (G .lookups) (size-start (l .sizes) 8 t + i) k ≡ entry (T t .lookups) i k
+  pub entry-of-table : (t i k : ℕ) → i < size (l .sizes) 8 t → k < 8 → entry (G .lookups) (size-start (l .sizes) 8 t + i) k ≡ entry (T t .lookups) i k
   unfolding lookups-at
   entry-of-table t i k h g =
       let e : 8 * (size-start (l .sizes) 8 t + i) + k ≡ 8 * size-start (l .sizes) 8 t + (8 * i + k) = omega arith in
@@ -198,13 +198,13 @@ module _ (l : Lists) (f : Fitted l) where
       (λ t q. own-size 12 t (G .flags) (flag-count (T t .lookups)) q (f .flags) (f .each t q .flags)) t i h g
 
   -- a width of a table's tuple
-  width-of-table : (t j : ℕ) → j < size (l .sizes) 10 t → word (G .tuples) (size-start (l .sizes) 10 t + j) ≡ word (T t .tuples) j
+  pub width-of-table : (t j : ℕ) → j < size (l .sizes) 10 t → word (G .tuples) (size-start (l .sizes) 10 t + j) ≡ word (T t .tuples) j
   unfolding lookups-at
   width-of-table t j h =
       let e : size-start (l .sizes) 10 t + j ≡ 1 * size-start (l .sizes) 10 t + j = omega arith in
       ap (word (G .tuples)) e ∙ sym (part-at (l .sizes) 10 1 t j (G .tuples) (omega arith))
 
-  tuples-of-table : (t : ℕ) → t < N → length (T t .tuples) ≡ size (l .sizes) 10 t
+  pub tuples-of-table : (t : ℕ) → t < N → length (T t .tuples) ≡ size (l .sizes) 10 t
   unfolding lookups-at
   tuples-of-table t h = part-long (l .sizes) 10 1 t N (G .tuples) h (f .tuples) ∙ (let e : 1 * size (l .sizes) 10 t ≡ size (l .sizes) 10 t = omega arith in e)
 
@@ -291,6 +291,48 @@ module _ (l : Lists) (f : Fitted l) where
 
   pub whole-count : lookup-count (G .lookups) ≡ size-start (l .sizes) 8 N
   whole-count = omega (arith, f .lookups)
+
+  -- the whole lists are as long as the lookups say
+  whole-names : name-start (G .lookups) (size-start (l .sizes) 8 N) ≡ size-start (l .sizes) 9 N
+  unfolding name-start size-start lookups-at
+  whole-names =
+      table-starts (size (l .sizes) 8) (name-length (G .lookups)) (λ t. name-length (T t .lookups)) (size (l .sizes) 9) N (λ t j q r. name-of-table t j r)
+      (λ t q. own-size 9 t (G .names) (name-length (T t .lookups)) q (f .names) (f .each t q .names)) N (omega arith)
+
+  -- a word f of each lookup, and the size g of each table that is its sum
+  whole-sums : (k g : ℕ) → k < 8 → ((t : ℕ) → t < N → size (l .sizes) g t ≡ total (λ i. entry (T t .lookups) i k) (size (l .sizes) 8 t))
+      → total (λ i. entry (G .lookups) i k) (size-start (l .sizes) 8 N) ≡ size-start (l .sizes) g N
+  unfolding size-start
+  whole-sums k g h e =
+      table-starts (size (l .sizes) 8) (λ i. entry (G .lookups) i k) (λ t i. entry (T t .lookups) i k) (size (l .sizes) g) N (λ t j q r. entry-of-table t j k r h) e N (omega arith)
+
+  whole-elements : element-start (G .tuples) (size-start (l .sizes) 10 N) ≡ size-start (l .sizes) 13 N
+  unfolding element-start size-start
+  whole-elements =
+      table-starts (size (l .sizes) 10) (word (G .tuples)) (λ t. word (T t .tuples)) (size (l .sizes) 13) N (λ t j q r. width-of-table t j r) elements-of-table N (omega arith)
+
+  pub whole-fitting : Fitting G
+  unfolding tuple-start multiplicity-start flag-start lookups-at
+  whole-fitting =
+      record {
+        lookups = omega (arith, f .lookups);
+        names = f .names ∙ one-time (size-start (l .sizes) 9 N) ∙ sym whole-names ∙ ap (name-start (G .lookups)) (sym whole-count);
+        tuples =
+            f .tuples ∙ one-time (size-start (l .sizes) 10 N)
+            ∙ sym (whole-sums 5 10 (omega arith) (λ t q. own-size 10 t (G .tuples) (tuple-count (T t .lookups)) q (f .tuples) (f .each t q .tuples))) ∙ ap (total (tuple-count (G .lookups))) (sym whole-count);
+        multiplicities =
+            f .multiplicities ∙ one-time (size-start (l .sizes) 11 N)
+            ∙ sym (whole-sums 6 11 (omega arith) (λ t q. own-size 11 t (G .multiplicities) (multiplicity-count (T t .lookups)) q (f .multiplicities) (f .each t q .multiplicities))) ∙ ap (total (multiplicity-count (G .lookups))) (sym whole-count);
+        flags =
+            f .flags ∙ one-time (size-start (l .sizes) 12 N)
+            ∙ sym (whole-sums 7 12 (omega arith) (λ t q. own-size 12 t (G .flags) (flag-count (T t .lookups)) q (f .flags) (f .each t q .flags))) ∙ ap (total (flag-count (G .lookups))) (sym whole-count);
+        elements =
+            f .elements ∙ one-time (size-start (l .sizes) 13 N) ∙ sym whole-elements
+            ∙ ap (element-start (G .tuples)) (sym (f .tuples ∙ one-time (size-start (l .sizes) 10 N)));
+      }
+    where
+      one-time : (n : ℕ) → 1 * n ≡ n
+      one-time n = omega arith
 
   -- The members of all tables are the lookups of the whole lists by number.
   pub members-are : members (tables-of l) ≡ tab (member-at l) 0 (lookup-count (G .lookups))

@@ -1,0 +1,2 @@
+// Balance's door (`check_lookups`).
+pub mod debug_util;

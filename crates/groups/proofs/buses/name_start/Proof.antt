@@ -1,0 +1,54 @@
+use mathlib.Core.Path.{_∙_}
+use native.Mathlib.Omega.{arith}
+use Prim.Native.Nat.{_-_}
+use Rattle.lookup.specs.Lookups.{name-length, name-start}
+use Rattle.lists.specs.laws.Turns.{Summing, sum-begins, sum-turn, sum-ends}
+use borrow.Author.Needs.{needs}
+use Rattle.groups.proofs.buses.name_start.Statement.{statement}
+use Rattle.groups.proofs.buses.name_start.Tie as tie
+
+abbrev Inv-loop : tie.InvT-loop
+Inv-loop lookups i sum₀ j₀ sum j = Summing (name-length lookups) 4294967295 i j sum
+
+abbrev μ-loop : tie.MeasureT-loop
+μ-loop lookups i sum₀ j₀ sum j = i - j
+
+loop-holds : tie.Need-loop-holds Inv-loop μ-loop
+loop-holds c = sum-begins
+
+name-length-requires : tie.Need-name-length-requires Inv-loop μ-loop
+name-length-requires c κs = search needs
+
+index-requires : tie.Need-index-requires Inv-loop μ-loop
+index-requires c κs = search needs
+
+add-sum : tie.Need-add-sum Inv-loop μ-loop
+add-sum c = search needs
+
+add-j : tie.Need-add-j Inv-loop μ-loop
+add-j c = search needs
+
+loop-less : tie.Need-loop-less Inv-loop μ-loop
+loop-less c = search needs
+
+loop-again : tie.Need-loop-again Inv-loop μ-loop
+loop-again c = sum-turn (c .index .result) (c .before .before .before .loop .inv) (search needs) (c .index .ensures .1) (c .index .ensures .0 ∙ c .before .name-length .ensures)
+
+returns : tie.Need-returns Inv-loop μ-loop
+unfolding name-start
+returns c = (sum-ends (c .before .loop .inv) (search needs), omega (arith, c .before .loop .inv .small, c .before .loop .inv .within))
+
+pub name-start-spec : {M : Type 1} → statement M
+name-start-spec =
+    tie.close
+    (tie.spec
+    Inv-loop
+    μ-loop
+    loop-holds
+    name-length-requires
+    index-requires
+    add-sum
+    add-j
+    loop-less
+    loop-again
+    returns)

@@ -1,0 +1,3 @@
+pub mod Lowest
+pub mod Spans
+pub mod laws
