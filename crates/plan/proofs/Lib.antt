@@ -1,0 +1,3 @@
+pub mod Filling
+pub mod Planning
+pub mod Copying
