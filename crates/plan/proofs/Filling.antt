@@ -14,7 +14,7 @@ use Rattle.lookup.specs.Lookups.{lookup-count, on-bus, name-length, exclusive, 
 use Rattle.degree.specs.Sums.{greatest}
 use Rattle.degree.specs.At.{denominator-at, numerator-at}
 use Rattle.plan.specs.Columns.{Source, top-at, opened, opened-at, merge, fits, joins-at, columns-from, columns-of, held, column-words}
-use Rattle.plan.specs.Asks.{Within, Low, Numbers, Taken}
+use Rattle.plan.specs.Asks.{Within, Low, Taken}
 use Rattle.plan.specs.declared.columns.Open.{Open}
 use Rattle.plan.specs.declared.columns.Column.{Column}
 
@@ -157,10 +157,6 @@ eight-set (_ ∷ _ ∷ _ ∷ _ ∷ _ ∷ _ ∷ []) a b c d e f g h z = absurd (o
 eight-set (_ ∷ _ ∷ _ ∷ _ ∷ _ ∷ _ ∷ _ ∷ []) a b c d e f g h z = absurd (omega arith)
 eight-set (_ ∷ _ ∷ _ ∷ _ ∷ _ ∷ _ ∷ _ ∷ _ ∷ []) a b c d e f g h z = refl
 eight-set (_ ∷ _ ∷ _ ∷ _ ∷ _ ∷ _ ∷ _ ∷ _ ∷ _ ∷ l) a b c d e f g h z = absurd (omega arith)
-
--- a number of the order is a lookup's
-pub numbered : {n i k : ℕ} {order : List ℕ} → Numbers n order → k < length order → i ≡ word order k → i < n
-numbered {n} {i} {k} {order} s h e = rw e (s .below k h)
 
 pub merged-small : {s : Source} {xs : List ℕ} {k t : ℕ} {o a n : Open} → Filling s xs k o t → Within 549755813888 a → n ≡ merge o a → n .sum ≤ 70368744177664
 unfolding merge

@@ -4,7 +4,7 @@ use mathlib.Core.List.{List, _∷_, _++_}
 use Prim.Native.Nat.{ℕ, _+_, _*_, _<_, _≤_}
 use lib.ListN.{length, drop, replicate}
 use Rattle.expression.specs.Words.{word}
-use Rattle.lookup.specs.Lookups.{lookup-count, tuple-start}
+use Rattle.lookup.specs.Lookups.{lookup-count}
 use Rattle.degree.specs.At.{Few}
 use Rattle.widths.specs.Asks.{Named}
 use Rattle.plan.specs.Columns.{Source, columns-of, ordered, words-from, heads-of, over-of}
@@ -31,11 +31,6 @@ pub record Ready (nodes lookups names : List ℕ) : Type 0 where
   pub each : (i : ℕ) → i < lookup-count lookups → Few lookups i
   pub low : Low nodes
 
--- numbers of lookups
-pub record Numbers (n : ℕ) (order : List ℕ) : Type 0 where
-  pub short : length order ≤ 64
-  pub below : (t : ℕ) → t < length order → word order t < n
-
 -- the column that begins at place k of the order
 pub record Taken (s : Source) (order : List ℕ) (k : ℕ) (r : Column) : Type 0 where
   pub is : columns-of s (drop k order) ≡ r .numbers ∷ columns-of s (drop (r .end) order)
@@ -52,8 +47,3 @@ pub record Planned (s : Source) (r : Plan) : Type 0 where
   pub heads : r .heads ≡ heads-of (columns-of s (ordered (s .lookups) (s .names))) ++ drop (r .columns) (replicate 64 0)
   pub words : r .words ≡ words-from (s .lookups) 0 (columns-of s (ordered (s .lookups) (s .names))) ++ drop (8 * r .columns) (replicate 512 0)
   pub over : r .over ≡ over-of (columns-of s (ordered (s .lookups) (s .names)))
-
--- few lookups and tuples
-pub record Parted (lookups : List ℕ) : Type 0 where
-  pub few : lookup-count lookups ≤ 64
-  pub short : (i : ℕ) → i ≤ lookup-count lookups → tuple-start lookups i ≤ 64

@@ -19,8 +19,9 @@ ghost use Rattle.expression.specs.Values.{bit};
 ghost use Rattle.lookup.specs.Lookups.{lookup-count};
 ghost use Rattle.degree.specs.At.{Few};
 ghost use Rattle.widths.specs.Asks.{Named};
+ghost use Rattle.parts.specs.Asks.{Numbers};
 ghost use Rattle.plan.specs.Columns.{source, top-at, opened, merge, column-degree, fits, held, column-words};
-ghost use Rattle.plan.specs.Asks.{Within, Low, Ready, Numbers, Taken, Planned};
+ghost use Rattle.plan.specs.Asks.{Within, Low, Ready, Taken, Planned};
 
 // A column: its first lookup, the degree of its denominators, the larger of that and its numerator's, its weight, and how many
 // tuples, multiplicities and flags it has. 64 bits hold the sums of any 64 lookups.

@@ -1,3 +1,2 @@
-// The plan of packing: which lookups share a column, and the lists in the order of the columns.
+// The plan of packing: which lookups share a column.
 pub mod columns;
-pub mod parts;

@@ -1,4 +1,5 @@
-use Rattle.plan.proofs.Filling.{small, numbered, merged-small}
+use Rattle.parts.specs.laws.Numbers.{numbered}
+use Rattle.plan.proofs.Filling.{small, merged-small}
 use native.Mathlib.Omega.{arith}
 use Rattle.plan.proofs.Filling.{Filling, fill-begins, fill-turn, fill-stops, fill-ends}
 use Rattle.plan.specs.Columns.{source}

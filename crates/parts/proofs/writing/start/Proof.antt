@@ -1,10 +1,10 @@
-use Rattle.plan.specs.Parts.{start-at}
+use Rattle.parts.specs.Parts.{start-at}
 use Rattle.lookup.specs.Lookups.{element-start}
 use mathlib.Core.Path.{_∙_, ap}
 use native.Mathlib.Omega.{arith}
 use borrow.Author.Needs.{needs}
-use Rattle.plan.proofs.parts.start.Statement.{statement}
-use Rattle.plan.proofs.parts.start.Tie as tie
+use Rattle.parts.proofs.writing.start.Statement.{statement}
+use Rattle.parts.proofs.writing.start.Tie as tie
 
 enum-told : tie.Need-enum-told
 enum-told c = search needs

@@ -12,10 +12,10 @@ use Rattle.lists.specs.laws.Parts.{take-one, take-more}
 use Rattle.lists.specs.laws.Filled.{Filled, filled-none, filled-one, filled-part}
 use Rattle.expression.specs.Words.{word}
 use Rattle.lookup.specs.Lookups.{lookup-count, name-start, tuple-start, multiplicity-start, flag-start, element-start}
-use Rattle.plan.specs.Parts.{start-at, span-at, part-at, parts-of}
-use Rattle.plan.specs.Asks.{Numbers}
-use Rattle.plan.specs.declared.parts.Part.{Part}
-use Rattle.plan.specs.declared.parts.Part.the-variants.{Names, Tuples, Multiplicities, Flags, Elements}
+use Rattle.parts.specs.Parts.{start-at, span-at, part-at, parts-of}
+use Rattle.parts.specs.Asks.{Numbers}
+use Rattle.parts.specs.declared.writing.Part.{Part}
+use Rattle.parts.specs.declared.writing.Part.the-variants.{Names, Tuples, Multiplicities, Flags, Elements}
 
 -- the first i words are copied
 pub record Copying (src d b : List ℕ) (i : ℕ) : Type 0 where
