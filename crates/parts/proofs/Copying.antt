@@ -7,15 +7,14 @@ use native.Mathlib.Omega.{arith}
 use lib.ListN.{length, take, drop, getD, set, length-append, length-take, length-drop, drop-of-length-le}
 use lib.Seq.{take-all}
 use borrow.Rule.Slice.PartMut.{putMid}
-use Rattle.lists.specs.laws.Count.{total-le, total-one}
 use Rattle.lists.specs.laws.Parts.{take-one, take-more}
 use Rattle.lists.specs.laws.Filled.{Filled, filled-none, filled-one, filled-part}
 use Rattle.expression.specs.Words.{word}
-use Rattle.lookup.specs.Lookups.{lookup-count, name-start, tuple-start, multiplicity-start, flag-start, element-start}
+use Rattle.lookup.specs.Lookups.{lookup-count}
 use Rattle.parts.specs.Parts.{start-at, span-at, part-at, parts-of}
 use Rattle.parts.specs.Asks.{Numbers}
+use Rattle.parts.specs.laws.Starts.{start-le}
 use Rattle.parts.specs.declared.writing.Part.{Part}
-use Rattle.parts.specs.declared.writing.Part.the-variants.{Names, Tuples, Multiplicities, Flags, Elements}
 
 -- the first i words are copied
 pub record Copying (src d b : List ℕ) (i : ℕ) : Type 0 where
@@ -33,15 +32,6 @@ copy-turn {src} {d} {b} {i} s h =
 pub copy-ends : {src d b : List ℕ} {i : ℕ} → Copying src d b i → length src ≤ i → b ≡ src ++ drop (length src) d
 copy-ends {src} {d} {b} {i} s h =
     let e : i ≡ length src = omega (arith, s .within) in s .out .is ∙ ap₂ (λ (x : List ℕ) (n : ℕ). x ++ drop n d) (take-all i src h) e
-
--- a start is no further than a later one
-pub start-le : (part : Part) (lookups tuples : List ℕ) (i j : ℕ) → i ≤ j → start-at part lookups tuples i ≤ start-at part lookups tuples j
-unfolding start-at name-start tuple-start multiplicity-start flag-start element-start
-start-le Names lookups tuples i j h = total-le _ i j h
-start-le Tuples lookups tuples i j h = total-le _ i j h
-start-le Multiplicities lookups tuples i j h = total-le _ i j h
-start-le Flags lookups tuples i j h = total-le _ i j h
-start-le Elements lookups tuples i j h = total-le _ _ _ (total-le _ i j h)
 
 -- the parts of the first t are written
 module _ (f : ℕ → List ℕ) where

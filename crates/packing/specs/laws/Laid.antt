@@ -38,7 +38,7 @@ use Rattle.packing.specs.Packing.{passes, in-order, merged, joins, fill,
 use Rattle.packing.specs.Written.{lookup-words, words-of}
 use Rattle.packing.specs.Door.{columns}
 use Rattle.packing.specs.laws.Columns.{filled-sum, order-sum}
-use Rattle.packing.specs.laws.Planned.{Matched, plan-matches, over-matches, names-match, count-matches, words-match}
+use Rattle.packing.specs.laws.Planned.{Matched, plan-matches, over-matches, names-match, count-matches, words-match, heads-match}
 
 -- what each lookup carries is carried by the columns, in order
 module _ {B : Type 0} (g : Lookup → List B) where
@@ -167,6 +167,7 @@ name-part lookups names tuples i = part-of-total (name-length lookups) i names
 
 -- the plan's columns are `os`
 pub record Laid (limit : ℕ) (nodes : List ℕ) (l : Lookups) (os : List Open) : Type 0 where
+  pub heads : (t : ℕ) → t < length (heads-of os) → word (heads-of os) t < lookup-count (l .lookups)
   pub over : over-of os ≡ overweight (columns limit nodes l)
   pub count : length (words-of (columns limit nodes l) .lookups) ≡ 8 * length os
   pub lookups : over-of os ≡ false → words-of (columns limit nodes l) .lookups ≡ words-from (l .lookups) 0 os
@@ -232,6 +233,7 @@ module _ (m : Limits) (nodes : List ℕ) (l : Lookups) (f : Formed m nodes l) (l
   unfolding columns packed words-of parts-of
   laid b d eb ed =
       record {
+        heads = heads-match (word b) (l .lookups) (l .names) os cs ms;
         over = over-matches (word b) (l .lookups) (l .names) os cs ms ∙ sym (overweight-renumbered 0 cs) ∙ ap overweight same;
         count = ap (λ (x : List Lookup). length (flatMap lookup-words x)) (sym same) ∙ count-matches (word b) (l .lookups) (l .names) 0 os cs ms;
         lookups = λ e. ap (flatMap lookup-words) (sym same)

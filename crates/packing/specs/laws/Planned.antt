@@ -205,3 +205,16 @@ module _ (deg : ℕ → ℕ) (lookups names : List ℕ) where
       let ne = sym (s .long) in
       let rest = words-match (suc k) os cs (m .1) (v .1) (omega arith) (omega arith) (omega arith) in
       λ j. sym a j ∷ ne j ∷ we j ∷ k ∷ sym x j ∷ te j ∷ me j ∷ fe j ∷ rest j
+
+  pub heads-match : (os : List Open) (cs : List Lookup) → Matched deg lookups names os cs → (t : ℕ) → t < length (heads-of os) → word (heads-of os) t < lookup-count lookups
+  unfolding heads-of
+  heads-match [] [] m t h = absurd (omega arith)
+  heads-match [] (c ∷ cs) m t h = absurd m
+  heads-match (o ∷ os) [] m t h = absurd m
+  heads-match (o ∷ os) (c ∷ cs) m zero h = m .0 .here
+  heads-match (o ∷ os) (c ∷ cs) m (suc t) h = heads-match os cs (m .1) t (omega arith)
+
+pub heads-long : (os : List Open) → length (heads-of os) ≡ length os
+unfolding heads-of
+heads-long [] = refl
+heads-long (o ∷ os) = ap suc (heads-long os)
