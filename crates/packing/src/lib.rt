@@ -1,2 +1,3 @@
 // Packing: same-bus lookups share columns.
 pub mod door;
+pub mod layout;

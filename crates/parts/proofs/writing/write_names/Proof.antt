@@ -1,0 +1,118 @@
+use Rattle.parts.proofs.Copying.{Writing, write-begins, write-room, write-turn, write-ends, start-next, next-part, copied, copy-room}
+use Rattle.parts.specs.laws.Numbers.{numbered}
+use Rattle.parts.specs.Parts.{part-at, parts-of}
+use lib.ListN.{length}
+use Prim.Native.Nat.{_-_}
+use native.Mathlib.Omega.{arith}
+use Rattle.parts.specs.declared.writing.Part.the-variants.{Names}
+use mathlib.Core.List.{[]}
+use borrow.Author.Needs.{needs}
+use Rattle.parts.proofs.writing.write_names.Statement.{statement}
+use Rattle.parts.proofs.writing.write_names.Tie as tie
+
+abbrev Inv-loop : tie.InvT-loop
+Inv-loop lookups order src out₀ none end₀ t₀ out end t = Writing (part-at Names lookups [] src) order out₀ out end t
+
+abbrev μ-loop : tie.MeasureT-loop
+μ-loop lookups order src out₀ none end₀ t₀ out end t = length order - t
+
+loop-holds : tie.Need-loop-holds Inv-loop μ-loop
+unfolding parts-of
+loop-holds c = write-begins (c .before .before .before .before .pre .3)
+
+mul-index : tie.Need-mul-index Inv-loop μ-loop
+mul-index c = search needs
+
+shared-slice-read-index : tie.Need-shared-slice-read-index Inv-loop μ-loop
+shared-slice-read-index c = search needs
+
+index-requires : tie.Need-index-requires Inv-loop μ-loop
+index-requires c κs = search needs
+
+slice-aggregate-start : tie.Need-slice-aggregate-start Inv-loop μ-loop
+slice-aggregate-start c = search needs
+
+start-requires : tie.Need-start-requires Inv-loop μ-loop
+start-requires c κs = (c .before .before .before .before .before .before .before .before .before .pre .0, omega (arith, numbered (c .before .before .before .before .before .before .before .before .before .pre .1) (search needs) (c .before .index .ensures .0)))
+
+slice-aggregate-start-2 : tie.Need-slice-aggregate-start-2 Inv-loop μ-loop
+slice-aggregate-start-2 c = search needs
+
+add-start : tie.Need-add-start Inv-loop μ-loop
+add-start c = search needs
+
+start-requires-2 : tie.Need-start-requires-2 Inv-loop μ-loop
+start-requires-2 c κs = (c .before .before .before .before .before .before .before .before .before .before .before .pre .0, omega (arith, numbered (c .before .before .before .before .before .before .before .before .before .before .before .pre .1) (search needs) (c .before .before .before .index .ensures .0)))
+
+sub-next : tie.Need-sub-next Inv-loop μ-loop
+sub-next c = (next-part Names (c .before .before .before .before .before .before .before .before .before .before .before .before .args .lookups .now) [] (c .before .before .before .before .before .before .before .before .before .before .before .before .args .order .now) (c .before .before .before .before .before .before .before .before .before .before .before .before .args .src .now) _ (c .before .before .before .before .before .before .before .before .before .before .before .before .pre .1) (c .before .before .before .before .before .before .before .before .before .before .before .before .pre .2) (search needs) (c .before .before .before .before .index .ensures .0) (c .before .before .start .ensures .0) (c .start2 .ensures .0)) .le
+
+add-next : tie.Need-add-next Inv-loop μ-loop
+add-next c = omega (arith, write-room _ (c .before .before .before .before .before .before .before .loop .inv) (search needs) ((next-part Names (c .before .before .before .before .before .before .before .before .before .before .before .before .args .lookups .now) [] (c .before .before .before .before .before .before .before .before .before .before .before .before .args .order .now) (c .before .before .before .before .before .before .before .before .before .before .before .before .args .src .now) _ (c .before .before .before .before .before .before .before .before .before .before .before .before .pre .1) (c .before .before .before .before .before .before .before .before .before .before .before .before .pre .2) (search needs) (c .before .before .before .before .index .ensures .0) (c .before .before .start .ensures .0) (c .start2 .ensures .0)) .long))
+
+sub-copy-bytes : tie.Need-sub-copy-bytes Inv-loop μ-loop
+sub-copy-bytes c = (next-part Names (c .before .before .before .before .before .before .before .before .before .before .before .before .args .lookups .now) [] (c .before .before .before .before .before .before .before .before .before .before .before .before .args .order .now) (c .before .before .before .before .before .before .before .before .before .before .before .before .args .src .now) _ (c .before .before .before .before .before .before .before .before .before .before .before .before .pre .1) (c .before .before .before .before .before .before .before .before .before .before .before .before .pre .2) (search needs) (c .before .before .before .before .index .ensures .0) (c .before .before .start .ensures .0) (c .start2 .ensures .0)) .le
+
+part-copy-bytes-start : tie.Need-part-copy-bytes-start Inv-loop μ-loop
+part-copy-bytes-start c = (next-part Names (c .before .before .before .before .before .before .before .before .before .before .before .before .args .lookups .now) [] (c .before .before .before .before .before .before .before .before .before .before .before .before .args .order .now) (c .before .before .before .before .before .before .before .before .before .before .before .before .args .src .now) _ (c .before .before .before .before .before .before .before .before .before .before .before .before .pre .1) (c .before .before .before .before .before .before .before .before .before .before .before .before .pre .2) (search needs) (c .before .before .before .before .index .ensures .0) (c .before .before .start .ensures .0) (c .start2 .ensures .0)) .le
+
+part-copy-bytes-end : tie.Need-part-copy-bytes-end Inv-loop μ-loop
+part-copy-bytes-end c = (next-part Names (c .before .before .before .before .before .before .before .before .before .before .before .before .args .lookups .now) [] (c .before .before .before .before .before .before .before .before .before .before .before .before .args .order .now) (c .before .before .before .before .before .before .before .before .before .before .before .before .args .src .now) _ (c .before .before .before .before .before .before .before .before .before .before .before .before .pre .1) (c .before .before .before .before .before .before .before .before .before .before .before .before .pre .2) (search needs) (c .before .before .before .before .index .ensures .0) (c .before .before .start .ensures .0) (c .start2 .ensures .0)) .in-list
+
+sub-copy-bytes-2 : tie.Need-sub-copy-bytes-2 Inv-loop μ-loop
+sub-copy-bytes-2 c = search needs
+
+part-copy-bytes-start-2 : tie.Need-part-copy-bytes-start-2 Inv-loop μ-loop
+part-copy-bytes-start-2 c = search needs
+
+part-copy-bytes-end-2 : tie.Need-part-copy-bytes-end-2 Inv-loop μ-loop
+part-copy-bytes-end-2 c = write-room _ (c .before .before .before .before .before .before .before .before .loop .inv) (search needs) ((next-part Names (c .before .before .before .before .before .before .before .before .before .before .before .before .before .args .lookups .now) [] (c .before .before .before .before .before .before .before .before .before .before .before .before .before .args .order .now) (c .before .before .before .before .before .before .before .before .before .before .before .before .before .args .src .now) _ (c .before .before .before .before .before .before .before .before .before .before .before .before .before .pre .1) (c .before .before .before .before .before .before .before .before .before .before .before .before .before .pre .2) (search needs) (c .before .before .before .before .before .index .ensures .0) (c .before .before .before .start .ensures .0) (c .before .start2 .ensures .0)) .long)
+
+copy-bytes-requires : tie.Need-copy-bytes-requires Inv-loop μ-loop
+copy-bytes-requires c κs = copy-room _ _ _ _ _ ((next-part Names (c .before .before .before .before .before .before .before .before .before .before .before .before .before .before .args .lookups .now) [] (c .before .before .before .before .before .before .before .before .before .before .before .before .before .before .args .order .now) (c .before .before .before .before .before .before .before .before .before .before .before .before .before .before .args .src .now) _ (c .before .before .before .before .before .before .before .before .before .before .before .before .before .before .pre .1) (c .before .before .before .before .before .before .before .before .before .before .before .before .before .before .pre .2) (search needs) (c .before .before .before .before .before .before .index .ensures .0) (c .before .before .before .before .start .ensures .0) (c .before .before .start2 .ensures .0)) .le) ((next-part Names (c .before .before .before .before .before .before .before .before .before .before .before .before .before .before .args .lookups .now) [] (c .before .before .before .before .before .before .before .before .before .before .before .before .before .before .args .order .now) (c .before .before .before .before .before .before .before .before .before .before .before .before .before .before .args .src .now) _ (c .before .before .before .before .before .before .before .before .before .before .before .before .before .before .pre .1) (c .before .before .before .before .before .before .before .before .before .before .before .before .before .before .pre .2) (search needs) (c .before .before .before .before .before .before .index .ensures .0) (c .before .before .before .before .start .ensures .0) (c .before .before .start2 .ensures .0)) .in-list) (write-room _ (c .before .before .before .before .before .before .before .before .before .loop .inv) (search needs) ((next-part Names (c .before .before .before .before .before .before .before .before .before .before .before .before .before .before .args .lookups .now) [] (c .before .before .before .before .before .before .before .before .before .before .before .before .before .before .args .order .now) (c .before .before .before .before .before .before .before .before .before .before .before .before .before .before .args .src .now) _ (c .before .before .before .before .before .before .before .before .before .before .before .before .before .before .pre .1) (c .before .before .before .before .before .before .before .before .before .before .before .before .before .before .pre .2) (search needs) (c .before .before .before .before .before .before .index .ensures .0) (c .before .before .before .before .start .ensures .0) (c .before .before .start2 .ensures .0)) .long))
+
+add-t : tie.Need-add-t Inv-loop μ-loop
+add-t c = search needs
+
+loop-less : tie.Need-loop-less Inv-loop μ-loop
+loop-less c = search needs
+
+loop-again : tie.Need-loop-again Inv-loop μ-loop
+loop-again c = write-turn (c .before .before .before .before .before .before .before .before .before .before .before .before .loop .inv) (search needs) ((next-part Names (c .before .before .before .before .before .before .before .before .before .before .before .before .before .before .before .before .before .args .lookups .now) [] (c .before .before .before .before .before .before .before .before .before .before .before .before .before .before .before .before .before .args .order .now) (c .before .before .before .before .before .before .before .before .before .before .before .before .before .before .before .before .before .args .src .now) _ (c .before .before .before .before .before .before .before .before .before .before .before .before .before .before .before .before .before .pre .1) (c .before .before .before .before .before .before .before .before .before .before .before .before .before .before .before .before .before .pre .2) (search needs) (c .before .before .before .before .before .before .before .before .before .index .ensures .0) (c .before .before .before .before .before .before .before .start .ensures .0) (c .before .before .before .before .before .start2 .ensures .0)) .long) (copied _ _ _ _ _ _ ((next-part Names (c .before .before .before .before .before .before .before .before .before .before .before .before .before .before .before .before .before .args .lookups .now) [] (c .before .before .before .before .before .before .before .before .before .before .before .before .before .before .before .before .before .args .order .now) (c .before .before .before .before .before .before .before .before .before .before .before .before .before .before .before .before .before .args .src .now) _ (c .before .before .before .before .before .before .before .before .before .before .before .before .before .before .before .before .before .pre .1) (c .before .before .before .before .before .before .before .before .before .before .before .before .before .before .before .before .before .pre .2) (search needs) (c .before .before .before .before .before .before .before .before .before .index .ensures .0) (c .before .before .before .before .before .before .before .start .ensures .0) (c .before .before .before .before .before .start2 .ensures .0)) .is) ((next-part Names (c .before .before .before .before .before .before .before .before .before .before .before .before .before .before .before .before .before .args .lookups .now) [] (c .before .before .before .before .before .before .before .before .before .before .before .before .before .before .before .before .before .args .order .now) (c .before .before .before .before .before .before .before .before .before .before .before .before .before .before .before .before .before .args .src .now) _ (c .before .before .before .before .before .before .before .before .before .before .before .before .before .before .before .before .before .pre .1) (c .before .before .before .before .before .before .before .before .before .before .before .before .before .before .before .before .before .pre .2) (search needs) (c .before .before .before .before .before .before .before .before .before .index .ensures .0) (c .before .before .before .before .before .before .before .start .ensures .0) (c .before .before .before .before .before .start2 .ensures .0)) .long) (c .before .before .copy-bytes .ensures))
+
+same-length : tie.Need-same-length Inv-loop μ-loop
+same-length c = search needs
+
+returns : tie.Need-returns Inv-loop μ-loop
+unfolding parts-of
+returns c = write-ends (c .before .loop .inv) (search needs)
+
+pub write-names-spec : {M : Type 1} → statement M
+write-names-spec =
+    tie.close
+    (tie.spec
+    Inv-loop
+    μ-loop
+    loop-holds
+    mul-index
+    shared-slice-read-index
+    index-requires
+    slice-aggregate-start
+    start-requires
+    slice-aggregate-start-2
+    add-start
+    start-requires-2
+    sub-next
+    add-next
+    sub-copy-bytes
+    part-copy-bytes-start
+    part-copy-bytes-end
+    sub-copy-bytes-2
+    part-copy-bytes-start-2
+    part-copy-bytes-end-2
+    copy-bytes-requires
+    add-t
+    loop-less
+    loop-again
+    same-length
+    returns)

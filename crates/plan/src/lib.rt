@@ -1,0 +1,2 @@
+// The plan of packing: which lookups share a column.
+pub mod columns;
