@@ -21,7 +21,7 @@ struct State {
     differ: u64,
 }
 
-// The answer to a line of the text.
+// What a door's line came to.
 enum Ran {
     Door(Answer),
     Unknown,
@@ -74,6 +74,7 @@ fn one_if(differs: bool) -> u64 {
     if differs { 1 } else { 0 }
 }
 
+// One answer more.
 fn counted(state: State, differs: bool) -> State {
     State {
         words: state.words,
@@ -124,27 +125,45 @@ fn begin(title: &[u8], spans: &mut [usize; 64], state: State) -> State {
     }
 }
 
-// A list's line.
-fn store(
+// A list that finds no room is said and counted as a difference.
+fn filled(state: State, full: bool) -> State {
+    let mut new = state;
+    if full {
+        io::write_all(1, b" full");
+        new.differ = wrapping_add_u64(state.differ, 1);
+    }
+    new
+}
+
+// The line of a list of words.
+fn store_words(
     key: usize,
     numbers: &[u8],
     words: &mut [u32; 32768],
+    spans: &mut [usize; 64],
+    state: State,
+) -> State {
+    let a = state.words;
+    let b = read::read_words(numbers, 0, words, a);
+    spans::set_span(spans, key, a, b);
+    let mut new = filled(state, b == 32768);
+    new.words = b;
+    new
+}
+
+// The line of a list of bytes.
+fn store_bytes(
+    key: usize,
+    numbers: &[u8],
     bytes: &mut [u8; 4096],
     spans: &mut [usize; 64],
     state: State,
 ) -> State {
-    let mut new = state;
-    if key < spans::NAMES {
-        let a = state.words;
-        let b = read::read_words(numbers, 0, words, a);
-        spans::set_span(spans, key, a, b);
-        new.words = b;
-    } else {
-        let a = state.bytes;
-        let b = read::read_bytes(numbers, 0, bytes, a);
-        spans::set_span(spans, key, a, b);
-        new.bytes = b;
-    }
+    let a = state.bytes;
+    let b = read::read_bytes(numbers, 0, bytes, a);
+    spans::set_span(spans, key, a, b);
+    let mut new = filled(state, b == 4096);
+    new.bytes = b;
     new
 }
 
@@ -170,8 +189,11 @@ fn line(
         return begin(rest, spans, state);
     }
     let key = spans::key(name);
+    if key < spans::NAMES {
+        return store_words(key, rest, words, spans, state);
+    }
     if key <= spans::PACKED_NAMES {
-        return store(key, rest, words, bytes, spans, state);
+        return store_bytes(key, rest, bytes, spans, state);
     }
     answer(name, rest, words, bytes, spans, state)
 }
@@ -188,7 +210,7 @@ fn print_counts(state: State) {
     io::write_all(1, b" differ\n");
 }
 
-// Line by line.
+// All lines of the text, one after the other.
 fn replay(text: &[u8]) {
     let mut words = [0u32; 32768];
     let mut bytes = [0u8; 4096];
@@ -212,5 +234,8 @@ fn replay(text: &[u8]) {
 fn main() {
     let mut text = [0u8; 262144];
     let n = io::read_full(0, &mut text);
+    if n == 262144 {
+        io::write_all(1, b"the text is too long\n");
+    }
     replay(&text[..n]);
 }

@@ -1,11 +1,11 @@
 // One function for each door: it calls the door on the lists of the case and compares what the door answered and wrote.
 use crate::spans;
+use crate::spans::holds;
 use crate::spans::list;
 use crate::spans::list_of_bytes;
 use crate::spans::room;
 use crate::spans::same_five;
 use crate::spans::size;
-use crate::spans::written;
 use crate::text::word;
 use doors::element::delmatik_power;
 use doors::permutation::delmatik_generate;
@@ -41,6 +41,7 @@ fn compared(number: u32, details: &[u64; 3], line: &[u64; 8], same: bool) -> Ans
     }
 }
 
+// The table's lists, lent to generation.
 fn call_generate(
     words: &[u32],
     bytes: &[u8],
@@ -86,8 +87,7 @@ pub fn generate(line: &[u64; 8], words: &[u32], bytes: &[u8], spans: &[usize; 64
         &mut terminal,
         &mut details,
     );
-    let same = written(&buffer, expected)
-        & same_five(&terminal, list(words, spans, spans::TERMINAL));
+    let same = holds(&buffer, expected) & same_five(&terminal, list(words, spans, spans::TERMINAL));
     compared(number, &details, line, same)
 }
 
@@ -160,7 +160,7 @@ pub fn prefixes(line: &[u64; 8], words: &[u32], spans: &[usize; 64]) -> Answer {
         &mut buffer[0..n],
         &mut details,
     );
-    compared(number, &details, line, written(&buffer, expected))
+    compared(number, &details, line, holds(&buffer, expected))
 }
 
 // A power has no details: its line gives the number and the exponent.
@@ -179,6 +179,6 @@ pub fn power(line: &[u64; 8], words: &[u32], spans: &[usize; 64]) -> Answer {
         first: 0,
         second: 0,
         third: 0,
-        same: written(&buffer, expected) & (told == line[0]),
+        same: holds(&buffer, expected) & (told == line[0]),
     }
 }

@@ -123,6 +123,21 @@ pub fn list_of_bytes<'a>(bytes: &'a [u8], spans: &[usize; 64], key: usize) -> &'
     bytes_part(bytes, start(spans, key), end(spans, key))
 }
 
+// The first four words, and those after them.
+pub fn front(words: &[u32]) -> &[u32] {
+    if words.len() < 4 {
+        return words;
+    }
+    &words[0..4]
+}
+
+pub fn back(words: &[u32]) -> &[u32] {
+    if words.len() < 4 {
+        return &words[0..0];
+    }
+    &words[4..]
+}
+
 // The word at a place of a list as a size; 0 past its end.
 pub fn size(words: &[u32], i: usize) -> usize {
     if i < words.len() {
@@ -141,11 +156,12 @@ pub fn room(words: &[u32]) -> usize
     32768
 }
 
-// Whether an output that was written into the front of a buffer is what is expected.
-pub fn written(buffer: &[u32; 32768], expected: &[u32]) -> bool {
+// Whether the front of a buffer, where an output was written, is what is expected.
+pub fn holds(buffer: &[u32; 32768], expected: &[u32]) -> bool {
     same_words(words_part(buffer, 0, expected.len()), expected)
 }
 
+// The same for the words of a terminal.
 pub fn same_five(words: &[u32; 5], expected: &[u32]) -> bool {
     same_words(words, expected)
 }
@@ -163,19 +179,4 @@ fn same_words(x: &[u32], y: &[u32]) -> bool {
         i += 1;
     }
     true
-}
-
-// The first four words, and those after them.
-pub fn front(words: &[u32]) -> &[u32] {
-    if words.len() < 4 {
-        return words;
-    }
-    &words[0..4]
-}
-
-pub fn back(words: &[u32]) -> &[u32] {
-    if words.len() < 4 {
-        return &words[0..0];
-    }
-    &words[4..]
 }

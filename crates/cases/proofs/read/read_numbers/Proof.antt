@@ -3,12 +3,6 @@ use lib.ListN.{length}
 use borrow.Author.Needs.{needs}
 use Rattle.cases.proofs.read.read_numbers.Statement.{statement}
 use Rattle.cases.proofs.read.read_numbers.Tie as tie
-use Rattle.cases.proofs.read.read_numbers.Reads as reads
-use Rattle.cases.proofs.read.read_numbers.Lts as lts
-use Rattle.cases.proofs.read.put_number.Reads as put-number-reads
-use Rattle.cases.proofs.text.after.Reads as after-reads
-use Rattle.cases.proofs.text.digits_end.Reads as digits-end-reads
-use Rattle.cases.proofs.text.number.Reads as number-reads
 
 abbrev Inv-loop : tie.InvT-loop
 Inv-loop line from out₀ end₀ at₀ out end at = at ≤ length line
@@ -16,47 +10,36 @@ Inv-loop line from out₀ end₀ at₀ out end at = at ≤ length line
 abbrev μ-loop : tie.MeasureT-loop
 μ-loop line from out₀ end₀ at₀ out end at = length line - at
 
--- src/read.rt:72:5
 loop-holds : tie.Need-loop-holds Inv-loop μ-loop
 loop-holds c = search needs
 
--- src/read.rt:73:13
 digits-end-requires : tie.Need-digits-end-requires Inv-loop μ-loop
 digits-end-requires c κs = search needs
 
--- src/read.rt:75:47
 sub-number : tie.Need-sub-number Inv-loop μ-loop
 sub-number c = search needs
 
--- src/read.rt:75:47
 part-number-start : tie.Need-part-number-start Inv-loop μ-loop
 part-number-start c = search needs
 
--- src/read.rt:75:47
 part-number-end : tie.Need-part-number-end Inv-loop μ-loop
 part-number-end c = search needs
 
--- src/read.rt:75:40
 number-requires : tie.Need-number-requires Inv-loop μ-loop
 number-requires c κs = search needs
 
--- src/read.rt:75:13
 put-number-requires : tie.Need-put-number-requires Inv-loop μ-loop
 put-number-requires c κs = search needs
 
--- src/read.rt:77:9
 after-requires : tie.Need-after-requires Inv-loop μ-loop
 after-requires c κs = search needs
 
--- src/read.rt:72:5
 loop-less : tie.Need-loop-less Inv-loop μ-loop
 loop-less c = search needs
 
--- src/read.rt:72:5
 loop-again : tie.Need-loop-again Inv-loop μ-loop
 loop-again c = search needs
 
--- src/read.rt:67:1
 returns : tie.Need-returns Inv-loop μ-loop
 returns c = search needs
 

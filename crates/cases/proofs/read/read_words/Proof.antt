@@ -3,12 +3,6 @@ use lib.ListN.{length}
 use borrow.Author.Needs.{needs}
 use Rattle.cases.proofs.read.read_words.Statement.{statement}
 use Rattle.cases.proofs.read.read_words.Tie as tie
-use Rattle.cases.proofs.read.read_words.Reads as reads
-use Rattle.cases.proofs.read.read_words.Lts as lts
-use Rattle.cases.proofs.read.put_word.Reads as put-word-reads
-use Rattle.cases.proofs.text.after.Reads as after-reads
-use Rattle.cases.proofs.text.digits_end.Reads as digits-end-reads
-use Rattle.cases.proofs.text.number.Reads as number-reads
 
 abbrev Inv-loop : tie.InvT-loop
 Inv-loop line from words₀ start end₀ at₀ words end at = at ≤ length line
@@ -16,47 +10,36 @@ Inv-loop line from words₀ start end₀ at₀ words end at = at ≤ length line
 abbrev μ-loop : tie.MeasureT-loop
 μ-loop line from words₀ start end₀ at₀ words end at = length line - at
 
--- src/read.rt:24:5
 loop-holds : tie.Need-loop-holds Inv-loop μ-loop
 loop-holds c = search needs
 
--- src/read.rt:25:13
 digits-end-requires : tie.Need-digits-end-requires Inv-loop μ-loop
 digits-end-requires c κs = search needs
 
--- src/read.rt:27:47
 sub-number : tie.Need-sub-number Inv-loop μ-loop
 sub-number c = search needs
 
--- src/read.rt:27:47
 part-number-start : tie.Need-part-number-start Inv-loop μ-loop
 part-number-start c = search needs
 
--- src/read.rt:27:47
 part-number-end : tie.Need-part-number-end Inv-loop μ-loop
 part-number-end c = search needs
 
--- src/read.rt:27:40
 number-requires : tie.Need-number-requires Inv-loop μ-loop
 number-requires c κs = search needs
 
--- src/read.rt:27:13
 put-word-requires : tie.Need-put-word-requires Inv-loop μ-loop
 put-word-requires c κs = search needs
 
--- src/read.rt:29:9
 after-requires : tie.Need-after-requires Inv-loop μ-loop
 after-requires c κs = search needs
 
--- src/read.rt:24:5
 loop-less : tie.Need-loop-less Inv-loop μ-loop
 loop-less c = search needs
 
--- src/read.rt:24:5
 loop-again : tie.Need-loop-again Inv-loop μ-loop
 loop-again c = search needs
 
--- src/read.rt:19:1
 returns : tie.Need-returns Inv-loop μ-loop
 returns c = search needs
 

@@ -3,10 +3,6 @@ use lib.ListN.{length}
 use borrow.Author.Needs.{needs}
 use Rattle.cases.proofs.text.number.Statement.{statement}
 use Rattle.cases.proofs.text.number.Tie as tie
-use Rattle.cases.proofs.text.number.Reads as reads
-use Rattle.cases.proofs.text.number.Lts as lts
-use Rattle.cases.proofs.text.appended.Reads as appended-reads
-use Rattle.cases.proofs.text.digit.Reads as digit-reads
 
 abbrev Inv-loop : tie.InvT-loop
 Inv-loop digits n₀ i₀ n i = i ≤ length digits
@@ -14,35 +10,27 @@ Inv-loop digits n₀ i₀ n i = i ≤ length digits
 abbrev μ-loop : tie.MeasureT-loop
 μ-loop digits n₀ i₀ n i = length digits - i
 
--- src/text.rt:97:5
 loop-holds : tie.Need-loop-holds Inv-loop μ-loop
 loop-holds c = search needs
 
--- src/text.rt:98:31
 shared-slice-read-digit : tie.Need-shared-slice-read-digit Inv-loop μ-loop
 shared-slice-read-digit c = search needs
 
--- src/text.rt:98:25
 digit-requires : tie.Need-digit-requires Inv-loop μ-loop
 digit-requires c κs = search needs
 
--- src/text.rt:98:9
 appended-requires : tie.Need-appended-requires Inv-loop μ-loop
 appended-requires c κs = search needs
 
--- src/text.rt:99:9
 add-i : tie.Need-add-i Inv-loop μ-loop
 add-i c = search needs
 
--- src/text.rt:97:5
 loop-less : tie.Need-loop-less Inv-loop μ-loop
 loop-less c = search needs
 
--- src/text.rt:97:5
 loop-again : tie.Need-loop-again Inv-loop μ-loop
 loop-again c = search needs
 
--- src/text.rt:94:1
 returns : tie.Need-returns Inv-loop μ-loop
 returns c = search needs
 

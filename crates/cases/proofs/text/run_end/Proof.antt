@@ -3,8 +3,6 @@ use lib.ListN.{length}
 use borrow.Author.Needs.{needs}
 use Rattle.cases.proofs.text.run_end.Statement.{statement}
 use Rattle.cases.proofs.text.run_end.Tie as tie
-use Rattle.cases.proofs.text.run_end.Reads as reads
-use Rattle.cases.proofs.text.run_end.Lts as lts
 
 abbrev Inv-loop : tie.InvT-loop
 Inv-loop text from stop at₀ at = (from ≤ at) × (at ≤ length text)
@@ -12,31 +10,24 @@ Inv-loop text from stop at₀ at = (from ≤ at) × (at ≤ length text)
 abbrev μ-loop : tie.MeasureT-loop
 μ-loop text from stop at₀ at = length text - at
 
--- src/text.rt:13:5
 loop-holds : tie.Need-loop-holds Inv-loop μ-loop
 loop-holds c = search needs
 
--- src/text.rt:14:12
 shared-slice-read-if1 : tie.Need-shared-slice-read-if1 Inv-loop μ-loop
 shared-slice-read-if1 c = search needs
 
--- src/text.rt:15:13
 returns : tie.Need-returns Inv-loop μ-loop
 returns c = search needs
 
--- src/text.rt:17:9
 add-at : tie.Need-add-at Inv-loop μ-loop
 add-at c = search needs
 
--- src/text.rt:13:5
 loop-less : tie.Need-loop-less Inv-loop μ-loop
 loop-less c = search needs
 
--- src/text.rt:13:5
 loop-again : tie.Need-loop-again Inv-loop μ-loop
 loop-again c = search needs
 
--- src/text.rt:8:1
 returns-2 : tie.Need-returns-2 Inv-loop μ-loop
 returns-2 c = search needs
 
