@@ -1,0 +1,241 @@
+// Replays a text of cases, given on standard input, against the doors, and prints what it ran and how many answers there were.
+// The doors are proved; that this program reads the text aright and compares every answer is not: it is proved safe, and that it ends.
+mod read;
+mod runs;
+mod spans;
+mod text;
+
+use runs::Answer;
+use std::num::wrapping_add_u64;
+use text::run_end;
+use widths::order::same_bytes;
+ghost use Prim.Native.Nat.{_≤_, _<_};
+ghost use lib.ListN.{length};
+
+// How far the arrays of words and bytes are filled, and the counts so far.
+struct State {
+    words: usize,
+    bytes: usize,
+    cases: u64,
+    answers: u64,
+    differ: u64,
+}
+
+// What a door's line came to.
+enum Ran {
+    Door(Answer),
+    Unknown,
+}
+
+fn door(name: &[u8], line: &[u64; 8], words: &[u32], bytes: &[u8], spans: &[usize; 64]) -> Ran {
+    if same_bytes(name, b"generate") {
+        return Ran::Door(runs::generate(line, words, bytes, spans));
+    }
+    if same_bytes(name, b"degree") {
+        return Ran::Door(runs::degree(line, words, bytes, spans));
+    }
+    if same_bytes(name, b"widths") {
+        return Ran::Door(runs::widths(line, words, bytes, spans));
+    }
+    if same_bytes(name, b"bound") {
+        return Ran::Door(runs::bound(line, words, spans));
+    }
+    if same_bytes(name, b"terminals") {
+        return Ran::Door(runs::terminals(line, words, spans));
+    }
+    if same_bytes(name, b"prefixes") {
+        return Ran::Door(runs::prefixes(line, words, spans));
+    }
+    if same_bytes(name, b"power") {
+        return Ran::Door(runs::power(line, words, spans));
+    }
+    Ran::Unknown
+}
+
+fn print_detail(n: u64) {
+    io::write_all(1, b",");
+    io::print_decimal(1, n);
+}
+
+fn print_told(name: &[u8], told: Answer) {
+    io::write_all(1, b" ");
+    io::write_all(1, name);
+    io::write_all(1, b" ");
+    io::print_decimal(1, told.number);
+    print_detail(told.first);
+    print_detail(told.second);
+    print_detail(told.third);
+    if !told.same {
+        io::write_all(1, b" differs");
+    }
+}
+
+fn one_if(differs: bool) -> u64 {
+    if differs { 1 } else { 0 }
+}
+
+// One answer more.
+fn counted(state: State, differs: bool) -> State {
+    State {
+        words: state.words,
+        bytes: state.bytes,
+        cases: state.cases,
+        answers: wrapping_add_u64(state.answers, 1),
+        differ: wrapping_add_u64(state.differ, one_if(differs)),
+    }
+}
+
+// A door's line.
+fn answer(
+    name: &[u8],
+    numbers: &[u8],
+    words: &[u32],
+    bytes: &[u8],
+    spans: &[usize; 64],
+    state: State,
+) -> State {
+    let mut line = [0u64; 8];
+    read::read_numbers(numbers, 0, &mut line);
+    let ran = door(name, &line, words, bytes, spans);
+    match ran {
+        Ran::Door(told) => {
+            print_told(name, told);
+            counted(state, !told.same)
+        }
+        Ran::Unknown => {
+            io::write_all(1, b" unknown");
+            counted(state, true)
+        }
+    }
+}
+
+// A new case: the title on a line of its own, and all lists empty.
+fn begin(title: &[u8], spans: &mut [usize; 64], state: State) -> State {
+    if 0 < state.cases {
+        io::write_all(1, b"\n");
+    }
+    io::write_all(1, title);
+    *spans = [0usize; 64];
+    State {
+        words: 0,
+        bytes: 0,
+        cases: wrapping_add_u64(state.cases, 1),
+        answers: state.answers,
+        differ: state.differ,
+    }
+}
+
+// A list that finds no room is said and counted as a difference.
+fn filled(state: State, full: bool) -> State {
+    let mut new = state;
+    if full {
+        io::write_all(1, b" full");
+        new.differ = wrapping_add_u64(state.differ, 1);
+    }
+    new
+}
+
+// The line of a list of words.
+fn store_words(
+    key: usize,
+    numbers: &[u8],
+    words: &mut [u32; 32768],
+    spans: &mut [usize; 64],
+    state: State,
+) -> State {
+    let a = state.words;
+    let b = read::read_words(numbers, 0, words, a);
+    spans::set_span(spans, key, a, b);
+    let mut new = filled(state, b == 32768);
+    new.words = b;
+    new
+}
+
+// The line of a list of bytes.
+fn store_bytes(
+    key: usize,
+    numbers: &[u8],
+    bytes: &mut [u8; 4096],
+    spans: &mut [usize; 64],
+    state: State,
+) -> State {
+    let a = state.bytes;
+    let b = read::read_bytes(numbers, 0, bytes, a);
+    spans::set_span(spans, key, a, b);
+    let mut new = filled(state, b == 4096);
+    new.bytes = b;
+    new
+}
+
+// A line: nothing where it is empty or a comment, else a case, a list or a door.
+fn line(
+    line: &[u8],
+    words: &mut [u32; 32768],
+    bytes: &mut [u8; 4096],
+    spans: &mut [usize; 64],
+    state: State,
+) -> State {
+    if line.len() == 0 {
+        return state;
+    }
+    if line[0] == b'#' {
+        return state;
+    }
+    let end = run_end(line, 0, b' ');
+    let at = text::after(line, 0, end);
+    let name = &line[0..end];
+    let rest = &line[at..];
+    if same_bytes(name, b"case") {
+        return begin(rest, spans, state);
+    }
+    let key = spans::key(name);
+    if key < spans::NAMES {
+        return store_words(key, rest, words, spans, state);
+    }
+    if key <= spans::PACKED_NAMES {
+        return store_bytes(key, rest, bytes, spans, state);
+    }
+    answer(name, rest, words, bytes, spans, state)
+}
+
+fn print_counts(state: State) {
+    if 0 < state.cases {
+        io::write_all(1, b"\n");
+    }
+    io::print_decimal(1, state.cases);
+    io::write_all(1, b" cases, ");
+    io::print_decimal(1, state.answers);
+    io::write_all(1, b" answers, ");
+    io::print_decimal(1, state.differ);
+    io::write_all(1, b" differ\n");
+}
+
+// All lines of the text, one after the other.
+fn replay(text: &[u8]) {
+    let mut words = [0u32; 32768];
+    let mut bytes = [0u8; 4096];
+    let mut spans = [0usize; 64];
+    let mut state = State {
+        words: 0,
+        bytes: 0,
+        cases: 0,
+        answers: 0,
+        differ: 0,
+    };
+    let mut at = 0;
+    while at < text.len() {
+        let end = run_end(text, at, b'\n');
+        state = line(&text[at..end], &mut words, &mut bytes, &mut spans, state);
+        at = text::after(text, at, end);
+    }
+    print_counts(state);
+}
+
+fn main() {
+    let mut text = [0u8; 262144];
+    let n = io::read_full(0, &mut text);
+    if n == 262144 {
+        io::write_all(1, b"the text is too long\n");
+    }
+    replay(&text[..n]);
+}

@@ -1,0 +1,184 @@
+// One function for each door: it calls the door on the lists of the case and compares what the door answered and wrote.
+use crate::spans;
+use crate::spans::holds;
+use crate::spans::list;
+use crate::spans::list_of_bytes;
+use crate::spans::room;
+use crate::spans::same_five;
+use crate::spans::size;
+use crate::text::word;
+use doors::element::delmatik_power;
+use doors::permutation::delmatik_generate;
+use doors::small::delmatik_height_bound;
+use doors::small::delmatik_prefixes;
+use doors::small::delmatik_terminals;
+use doors::types::delmatik_degree;
+use doors::types::delmatik_widths;
+use expression::words::wide;
+
+// What a door answered, and whether that and its outputs are what the case says.
+pub struct Answer {
+    pub number: u64,
+    pub first: u64,
+    pub second: u64,
+    pub third: u64,
+    pub same: bool,
+}
+
+// An answer beside the numbers of the case's line, which are document 01's number and the three details.
+fn compared(number: u32, details: &[u64; 3], line: &[u64; 8], same: bool) -> Answer {
+    let n = wide(number);
+    let first = details[0];
+    let second = details[1];
+    let third = details[2];
+    let as_said = (n == line[0]) & (first == line[1]) & (second == line[2]) & (third == line[3]);
+    Answer {
+        number: n,
+        first,
+        second,
+        third,
+        same: same & as_said,
+    }
+}
+
+// The table's lists, lent to generation.
+fn call_generate(
+    words: &[u32],
+    bytes: &[u8],
+    spans: &[usize; 64],
+    trace: &mut [u32],
+    terminal: &mut [u32; 5],
+    details: &mut [u64; 3],
+) -> u32 {
+    let sizes = list(words, spans, spans::SIZES);
+    delmatik_generate(
+        size(sizes, 0),
+        size(sizes, 1),
+        size(sizes, 2),
+        size(sizes, 3),
+        list(words, spans, spans::MAIN),
+        list(words, spans, spans::PREPROCESSED),
+        list(words, spans, spans::PUBLIC),
+        list(words, spans, spans::NODES),
+        list(words, spans, spans::LOOKUPS),
+        list_of_bytes(bytes, spans, spans::NAMES),
+        list(words, spans, spans::TUPLES),
+        list(words, spans, spans::MULTIPLICITIES),
+        list(words, spans, spans::FLAGS),
+        list(words, spans, spans::ELEMENTS),
+        list(words, spans, spans::CHALLENGES),
+        trace,
+        terminal,
+        details,
+    )
+}
+
+pub fn generate(line: &[u64; 8], words: &[u32], bytes: &[u8], spans: &[usize; 64]) -> Answer {
+    let mut buffer = [7u32; 32768];
+    let mut terminal = [0u32; 5];
+    let mut details = [0u64; 3];
+    let expected = list(words, spans, spans::TRACE);
+    let n = room(expected);
+    let number = call_generate(
+        words,
+        bytes,
+        spans,
+        &mut buffer[0..n],
+        &mut terminal,
+        &mut details,
+    );
+    let same = holds(&buffer, expected) & same_five(&terminal, list(words, spans, spans::TERMINAL));
+    compared(number, &details, line, same)
+}
+
+pub fn degree(line: &[u64; 8], words: &[u32], bytes: &[u8], spans: &[usize; 64]) -> Answer {
+    let mut value = [0u64; 1];
+    let mut details = [0u64; 3];
+    let sizes = list(words, spans, spans::SIZES);
+    let public_values = list(words, spans, spans::PUBLIC);
+    let number = delmatik_degree(
+        size(sizes, 0),
+        size(sizes, 2),
+        public_values.len(),
+        list(words, spans, spans::NODES),
+        list(words, spans, spans::LOOKUPS),
+        list_of_bytes(bytes, spans, spans::NAMES),
+        list(words, spans, spans::TUPLES),
+        list(words, spans, spans::MULTIPLICITIES),
+        list(words, spans, spans::FLAGS),
+        list(words, spans, spans::ELEMENTS),
+        line[4] as usize,
+        word(line[5]),
+        &mut value,
+        &mut details,
+    );
+    compared(number, &details, line, value[0] == line[6])
+}
+
+pub fn widths(line: &[u64; 8], words: &[u32], bytes: &[u8], spans: &[usize; 64]) -> Answer {
+    let mut value = [0u64; 1];
+    let mut details = [0u64; 3];
+    let number = delmatik_widths(
+        list(words, spans, spans::LOOKUPS),
+        list_of_bytes(bytes, spans, spans::NAMES),
+        list(words, spans, spans::TUPLES),
+        list(words, spans, spans::LISTS),
+        &mut value,
+        &mut details,
+    );
+    compared(number, &details, line, value[0] == line[4])
+}
+
+pub fn bound(line: &[u64; 8], words: &[u32], spans: &[usize; 64]) -> Answer {
+    let mut details = [0u64; 3];
+    let number = delmatik_height_bound(
+        list(words, spans, spans::LOOKUPS),
+        list(words, spans, spans::COUNTS),
+        list(words, spans, spans::HEIGHTS),
+        &mut details,
+    );
+    compared(number, &details, line, true)
+}
+
+pub fn terminals(line: &[u64; 8], words: &[u32], spans: &[usize; 64]) -> Answer {
+    let mut details = [0u64; 3];
+    let number = delmatik_terminals(list(words, spans, spans::GIVEN), &mut details);
+    compared(number, &details, line, true)
+}
+
+pub fn prefixes(line: &[u64; 8], words: &[u32], spans: &[usize; 64]) -> Answer {
+    let mut buffer = [7u32; 32768];
+    let mut details = [0u64; 3];
+    let pair = list(words, spans, spans::ELEMENT);
+    let expected = list(words, spans, spans::WRITTEN);
+    let n = room(expected);
+    let number = delmatik_prefixes(
+        spans::front(pair),
+        spans::back(pair),
+        line[4] as usize,
+        line[5] as usize,
+        &mut buffer[0..n],
+        &mut details,
+    );
+    compared(number, &details, line, holds(&buffer, expected))
+}
+
+// A power has no details: its line gives the number and the exponent.
+pub fn power(line: &[u64; 8], words: &[u32], spans: &[usize; 64]) -> Answer {
+    let mut buffer = [7u32; 32768];
+    let expected = list(words, spans, spans::RESULT);
+    let n = room(expected);
+    let number = delmatik_power(
+        list(words, spans, spans::ELEMENT),
+        word(line[1]),
+        &mut buffer[0..n],
+    );
+    let told = wide(number);
+    Answer {
+        number: told,
+        first: 0,
+        second: 0,
+        third: 0,
+        same: holds(&buffer, expected) & (told == line[0]),
+    }
+}
