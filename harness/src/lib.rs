@@ -1,7 +1,5 @@
 //! The oracle runs and the benchmarks: the port's exported functions, the crate's own source, and a plain model of the specification.
 pub mod compare;
-#[cfg(feature = "doors")]
-pub mod doors;
 pub mod generator;
 pub mod model;
 #[cfg(source)]

@@ -1,4 +1,6 @@
 //! The port's doors over tables, by one trait. Each gives the refusal's number and details; what it lends is written in place.
+#[cfg(feature = "port")]
+use crate::model::ACCEPTED;
 use crate::model::Answer;
 use crate::plain::Ext;
 use crate::table::{Lookup, Table};
@@ -38,129 +40,95 @@ pub trait Port {
     }
 }
 
-/// The functions of the static library.
+/// The doors of the static library, by the wrapper in bindings/rust.
 #[cfg(feature = "port")]
 pub struct Exported;
 
 #[cfg(feature = "port")]
 mod exported {
-    /// A door's declaration: `[name: type]` is a slice, which is lent as a pointer and a length.
-    macro_rules! door {
-        ($name:ident($($arguments:tt)*)) => { door!(@ $name () $($arguments)*); };
-        (@ $name:ident ($($done:tt)*) [$slice:ident: $type:ty], $($rest:tt)*) => {
-            door!(@ $name ($($done)* $slice: *const $type, _: usize,) $($rest)*);
-        };
-        (@ $name:ident ($($done:tt)*) [$slice:ident: mut $type:ty], $($rest:tt)*) => {
-            door!(@ $name ($($done)* $slice: *mut $type, _: usize,) $($rest)*);
-        };
-        (@ $name:ident ($($done:tt)*) $argument:ident: $type:ty, $($rest:tt)*) => {
-            door!(@ $name ($($done)* $argument: $type,) $($rest)*);
-        };
-        (@ $name:ident ($($done:tt)*)) => {
-            unsafe extern "C" {
-                pub fn $name($($done)*) -> u32;
-            }
-        };
+    use delmatik::{LookupTerminal, Refusal};
+
+    use super::*;
+
+    /// The same table as the wrapper has it. A size that is no number of this machine is over every limit all the same.
+    fn table(t: &Table) -> delmatik::Table {
+        let size = |n: u64| n.try_into().unwrap_or(usize::MAX);
+        delmatik::Table {
+            main_width: size(t.main_width),
+            height: size(t.height),
+            pre_width: size(t.pre_width),
+            pre_height: size(t.pre_height),
+            main: t.main.clone(),
+            preprocessed: t.preprocessed.clone(),
+            public_values: t.public_values.clone(),
+            nodes: t.nodes.clone(),
+            lookups: t.lookups.clone(),
+            names: t.names.clone(),
+            tuples: t.tuples.clone(),
+            multiplicities: t.multiplicities.clone(),
+            flags: t.flags.clone(),
+            elements: t.elements.clone(),
+        }
     }
 
-    door!(delmatik_generate(
-        main_width: u64, height: u64, pre_width: u64, pre_height: u64, [main: u32], [preprocessed: u32], [public_values: u32],
-        [nodes: u32], [lookups: u32], [names: u8], [tuples: u32], [multiplicities: u32], [flags: u32], [elements: u32],
-        [challenges: u32], [trace: mut u32], terminal: *mut [u32; 5], details: *mut [u64; 3],
-    ));
-    door!(delmatik_degree(
-        main_width: u64, pre_width: u64, public_values: u64, [nodes: u32], [lookups: u32], [names: u8], [tuples: u32],
-        [multiplicities: u32], [flags: u32], [elements: u32], lookup: u64, transition: u32, degree: *mut u64, details: *mut [u64; 3],
-    ));
-    door!(delmatik_widths([lookups: u32], [names: u8], [tuples: u32], [sizes: u32], widest: *mut u64, details: *mut [u64; 3],));
-    door!(delmatik_height_bound([lookups: u32], [counts: u32], [heights: u32], details: *mut [u64; 3],));
-    door!(delmatik_terminals([terminals: u32], details: *mut [u64; 3],));
-    door!(delmatik_prefixes([alpha: u32], [beta: u32], width: u64, count: u64, [out: mut u32], details: *mut [u64; 3],));
-}
-
-/// Calls a door, which gives the number and writes the details. The port takes any words and lengths: it reads and writes the lent slices
-/// alone, and tests them itself.
-#[cfg(feature = "port")]
-macro_rules! call {
-    ($door:ident($($arguments:tt)*)) => {{
-        let mut details = [0; 3];
-        let number = call!(@ $door details () $($arguments)*);
-        Answer { number, details }
-    }};
-    (@ $door:ident $details:ident ($($done:tt)*) [mut $slice:expr], $($rest:tt)*) => {
-        call!(@ $door $details ($($done)* $slice.as_mut_ptr(), $slice.len(),) $($rest)*)
-    };
-    (@ $door:ident $details:ident ($($done:tt)*) [$slice:expr], $($rest:tt)*) => {
-        call!(@ $door $details ($($done)* $slice.as_ptr(), $slice.len(),) $($rest)*)
-    };
-    (@ $door:ident $details:ident ($($done:tt)*) $argument:expr, $($rest:tt)*) => {
-        call!(@ $door $details ($($done)* $argument,) $($rest)*)
-    };
-    (@ $door:ident $details:ident ($($done:tt)*)) => { unsafe { exported::$door($($done)* &mut $details) } };
-}
-
-/// A number as a word; one that is no word is over every limit all the same.
-#[cfg(feature = "port")]
-fn word(n: u64) -> u32 {
-    n.try_into().unwrap_or(u32::MAX)
-}
-
-/// A list of all tables, one table after the other.
-#[cfg(feature = "port")]
-fn joined<T: Copy>(tables: &[Table], list: fn(&Table) -> &[T]) -> Vec<T> {
-    tables.iter().flat_map(list).copied().collect()
-}
-
-#[cfg(feature = "port")]
-impl Port for Exported {
-    fn generate(&self, t: &Table, challenges: &[u32], trace: &mut [u32], terminal: &mut [u32; 5]) -> Option<Answer> {
-        Some(call!(delmatik_generate(
-            t.main_width, t.height, t.pre_width, t.pre_height, [t.main], [t.preprocessed], [t.public_values], [t.nodes], [t.lookups],
-            [t.names], [t.tuples], [t.multiplicities], [t.flags], [t.elements], [challenges], [mut trace], terminal,
-        )))
+    fn tables(tables: &[Table]) -> Vec<delmatik::Table> {
+        tables.iter().map(table).collect()
     }
 
-    fn constraints(&self, _t: &Table, _challenges: &[u32], _width: u64, _trace: &[u32], _terminal: Option<Ext>) -> Option<Answer> {
-        None
+    /// The number and details, and the value, or what stands for it where the door refuses.
+    fn answer<T: Default>(result: Result<T, Refusal>) -> (Answer, T) {
+        match result {
+            Ok(value) => (ACCEPTED, value),
+            Err(Refusal { number, details }) => (Answer { number, details }, T::default()),
+        }
     }
 
-    fn degree(&self, t: &Table, lookup: u64, transition: u64) -> Option<(Answer, u64)> {
-        let mut degree = 0;
-        let answer = call!(delmatik_degree(
-            t.main_width, t.pre_width, t.public_values.len() as u64, [t.nodes], [t.lookups], [t.names], [t.tuples],
-            [t.multiplicities], [t.flags], [t.elements], lookup, word(transition), &mut degree,
-        ));
-        Some((answer, degree))
+    fn size(n: u64) -> usize {
+        n.try_into().unwrap_or(usize::MAX)
     }
 
-    fn widths(&self, tables: &[Table]) -> Option<(Answer, u64)> {
-        let (lookups, names, tuples) = (joined(tables, |t| &t.lookups), joined(tables, |t| &t.names), joined(tables, |t| &t.tuples));
-        // A list that is no whole number of lookups has no size in lookups: whatever is said here, the sizes are at odds.
-        let size = |t: &Table| [t.lookup_count() as u32, t.names.len() as u32, t.tuples.len() as u32];
-        let sizes: Vec<u32> = tables.iter().flat_map(size).collect();
-        let mut widest = 0;
-        let answer = call!(delmatik_widths([lookups], [names], [tuples], [sizes], &mut widest,));
-        Some((answer, widest))
-    }
+    impl Port for Exported {
+        fn generate(&self, t: &Table, challenges: &[u32], trace: &mut [u32], terminal: &mut [u32; 5]) -> Option<Answer> {
+            let (answer, given) = answer(table(t).generate_into(challenges, trace));
+            *terminal = given.map_or([0; 5], |LookupTerminal([a, b, c, d])| [1, a, b, c, d]);
+            Some(answer)
+        }
 
-    fn height_bound(&self, tables: &[Table], heights: &[u64]) -> Option<Answer> {
-        let lookups = joined(tables, |t| &t.lookups);
-        let counts: Vec<u32> = tables.iter().map(|t| t.lookup_count() as u32).collect();
-        let heights: Vec<u32> = heights.iter().map(|h| word(*h)).collect();
-        Some(call!(delmatik_height_bound([lookups], [counts], [heights],)))
-    }
+        fn constraints(&self, t: &Table, challenges: &[u32], width: u64, trace: &[u32], terminal: Option<Ext>) -> Option<Answer> {
+            Some(answer(table(t).constraints_on(challenges, size(width), trace, terminal.map(LookupTerminal))).0)
+        }
 
-    fn terminals(&self, terminals: &[Option<Ext>]) -> Option<Answer> {
-        let words: Vec<u32> = terminals.iter().flat_map(|t| t.map_or([0; 5], |[a, b, c, d]| [1, a, b, c, d])).collect();
-        Some(call!(delmatik_terminals([words],)))
-    }
+        fn degree(&self, t: &Table, lookup: u64, transition: u64) -> Option<(Answer, u64)> {
+            Some(answer(table(t).degree(size(lookup), transition.try_into().unwrap_or(u32::MAX))))
+        }
 
-    fn prefixes(&self, alpha: Ext, beta: Ext, width: u64, count: u64) -> Option<(Answer, Vec<Ext>)> {
-        let mut out = vec![7; 4 * count.min(512) as usize];
-        let answer = call!(delmatik_prefixes([alpha], [beta], width, count, [mut out],));
-        let untouched = out.iter().all(|w| *w == 7);
-        assert!(answer.number == 0 || untouched, "a refusal leaves the output as it was");
-        let prefixes = if answer.number == 0 { out.chunks_exact(4).map(|e| e.try_into().unwrap()).collect() } else { vec![] };
-        Some((answer, prefixes))
+        fn pack(&self, t: &Table, limit: u64) -> Option<(Answer, Vec<Lookup>)> {
+            let (answer, packed) = answer(table(t).pack(limit));
+            let delmatik::Table { lookups, names, tuples, multiplicities, flags, elements, .. } = packed;
+            Some((answer, Table { lookups, names, tuples, multiplicities, flags, elements, ..Table::default() }.records()))
+        }
+
+        fn widths(&self, all: &[Table]) -> Option<(Answer, u64)> {
+            Some(answer(delmatik::widths(&tables(all))))
+        }
+
+        fn height_bound(&self, all: &[Table], heights: &[u64]) -> Option<Answer> {
+            let heights: Vec<usize> = heights.iter().map(|h| size(*h)).collect();
+            Some(answer(delmatik::height_bound(&tables(all), &heights)).0)
+        }
+
+        fn terminals(&self, terminals: &[Option<Ext>]) -> Option<Answer> {
+            let terminals: Vec<Option<LookupTerminal>> = terminals.iter().map(|t| t.map(LookupTerminal)).collect();
+            Some(answer(delmatik::terminals(&terminals)).0)
+        }
+
+        fn prefixes(&self, alpha: Ext, beta: Ext, width: u64, count: u64) -> Option<(Answer, Vec<Ext>)> {
+            Some(answer(delmatik::prefixes(alpha, beta, size(width), size(count))))
+        }
+
+        fn balance(&self, all: &[Table], workspace: &mut [u32]) -> Option<Answer> {
+            // Fourteen sizes say nothing of words past the last whole node or lookup: the model has such a table's sizes at odds, as the door.
+            Some(answer(delmatik::balance(&tables(all), workspace)).0)
+        }
     }
 }

@@ -1,3 +1,4 @@
 pub mod Element
 pub mod Generation
 pub mod Types
+pub mod Packing

@@ -1,0 +1,105 @@
+/*
+ * Delmatik's doors for C: a verified LogUp lookup argument over the field of p = 2013265921 and its extension of degree 4 (X^4 = 11).
+ *
+ * Build the library with `rt staticlib doors` and link target/staticlib/libdoors.a. A first call is in first.c.
+ *
+ * - Words are below p. An extension element is four words, c0 to c3.
+ * - A list is a pointer and a length; the pointer of an empty list may be any that is not NULL. A door takes any words and lengths: it tests
+ *   them itself, and reads and writes the lent lists alone.
+ * - A door returns document 01's number of the refusal, 0 where nothing is refused, and writes three details, zero unless document 01 names
+ *   them. Outputs are untouched by refusals 1 to 12.
+ * - Everything above is proved; docs/PROMISES.md says what, and by which definitions.
+ */
+#ifndef DELMATIK_H
+#define DELMATIK_H
+
+#include <stddef.h>
+#include <stdint.h>
+
+#ifdef __cplusplus
+extern "C" {
+#endif
+
+/*
+ * A table's lists, in the order in which every door takes them:
+ *   main, preprocessed   the traces, row by row
+ *   public_values
+ *   nodes                kind, a, b for each node
+ *   lookups              eight words each: scope (0 local, else bus), name length, weight, column, exclusive, tuples, multiplicities, flags
+ *   names                the bus names, one after the other, in bytes
+ *   tuples               the width of each tuple
+ *   multiplicities, flags, elements   node numbers
+ */
+
+/* generate_permutation: two challenges for each lookup, alpha then beta, four words each. The trace takes height * (lookups + 1) * 4 words,
+ * row by row: the accumulator, then the fractions. terminal: 1 and four words, or five zeros where there is none. */
+uint32_t delmatik_generate(size_t main_width, size_t height, size_t pre_width, size_t pre_height,
+    const uint32_t *main, size_t main_len, const uint32_t *preprocessed, size_t preprocessed_len,
+    const uint32_t *public_values, size_t public_values_len, const uint32_t *nodes, size_t nodes_len,
+    const uint32_t *lookups, size_t lookups_len, const uint8_t *names, size_t names_len,
+    const uint32_t *tuples, size_t tuples_len, const uint32_t *multiplicities, size_t multiplicities_len,
+    const uint32_t *flags, size_t flags_len, const uint32_t *elements, size_t elements_len,
+    const uint32_t *challenges, size_t challenges_len, uint32_t *trace, size_t trace_len,
+    uint32_t terminal[5], uint64_t details[3]);
+
+/* eval_all over every row of a trace of trace_width elements a row; terminal_present is 0 where there is none. */
+uint32_t delmatik_constraints(size_t main_width, size_t height, size_t pre_width, size_t pre_height,
+    const uint32_t *main, size_t main_len, const uint32_t *preprocessed, size_t preprocessed_len,
+    const uint32_t *public_values, size_t public_values_len, const uint32_t *nodes, size_t nodes_len,
+    const uint32_t *lookups, size_t lookups_len, const uint8_t *names, size_t names_len,
+    const uint32_t *tuples, size_t tuples_len, const uint32_t *multiplicities, size_t multiplicities_len,
+    const uint32_t *flags, size_t flags_len, const uint32_t *elements, size_t elements_len,
+    const uint32_t *challenges, size_t challenges_len, size_t trace_width, const uint32_t *trace, size_t trace_len,
+    uint32_t terminal_present, uint32_t t0, uint32_t t1, uint32_t t2, uint32_t t3, uint64_t details[3]);
+
+/* constraint_degree_with_transition of one lookup; transition is 0 or 1. */
+uint32_t delmatik_degree(size_t main_width, size_t pre_width, size_t public_values, const uint32_t *nodes, size_t nodes_len,
+    const uint32_t *lookups, size_t lookups_len, const uint8_t *names, size_t names_len,
+    const uint32_t *tuples, size_t tuples_len, const uint32_t *multiplicities, size_t multiplicities_len,
+    const uint32_t *flags, size_t flags_len, const uint32_t *elements, size_t elements_len,
+    size_t lookup, uint32_t transition, uint64_t degree[1], uint64_t details[3]);
+
+/* pack_same_bus: the packed lookups into the front of six lists; used says how much of each was written. No list is longer than its input. */
+uint32_t delmatik_pack(uint64_t limit, size_t main_width, size_t pre_width, size_t public_values, const uint32_t *nodes, size_t nodes_len,
+    const uint32_t *lookups, size_t lookups_len, const uint8_t *names, size_t names_len,
+    const uint32_t *tuples, size_t tuples_len, const uint32_t *multiplicities, size_t multiplicities_len,
+    const uint32_t *flags, size_t flags_len, const uint32_t *elements, size_t elements_len,
+    uint32_t *lookups_out, size_t lookups_out_len, uint8_t *names_out, size_t names_out_len,
+    uint32_t *tuples_out, size_t tuples_out_len, uint32_t *multiplicities_out, size_t multiplicities_out_len,
+    uint32_t *flags_out, size_t flags_out_len, uint32_t *elements_out, size_t elements_out_len,
+    uint64_t used[6], uint64_t details[3]);
+
+/* check_bus_widths over several tables, their lists one after the other; sizes has three for each table: lookups, bytes of names, tuples. */
+uint32_t delmatik_widths(const uint32_t *lookups, size_t lookups_len, const uint8_t *names, size_t names_len,
+    const uint32_t *tuples, size_t tuples_len, const uint32_t *sizes, size_t sizes_len, uint64_t widest[1], uint64_t details[3]);
+
+/* The height bound: the lookups of all tables, and for each table how many it has, and its height. */
+uint32_t delmatik_height_bound(const uint32_t *lookups, size_t lookups_len, const uint32_t *counts, size_t counts_len,
+    const uint32_t *heights, size_t heights_len, uint64_t details[3]);
+
+/* verify_terminal_sum: five words for each terminal, a mark (0 where it is absent) and four words. */
+uint32_t delmatik_terminals(const uint32_t *terminals, size_t terminals_len, uint64_t details[3]);
+
+/* Challenges::new: prefix i is alpha + (i + 1) * beta^width, four words each. */
+uint32_t delmatik_prefixes(const uint32_t *alpha, size_t alpha_len, const uint32_t *beta, size_t beta_len, size_t width, size_t count,
+    uint32_t *out, size_t out_len, uint64_t details[3]);
+
+/* check_lookups over several tables, their lists one after the other; sizes has fourteen for each table: main width, height, preprocessed
+ * width, preprocessed height, then how many main words, preprocessed words, public values, nodes, lookups, bytes of names, tuples,
+ * multiplicities, flags and elements it has. A slot of the workspace is ten words: tuple width, eight words, net. */
+uint32_t delmatik_balance(const uint32_t *main, size_t main_len, const uint32_t *preprocessed, size_t preprocessed_len,
+    const uint32_t *public_values, size_t public_values_len, const uint32_t *nodes, size_t nodes_len,
+    const uint32_t *lookups, size_t lookups_len, const uint8_t *names, size_t names_len,
+    const uint32_t *tuples, size_t tuples_len, const uint32_t *multiplicities, size_t multiplicities_len,
+    const uint32_t *flags, size_t flags_len, const uint32_t *elements, size_t elements_len,
+    const uint32_t *sizes, size_t sizes_len, uint32_t *workspace, size_t workspace_len, uint64_t details[3]);
+
+/* One element: its power, and its inverse, 0 where it is 0. */
+uint32_t delmatik_power(const uint32_t *a, size_t a_len, uint32_t n, uint32_t *out, size_t out_len);
+uint32_t delmatik_inverse(const uint32_t *a, size_t a_len, uint32_t *out, size_t out_len);
+
+#ifdef __cplusplus
+}
+#endif
+
+#endif

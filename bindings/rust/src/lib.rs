@@ -1,0 +1,281 @@
+//! A safe way into Delmatik's doors. Every door takes any words, and answers a [`Refusal`] where document 01's table asks for one; this
+//! crate lends the slices, sizes the outputs and hands back the project's types.
+//!
+//! ```
+//! use delmatik::{Lookup, Table};
+//!
+//! // One row, 3; one lookup on the bus "mem" with the tuple (3), multiplicity 1. Nodes: the column, then the constant 1.
+//! let table = Table {
+//!     main_width: 1,
+//!     height: 1,
+//!     main: vec![3],
+//!     nodes: vec![1, 0, 0, 0, 1, 0],
+//!     ..Table::default()
+//! }
+//! .with(&[Lookup { bus: Some(b"mem".to_vec()), weight: 1, tuples: vec![vec![0]], multiplicities: vec![1], ..Lookup::default() }]);
+//!
+//! // Alpha 5, beta 0.
+//! let generated = table.generate(&[[5, 0, 0, 0], [0, 0, 0, 0]]).unwrap();
+//! let terminal = generated.terminal.unwrap();
+//! assert_eq!(terminal.0, [1006632961, 0, 0, 0]);
+//! assert_eq!(table.constraints(&[[5, 0, 0, 0], [0, 0, 0, 0]], 2, &generated.trace, Some(terminal)), Ok(()));
+//! ```
+pub mod sys;
+
+/// Four words below p: c0 + c1 X + c2 X^2 + c3 X^3, with X^4 = 11.
+pub type Ext = [u32; 4];
+
+/// The sum of all fractions of a table. It is no challenge: hence a type of its own.
+#[derive(Clone, Copy, Debug, PartialEq, Eq)]
+pub struct LookupTerminal(pub Ext);
+
+/// Document 01's number of a refusal, 1 to 20, and its three details, zero unless it names them.
+#[derive(Clone, Copy, Debug, PartialEq, Eq)]
+pub struct Refusal {
+    pub number: u32,
+    pub details: [u64; 3],
+}
+
+/// One lookup; its nodes by number.
+#[derive(Clone, Debug, Default, PartialEq, Eq)]
+pub struct Lookup {
+    /// The name of its bus; a local has none.
+    pub bus: Option<Vec<u8>>,
+    pub weight: u32,
+    pub column: u32,
+    pub exclusive: bool,
+    pub tuples: Vec<Vec<u32>>,
+    pub multiplicities: Vec<u32>,
+    pub flags: Vec<u32>,
+}
+
+/// A table in flat words, as the doors take it.
+#[derive(Clone, Debug, Default, PartialEq, Eq)]
+pub struct Table {
+    pub main_width: usize,
+    pub height: usize,
+    pub pre_width: usize,
+    pub pre_height: usize,
+    pub main: Vec<u32>,
+    pub preprocessed: Vec<u32>,
+    pub public_values: Vec<u32>,
+    /// kind, a, b of each node
+    pub nodes: Vec<u32>,
+    /// scope (0 local, else bus), name length, weight, column, exclusive, tuples, multiplicities, flags of each lookup
+    pub lookups: Vec<u32>,
+    pub names: Vec<u8>,
+    /// the width of each tuple
+    pub tuples: Vec<u32>,
+    pub multiplicities: Vec<u32>,
+    pub flags: Vec<u32>,
+    pub elements: Vec<u32>,
+}
+
+/// What generation hands back: the trace, row by row, four words an element; no terminal without lookups.
+#[derive(Clone, Debug, PartialEq, Eq)]
+pub struct Generated {
+    pub trace: Vec<u32>,
+    pub terminal: Option<LookupTerminal>,
+}
+
+/// Calls a door with slices as pointers and lengths. Safe, since a door reads and writes the lent slices alone, whatever they hold.
+macro_rules! call {
+    ($door:ident($($arguments:tt)*)) => {{
+        let mut details = [0; 3];
+        let number = call!(@ $door details () $($arguments)*);
+        if number == 0 { Ok(()) } else { Err(Refusal { number, details }) }
+    }};
+    (@ $door:ident $details:ident ($($done:tt)*) [mut $slice:expr], $($rest:tt)*) => {
+        call!(@ $door $details ($($done)* $slice.as_mut_ptr(), $slice.len(),) $($rest)*)
+    };
+    (@ $door:ident $details:ident ($($done:tt)*) [$slice:expr], $($rest:tt)*) => {
+        call!(@ $door $details ($($done)* $slice.as_ptr(), $slice.len(),) $($rest)*)
+    };
+    (@ $door:ident $details:ident ($($done:tt)*) $argument:expr, $($rest:tt)*) => {
+        call!(@ $door $details ($($done)* $argument,) $($rest)*)
+    };
+    (@ $door:ident $details:ident ($($done:tt)*)) => { unsafe { sys::$door($($done)* &mut $details) } };
+}
+
+impl Table {
+    /// The same table with these lookups.
+    pub fn with(mut self, lookups: &[Lookup]) -> Table {
+        self.lookups.clear();
+        self.names.clear();
+        self.tuples.clear();
+        self.multiplicities.clear();
+        self.flags.clear();
+        self.elements.clear();
+        for l in lookups {
+            let name = l.bus.as_deref().unwrap_or_default();
+            let lengths = [l.tuples.len(), l.multiplicities.len(), l.flags.len()].map(|n| n as u32);
+            self.lookups.extend([l.bus.is_some().into(), name.len() as u32, l.weight, l.column, l.exclusive.into()]);
+            self.lookups.extend(lengths);
+            self.names.extend(name);
+            self.tuples.extend(l.tuples.iter().map(|t| t.len() as u32));
+            self.multiplicities.extend(&l.multiplicities);
+            self.flags.extend(&l.flags);
+            self.elements.extend(l.tuples.iter().flatten());
+        }
+        self
+    }
+
+    pub fn lookup_count(&self) -> usize {
+        self.lookups.len() / 8
+    }
+
+    /// How many words the trace has; at most document 01's limits, beyond which generation refuses whatever the buffer.
+    fn trace_words(&self) -> usize {
+        if self.lookups.is_empty() { 0 } else { 4 * self.height.min(1 << 20) * (self.lookup_count().min(64) + 1) }
+    }
+
+    /// `generate_permutation`: two challenges for each lookup, alpha then beta.
+    pub fn generate(&self, challenges: &[Ext]) -> Result<Generated, Refusal> {
+        let mut trace = vec![0; self.trace_words()];
+        let terminal = self.generate_into(challenges.as_flattened(), &mut trace)?;
+        Ok(Generated { trace, terminal })
+    }
+
+    /// The same with the challenges as words, into a lent buffer, which may be longer than the trace.
+    pub fn generate_into(&self, challenges: &[u32], trace: &mut [u32]) -> Result<Option<LookupTerminal>, Refusal> {
+        let mut terminal = [0; 5];
+        call!(delmatik_generate(
+            self.main_width, self.height, self.pre_width, self.pre_height, [self.main], [self.preprocessed], [self.public_values],
+            [self.nodes], [self.lookups], [self.names], [self.tuples], [self.multiplicities], [self.flags], [self.elements], [challenges],
+            [mut trace], &mut terminal,
+        ))?;
+        let [present, words @ ..] = terminal;
+        Ok((present == 1).then_some(LookupTerminal(words)))
+    }
+
+    /// `eval_all` over every row of a trace of `width` elements a row.
+    pub fn constraints(&self, challenges: &[Ext], width: usize, trace: &[u32], terminal: Option<LookupTerminal>) -> Result<(), Refusal> {
+        self.constraints_on(challenges.as_flattened(), width, trace, terminal)
+    }
+
+    /// The same with the challenges as words.
+    pub fn constraints_on(&self, challenges: &[u32], width: usize, trace: &[u32], terminal: Option<LookupTerminal>) -> Result<(), Refusal> {
+        let LookupTerminal([t0, t1, t2, t3]) = terminal.unwrap_or(LookupTerminal([0; 4]));
+        call!(delmatik_constraints(
+            self.main_width, self.height, self.pre_width, self.pre_height, [self.main], [self.preprocessed], [self.public_values],
+            [self.nodes], [self.lookups], [self.names], [self.tuples], [self.multiplicities], [self.flags], [self.elements], [challenges],
+            width, [trace], terminal.is_some().into(), t0, t1, t2, t3,
+        ))
+    }
+
+    /// `constraint_degree_with_transition` of one lookup.
+    pub fn degree(&self, lookup: usize, transition: u32) -> Result<u64, Refusal> {
+        let mut degree = 0;
+        call!(delmatik_degree(
+            self.main_width, self.pre_width, self.public_values.len(), [self.nodes], [self.lookups], [self.names], [self.tuples],
+            [self.multiplicities], [self.flags], [self.elements], lookup, transition, &mut degree,
+        ))?;
+        Ok(degree)
+    }
+
+    /// `pack_same_bus`: the table with its lookups merged up to this degree.
+    pub fn pack(&self, limit: u64) -> Result<Table, Refusal> {
+        let mut packed = self.clone();
+        let Table { lookups, names, tuples, multiplicities, flags, elements, .. } = &mut packed;
+        let mut used = [0; 6];
+        call!(delmatik_pack(
+            limit, self.main_width, self.pre_width, self.public_values.len(), [self.nodes], [self.lookups], [self.names], [self.tuples],
+            [self.multiplicities], [self.flags], [self.elements], [mut lookups], [mut names], [mut tuples], [mut multiplicities],
+            [mut flags], [mut elements], &mut used,
+        ))?;
+        let [l, n, t, m, f, e] = used.map(|n: u64| n as usize);
+        lookups.truncate(l);
+        names.truncate(n);
+        tuples.truncate(t);
+        multiplicities.truncate(m);
+        flags.truncate(f);
+        elements.truncate(e);
+        Ok(packed)
+    }
+
+    /// The 14 sizes that a door over several tables takes.
+    pub fn sizes(&self) -> [u32; 14] {
+        let shape = [self.main_width, self.height, self.pre_width, self.pre_height];
+        let lists = [self.main.len(), self.preprocessed.len(), self.public_values.len(), self.nodes.len() / 3, self.lookup_count()];
+        let more = [self.names.len(), self.tuples.len(), self.multiplicities.len(), self.flags.len(), self.elements.len()];
+        let mut sizes = [0; 14];
+        for (to, n) in sizes.iter_mut().zip(shape.into_iter().chain(lists).chain(more)) {
+            *to = word(n);
+        }
+        sizes
+    }
+}
+
+/// A number as a word; one that is no word is over every limit all the same.
+fn word(n: usize) -> u32 {
+    n.try_into().unwrap_or(u32::MAX)
+}
+
+/// A list of all tables, one table after the other.
+fn joined<T: Copy>(tables: &[Table], list: fn(&Table) -> &[T]) -> Vec<T> {
+    tables.iter().flat_map(list).copied().collect()
+}
+
+/// `check_bus_widths`: the widest bus tuple.
+pub fn widths(tables: &[Table]) -> Result<u64, Refusal> {
+    let (lookups, names, tuples) = (joined(tables, |t| &t.lookups), joined(tables, |t| &t.names), joined(tables, |t| &t.tuples));
+    let size = |t: &Table| [word(t.lookup_count()), word(t.names.len()), word(t.tuples.len())];
+    let sizes: Vec<u32> = tables.iter().flat_map(size).collect();
+    let mut widest = 0;
+    call!(delmatik_widths([lookups], [names], [tuples], [sizes], &mut widest,))?;
+    Ok(widest)
+}
+
+/// The height bound: the sum of weight × height over all lookups is below p.
+pub fn height_bound(tables: &[Table], heights: &[usize]) -> Result<(), Refusal> {
+    let lookups = joined(tables, |t| &t.lookups);
+    let counts: Vec<u32> = tables.iter().map(|t| word(t.lookup_count())).collect();
+    let heights: Vec<u32> = heights.iter().map(|h| word(*h)).collect();
+    call!(delmatik_height_bound([lookups], [counts], [heights],))
+}
+
+/// `verify_terminal_sum`: absent ones are skipped.
+pub fn terminals(terminals: &[Option<LookupTerminal>]) -> Result<(), Refusal> {
+    let five = |t: &Option<LookupTerminal>| t.map_or([0; 5], |LookupTerminal([a, b, c, d])| [1, a, b, c, d]);
+    let words: Vec<u32> = terminals.iter().flat_map(five).collect();
+    call!(delmatik_terminals([words],))
+}
+
+/// `Challenges::new`: prefix i is alpha + (i + 1) × beta^width.
+pub fn prefixes(alpha: Ext, beta: Ext, width: usize, count: usize) -> Result<Vec<Ext>, Refusal> {
+    // More than 256 are refused whatever the room.
+    let mut out = vec![0; 4 * count.min(257)];
+    call!(delmatik_prefixes([alpha], [beta], width, count, [mut out],))?;
+    Ok(out.chunks_exact(4).map(|e| e.try_into().unwrap()).collect())
+}
+
+/// `check_lookups`: the workspace, of ten words a slot, holds the last group visited afterwards.
+pub fn balance(tables: &[Table], workspace: &mut [u32]) -> Result<(), Refusal> {
+    let sizes: Vec<u32> = tables.iter().flat_map(|t| t.sizes()).collect();
+    let (main, preprocessed) = (joined(tables, |t| &t.main), joined(tables, |t| &t.preprocessed));
+    let (public_values, nodes) = (joined(tables, |t| &t.public_values), joined(tables, |t| &t.nodes));
+    let (lookups, names, tuples) = (joined(tables, |t| &t.lookups), joined(tables, |t| &t.names), joined(tables, |t| &t.tuples));
+    let (multiplicities, flags) = (joined(tables, |t| &t.multiplicities), joined(tables, |t| &t.flags));
+    let elements = joined(tables, |t| &t.elements);
+    call!(delmatik_balance(
+        [main], [preprocessed], [public_values], [nodes], [lookups], [names], [tuples], [multiplicities], [flags], [elements], [sizes],
+        [mut workspace],
+    ))
+}
+
+/// The answer of a door on one element, which has no details.
+fn element(number: u32, out: Ext) -> Result<Ext, Refusal> {
+    if number == 0 { Ok(out) } else { Err(Refusal { number, details: [0; 3] }) }
+}
+
+/// `a` to the power `n`.
+pub fn power(a: Ext, n: u32) -> Result<Ext, Refusal> {
+    let mut out = [0; 4];
+    element(unsafe { sys::delmatik_power(a.as_ptr(), 4, n, out.as_mut_ptr(), 4) }, out)
+}
+
+/// 1 ÷ `a`, and 0 where `a` is 0.
+pub fn inverse(a: Ext) -> Result<Ext, Refusal> {
+    let mut out = [0; 4];
+    element(unsafe { sys::delmatik_inverse(a.as_ptr(), 4, out.as_mut_ptr(), 4) }, out)
+}

@@ -1,0 +1,51 @@
+//! The doors as they are exported. Each gives document 01's number, 0 where nothing is refused, and writes three details. A door takes any
+//! words and lengths: it tests them itself, and reads and writes the lent slices alone.
+
+/// A door's declaration: `[name: type]` is a slice, which is lent as a pointer and a length.
+macro_rules! door {
+    ($name:ident($($arguments:tt)*)) => { door!(@ $name () $($arguments)*); };
+    (@ $name:ident ($($done:tt)*) [$slice:ident: $type:ty], $($rest:tt)*) => {
+        door!(@ $name ($($done)* $slice: *const $type, _: usize,) $($rest)*);
+    };
+    (@ $name:ident ($($done:tt)*) [$slice:ident: mut $type:ty], $($rest:tt)*) => {
+        door!(@ $name ($($done)* $slice: *mut $type, _: usize,) $($rest)*);
+    };
+    (@ $name:ident ($($done:tt)*) $argument:ident: $type:ty, $($rest:tt)*) => {
+        door!(@ $name ($($done)* $argument: $type,) $($rest)*);
+    };
+    (@ $name:ident ($($done:tt)*)) => {
+        unsafe extern "C" {
+            pub fn $name($($done)*) -> u32;
+        }
+    };
+}
+
+door!(delmatik_generate(
+    main_width: usize, height: usize, pre_width: usize, pre_height: usize, [main: u32], [preprocessed: u32], [public_values: u32],
+    [nodes: u32], [lookups: u32], [names: u8], [tuples: u32], [multiplicities: u32], [flags: u32], [elements: u32], [challenges: u32],
+    [trace: mut u32], terminal: *mut [u32; 5], details: *mut [u64; 3],
+));
+door!(delmatik_constraints(
+    main_width: usize, height: usize, pre_width: usize, pre_height: usize, [main: u32], [preprocessed: u32], [public_values: u32],
+    [nodes: u32], [lookups: u32], [names: u8], [tuples: u32], [multiplicities: u32], [flags: u32], [elements: u32], [challenges: u32],
+    trace_width: usize, [trace: u32], terminal_present: u32, t0: u32, t1: u32, t2: u32, t3: u32, details: *mut [u64; 3],
+));
+door!(delmatik_degree(
+    main_width: usize, pre_width: usize, public_values: usize, [nodes: u32], [lookups: u32], [names: u8], [tuples: u32],
+    [multiplicities: u32], [flags: u32], [elements: u32], lookup: usize, transition: u32, degree: *mut u64, details: *mut [u64; 3],
+));
+door!(delmatik_pack(
+    limit: u64, main_width: usize, pre_width: usize, public_values: usize, [nodes: u32], [lookups: u32], [names: u8], [tuples: u32],
+    [multiplicities: u32], [flags: u32], [elements: u32], [lookups_out: mut u32], [names_out: mut u8], [tuples_out: mut u32],
+    [multiplicities_out: mut u32], [flags_out: mut u32], [elements_out: mut u32], used: *mut [u64; 6], details: *mut [u64; 3],
+));
+door!(delmatik_widths([lookups: u32], [names: u8], [tuples: u32], [sizes: u32], widest: *mut u64, details: *mut [u64; 3],));
+door!(delmatik_height_bound([lookups: u32], [counts: u32], [heights: u32], details: *mut [u64; 3],));
+door!(delmatik_terminals([terminals: u32], details: *mut [u64; 3],));
+door!(delmatik_prefixes([alpha: u32], [beta: u32], width: usize, count: usize, [out: mut u32], details: *mut [u64; 3],));
+door!(delmatik_balance(
+    [main: u32], [preprocessed: u32], [public_values: u32], [nodes: u32], [lookups: u32], [names: u8], [tuples: u32],
+    [multiplicities: u32], [flags: u32], [elements: u32], [sizes: u32], [workspace: mut u32], details: *mut [u64; 3],
+));
+door!(delmatik_power([a: u32], n: u32, [out: mut u32],));
+door!(delmatik_inverse([a: u32], [out: mut u32],));

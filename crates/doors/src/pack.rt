@@ -1,0 +1,105 @@
+// Packing for callers that hold words.
+use crate::answer::tell;
+use expression::refusal::Verdict;
+use lookup::entry::Columns;
+use packing::door::Counts;
+use packing::door::PackingAnswer;
+use packing::door::pack_same_bus;
+ghost use mathlib.Core.Path.{_≡_};
+ghost use mathlib.Core.List.{[], _∷_};
+ghost use Rattle.expression.specs.Refusal.{refusal, answer-number, answer-details};
+ghost use Rattle.expression.specs.Limits.{cabinet};
+ghost use Rattle.field.specs.Modulus.{babybear};
+ghost use Rattle.lookup.specs.Lookups.{lent-lookups};
+ghost use Rattle.packing.specs.Door.{packing};
+ghost use Rattle.doors.specs.Types.{columns-of};
+ghost use Rattle.doors.specs.Packing.{packing-refused, packing-used};
+
+fn packing_verdict(a: PackingAnswer) -> Verdict
+    ensures { λ r. ⌜ refusal r ≡ packing-refused a ⌝ }
+{
+    match a {
+        PackingAnswer::Packed(_) => Verdict::Accepted,
+        PackingAnswer::Refused(f) => Verdict::Refused(f),
+    }
+}
+
+fn write_counts(c: Counts, out: &mut [u64; 6])
+    ensures { λ _. ⌜ now (out .exit) ≡ c .lookups ∷ c .names ∷ c .tuples ∷ c .multiplicities ∷ c .flags ∷ c .elements ∷ [] ⌝ }
+{
+    *out = [
+        c.lookups as u64,
+        c.names as u64,
+        c.tuples as u64,
+        c.multiplicities as u64,
+        c.flags as u64,
+        c.elements as u64,
+    ];
+}
+
+fn write_used(a: PackingAnswer, out: &mut [u64; 6])
+    ensures { λ _. ⌜ now (out .exit) ≡ packing-used a ⌝ }
+{
+    match a {
+        PackingAnswer::Packed(c) => {
+            write_counts(c, out);
+        }
+        PackingAnswer::Refused(_) => {
+            *out = [0u64, 0, 0, 0, 0, 0];
+        }
+    }
+}
+
+// `pack_same_bus` of one table: its columns into the front of six lent lists, and how much of each was written.
+#[no_mangle]
+pub extern "C" fn delmatik_pack(
+    limit: u64,
+    main_width: usize,
+    pre_width: usize,
+    public_values: usize,
+    nodes: &[u32],
+    lookups: &[u32],
+    names: &[u8],
+    tuples: &[u32],
+    multiplicities: &[u32],
+    flags: &[u32],
+    elements: &[u32],
+    lookups_out: &mut [u32],
+    names_out: &mut [u8],
+    tuples_out: &mut [u32],
+    multiplicities_out: &mut [u32],
+    flags_out: &mut [u32],
+    elements_out: &mut [u32],
+    used: &mut [u64; 6],
+    details: &mut [u64; 3],
+) -> u32
+    ensures { λ r. ⌜ (r ≡ answer-number (packing-refused (packing cabinet babybear limit (columns-of «main_width» «pre_width» «public_values») (now (nodes .entry)) (lent-lookups (now (lookups .entry)) (now (names .entry)) (now (tuples .entry)) (now (multiplicities .entry)) (now (flags .entry)) (now (elements .entry))) (lent-lookups (now («lookups_out» .entry)) (now («names_out» .entry)) (now («tuples_out» .entry)) (now («multiplicities_out» .entry)) (now («flags_out» .entry)) (now («elements_out» .entry))) .answer)))
+        × (now (details .exit) ≡ answer-details (packing-refused (packing cabinet babybear limit (columns-of «main_width» «pre_width» «public_values») (now (nodes .entry)) (lent-lookups (now (lookups .entry)) (now (names .entry)) (now (tuples .entry)) (now (multiplicities .entry)) (now (flags .entry)) (now (elements .entry))) (lent-lookups (now («lookups_out» .entry)) (now («names_out» .entry)) (now («tuples_out» .entry)) (now («multiplicities_out» .entry)) (now («flags_out» .entry)) (now («elements_out» .entry))) .answer)))
+        × (now (used .exit) ≡ packing-used (packing cabinet babybear limit (columns-of «main_width» «pre_width» «public_values») (now (nodes .entry)) (lent-lookups (now (lookups .entry)) (now (names .entry)) (now (tuples .entry)) (now (multiplicities .entry)) (now (flags .entry)) (now (elements .entry))) (lent-lookups (now («lookups_out» .entry)) (now («names_out» .entry)) (now («tuples_out» .entry)) (now («multiplicities_out» .entry)) (now («flags_out» .entry)) (now («elements_out» .entry))) .answer))
+        × (lent-lookups (now («lookups_out» .exit)) (now («names_out» .exit)) (now («tuples_out» .exit)) (now («multiplicities_out» .exit)) (now («flags_out» .exit)) (now («elements_out» .exit))
+        ≡ packing cabinet babybear limit (columns-of «main_width» «pre_width» «public_values») (now (nodes .entry)) (lent-lookups (now (lookups .entry)) (now (names .entry)) (now (tuples .entry)) (now (multiplicities .entry)) (now (flags .entry)) (now (elements .entry))) (lent-lookups (now («lookups_out» .entry)) (now («names_out» .entry)) (now («tuples_out» .entry)) (now («multiplicities_out» .entry)) (now («flags_out» .entry)) (now («elements_out» .entry))) .lists) ⌝ }
+{
+    let a = pack_same_bus(
+        limit,
+        Columns {
+            main: main_width,
+            preprocessed: pre_width,
+            public_values,
+        },
+        nodes,
+        lookups,
+        names,
+        tuples,
+        multiplicities,
+        flags,
+        elements,
+        lookups_out,
+        names_out,
+        tuples_out,
+        multiplicities_out,
+        flags_out,
+        elements_out,
+    );
+    write_used(a, used);
+    tell(packing_verdict(a), details)
+}
