@@ -1,7 +1,7 @@
 //! Document 01 once more, as a plain program: an independent reading, to which the port and the crate are compared. It is written for
 //! reading, not for speed.
 use crate::plain::{self, Ext, P};
-use crate::table::{Entry, Interaction, LOOKUP_WORDS, Lookup, NODE_WORDS, Part, Table};
+use crate::table::{Entry, Interaction, LOOKUP_WORDS, Lookup, NODE_WORDS, Part, Table, Widths};
 
 /// A refusal's number and three details; number 0 where the call is accepted.
 #[derive(Clone, Copy, Debug, Default, PartialEq, Eq)]
@@ -51,17 +51,30 @@ fn plan_sizes_fit(t: &Table) -> bool {
         && lookup_sizes_fit(t)
 }
 
+/// What the lookups' words alone show.
+fn words_within(t: &Table) -> bool {
+    let entries = t.entries();
+    t.lookups.len().is_multiple_of(LOOKUP_WORDS)
+        && entries.len() <= LOOKUPS
+        && entries.iter().all(|e| e.name_length <= NAME_BYTES)
+        && entries.iter().map(|e| u64::from(e.tuples)).sum::<u64>() <= TUPLES as u64
+}
+
+/// What they show with the names and the tuples' widths.
+fn widths_within(t: &Table) -> bool {
+    let entries = t.entries();
+    let total = |field: fn(&Entry) -> u32| entries.iter().map(|e| field(e) as usize).sum::<usize>();
+    words_within(t)
+        && t.tuples.iter().all(|w| *w <= TUPLE_WORDS)
+        && t.names.len() == total(|e| e.name_length)
+        && t.tuples.len() == total(|e| e.tuples)
+}
+
 fn lookup_sizes_fit(t: &Table) -> bool {
     let entries = t.entries();
     let total = |field: fn(&Entry) -> u32| entries.iter().map(|e| u64::from(field(e))).sum::<u64>();
     let is = |length: usize, n: u64| length as u64 == n;
-    t.lookups.len().is_multiple_of(LOOKUP_WORDS)
-        && entries.len() <= LOOKUPS
-        && entries.iter().all(|e| e.name_length <= NAME_BYTES)
-        && t.tuples.len() <= TUPLES
-        && t.tuples.iter().all(|w| *w <= TUPLE_WORDS)
-        && is(t.names.len(), total(|e| e.name_length))
-        && is(t.tuples.len(), total(|e| e.tuples))
+    widths_within(t)
         && is(t.multiplicities.len(), total(|e| e.multiplicities))
         && is(t.flags.len(), total(|e| e.flags))
         && is(t.elements.len(), t.tuples.iter().map(|w| u64::from(*w)).sum())
@@ -440,9 +453,9 @@ pub fn degree(t: &Table, lookup: u64, transition: u64) -> (Answer, u64) {
 }
 
 /// The different buses of a list, by first appearance.
-fn buses<'a>(records: impl Iterator<Item = &'a Lookup>) -> Vec<&'a [u8]> {
+fn buses<'a>(buses_of: impl Iterator<Item = &'a Option<Vec<u8>>>) -> Vec<&'a [u8]> {
     let mut buses: Vec<&[u8]> = vec![];
-    for name in records.filter_map(|r| r.bus.as_deref()) {
+    for name in buses_of.filter_map(|bus| bus.as_deref()) {
         if !buses.contains(&name) {
             buses.push(name);
         }
@@ -451,10 +464,10 @@ fn buses<'a>(records: impl Iterator<Item = &'a Lookup>) -> Vec<&'a [u8]> {
 }
 
 /// Refusal 6 over a table: each bus, then its tuples. `seen` holds the widths of buses in tables before it.
-fn widths_differ(records: &[Lookup], seen: &mut Vec<(Vec<u8>, usize)>) -> Option<Answer> {
-    for bus in buses(records.iter()) {
-        for (i, record) in records.iter().enumerate().filter(|(_, r)| r.bus.as_deref() == Some(bus)) {
-            for actual in record.tuples.iter().map(Vec::len) {
+fn widths_differ(lookups: &[Widths], seen: &mut Vec<(Vec<u8>, usize)>) -> Option<Answer> {
+    for bus in buses(lookups.iter().map(|l| &l.bus)) {
+        for (i, lookup) in lookups.iter().enumerate().filter(|(_, l)| l.bus.as_deref() == Some(bus)) {
+            for actual in lookup.widths.iter().map(|w| *w as usize) {
                 match seen.iter().find(|(name, _)| name == bus) {
                     None => seen.push((bus.to_vec(), actual)),
                     Some((_, expected)) if *expected != actual => return Some(with_details(6, [i, *expected, actual])),
@@ -472,13 +485,13 @@ pub fn pack(t: &Table, limit: u64) -> (Answer, Vec<Lookup>) {
         return (refused(number), vec![]);
     }
     let records = t.records();
-    if let Some(answer) = widths_differ(&records, &mut vec![]) {
+    if let Some(answer) = widths_differ(&t.widths(), &mut vec![]) {
         return (answer, vec![]);
     }
     let degrees = degrees(t, 0);
     let additive = |r: &&Lookup| r.bus.is_some() && !r.exclusive;
     let mut columns: Vec<Lookup> = records.iter().filter(|r| !additive(r)).cloned().collect();
-    for bus in buses(records.iter().filter(additive)) {
+    for bus in buses(records.iter().filter(additive).map(|r| &r.bus)) {
         let first = columns.len();
         for member in records.iter().filter(additive).filter(|r| r.bus.as_deref() == Some(bus)) {
             let merged = columns.get(first..).and_then(<[Lookup]>::last).map(|open| Lookup {
@@ -546,35 +559,28 @@ pub fn count_of(n: i32) -> (u32, u32) {
 }
 
 /// The widest bus tuple. Only the lookups of the tables are read.
+/// The widest bus tuple. The door has the lookups' words, names and widths only, so that 5 does not apply.
 pub fn widths(tables: &[Table]) -> (Answer, u64) {
-    let number = first_refused(&[
-        (1, &|| tables.len() <= TABLES && tables.iter().all(lookup_sizes_fit)),
-        (5, &|| tables.iter().all(list_lengths_agree)),
-    ]);
-    if number != 0 {
-        return (refused(number), 0);
+    if TABLES < tables.len() || !tables.iter().all(widths_within) {
+        return (refused(1), 0);
     }
     let mut seen = vec![];
     for t in tables {
-        if let Some(answer) = widths_differ(&t.records(), &mut seen) {
+        if let Some(answer) = widths_differ(&t.widths(), &mut seen) {
             return (answer, 0);
         }
     }
     (ACCEPTED, seen.iter().map(|(_, width)| *width as u64).max().unwrap_or(0))
 }
 
+/// The sum of weight × height. The door has the lookups' words only.
 pub fn height_bound(tables: &[Table], heights: &[u64]) -> Answer {
-    let number = first_refused(&[
-        (1, &|| {
-            tables.len() <= TABLES
-                && heights.len() == tables.len()
-                && heights.iter().all(|h| *h <= HEIGHT)
-                && tables.iter().all(lookup_sizes_fit)
-        }),
-        (5, &|| tables.iter().all(list_lengths_agree)),
-    ]);
-    if number != 0 {
-        return refused(number);
+    let fit = tables.len() <= TABLES
+        && heights.len() == tables.len()
+        && heights.iter().all(|h| *h <= HEIGHT)
+        && tables.iter().all(words_within);
+    if !fit {
+        return refused(1);
     }
     let weight = |t: &Table| t.entries().iter().map(|e| u64::from(e.weight)).sum::<u64>();
     let sum: u64 = tables.iter().zip(heights).map(|(t, h)| weight(t) * h).sum();
@@ -614,7 +620,7 @@ pub fn groups(tables: &[Table]) -> Vec<Vec<(usize, usize)>> {
     let records: Vec<Vec<Lookup>> = tables.iter().map(Table::records).collect();
     let places = || (0..tables.len()).flat_map(|t| (0..records[t].len()).map(move |i| (t, i)));
     let locals = places().filter(|(t, i)| records[*t][*i].bus.is_none()).map(|place| vec![place]);
-    let names = buses(records.iter().flatten());
+    let names = buses(records.iter().flatten().map(|r| &r.bus));
     let on_bus = names.iter().map(|name| places().filter(|(t, i)| records[*t][*i].bus.as_deref() == Some(name)).collect());
     locals.chain(on_bus).collect()
 }

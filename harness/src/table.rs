@@ -35,6 +35,12 @@ pub struct Lookup {
     pub flags: Vec<u32>,
 }
 
+/// The bus of one lookup and the widths of its tuples.
+pub struct Widths {
+    pub bus: Option<Vec<u8>>,
+    pub widths: Vec<u32>,
+}
+
 /// What building takes: tuples with their weights, in one of the three kinds of interaction.
 #[derive(Clone, Debug, PartialEq, Eq)]
 pub enum Interaction {
@@ -134,6 +140,16 @@ impl Table {
             });
         }
         records
+    }
+
+    /// The buses and widths of the lookups. The names and tuples must have the lengths that the lookups' words say.
+    pub fn widths(&self) -> Vec<Widths> {
+        let (mut names, mut widths) = (&self.names[..], &self.tuples[..]);
+        let entry = |e: Entry| {
+            let name = front(&mut names, e.name_length).to_vec();
+            Widths { bus: e.on_bus.then_some(name), widths: front(&mut widths, e.tuples).to_vec() }
+        };
+        self.entries().into_iter().map(entry).collect()
     }
 
     pub fn set_records(&mut self, records: &[Lookup]) {

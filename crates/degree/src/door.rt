@@ -1,13 +1,13 @@
 // The door of degree.
 use crate::lookups::lookup_degree;
 use crate::tuples::tuple_degrees;
-use expression::degrees::fill_degrees;
 use expression::refusal::Refusal;
 use expression::refusal::Verdict;
 use expression::sizes::Limits;
 use expression::sizes::cabinet;
 use lookup::entry::Columns;
 use lookup::entry::form_refusal;
+use screening::degrees::fill_degrees;
 ghost use mathlib.Core.Path.{_≡_};
 ghost use Prim.Native.Nat.{_<_, _≤_};
 ghost use Rattle.expression.specs.Limits.{Sane, cabinet};

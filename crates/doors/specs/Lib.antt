@@ -1,2 +1,4 @@
 pub mod Element
 pub mod Generation
+pub mod Constraints
+pub mod Types

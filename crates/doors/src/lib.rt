@@ -1,3 +1,7 @@
 // Functions for other languages: numbers and slices of words in, a refusal's number and details out.
+pub mod answer;
 pub mod element;
+pub mod eval;
 pub mod permutation;
+pub mod small;
+pub mod types;

@@ -1,5 +1,6 @@
 // Generation for callers that hold words.
-use expression::refusal;
+use crate::answer::write_details;
+use answers::numbers;
 use expression::refusal::ThreeDetails;
 use expression::sizes::Shape;
 use generation::permutation::generate;
@@ -20,7 +21,7 @@ fn number(g: Generated) -> u32
     match g {
         Generated::Terminal(_) => 0,
         Generated::Absent => 0,
-        Generated::Refused(f) => refusal::number(f),
+        Generated::Refused(f) => numbers::number(f),
     }
 }
 
@@ -38,7 +39,7 @@ fn details(g: Generated) -> ThreeDetails
             second: 0,
             third: 0,
         },
-        Generated::Refused(f) => refusal::details(f),
+        Generated::Refused(f) => numbers::details(f),
     }
 }
 
@@ -58,12 +59,6 @@ fn write_terminal(g: Generated, out: &mut [u32; 5])
             *out = [0u32, 0, 0, 0, 0];
         }
     }
-}
-
-fn write_details(d: ThreeDetails, out: &mut [u64; 3])
-    ensures { λ _. ⌜ now (out .exit) ≡ the-details d ⌝ }
-{
-    *out = [d.first, d.second, d.third];
 }
 
 // `generate_permutation`: the number of the refusal is returned, 0 where there is none; its details, the terminal and the trace are written.

@@ -1,7 +1,7 @@
 // What a lookup enters on one row, and on all rows.
 use crate::place::Place;
+use evaluation::traits::row_values;
 use expression::sizes::Shape;
-use expression::traits::row_values;
 use expression::words::index;
 use field::word;
 use slots::enter::Use;

@@ -1,5 +1,5 @@
 // Generates the trace of a small table and prints its rows and its terminal.
-use expression::refusal;
+use answers::numbers;
 use expression::sizes::Shape;
 use field::extension::Ext;
 use generation::permutation;
@@ -84,7 +84,7 @@ fn main() {
         }
         Generated::Refused(f) => {
             io::write_all(1, b"refusal=");
-            print_word(refusal::number(f));
+            print_word(numbers::number(f));
             io::write_all(1, b"\n");
         }
     }

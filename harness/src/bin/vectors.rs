@@ -1,130 +1,151 @@
-//! Prints a fixed list of small tables with the crate's answers, to be replayed elsewhere. The header that it prints says how to read it.
+//! Prints the cases that the program `cases` replays: document 01's worked cases and refusal examples with the answers that it names, then
+//! small tables with the answers of p3-lookup's own source. docs/VECTORS.md says how the text reads.
+//!
+//!     cargo run --release --offline --bin vectors > ../crates/cases/stdin
+use std::fmt::{Display, Write};
 use std::process::ExitCode;
 
 use harness::compare::{self, Compared};
 use harness::generator::{self, Case};
 use harness::model::{self, Answer};
-use harness::plain::{self, Ext, Random};
-use harness::table::{Lookup, Table, line};
+use harness::plain::{Ext, P, Random, lift};
+use harness::table::{Lookup, Table};
 
-const HEADER: &str = "\
-# Answers of p3-lookup 0.8.0. A line is a key and decimal numbers, separated by blanks; empty lists are left out.
-# A vector starts with `vector` and its number. Its inputs:
-#   table          main width, height, preprocessed width, preprocessed height; starts a table
-#   main, preprocessed, public, nodes, lookups, names, tuples, multiplicities, flags, elements
-#                  the table's lists, bus names as bytes
-#   challenges     four words each, for the first table
-# Its answers: number and three details, then what follows. The doors of one table take the first.
-#   generate       then, where the number is 0, `trace` and `terminal` (absent without lookups)
-#   constraints    then width, place, addend: the generated rows, filled up to that width with the word 5, and the terminal after them;
-#                  to the word at that place the addend is added modulo p
-#   degree         then lookup, t, degree
-#   pack           then the limit; where the number is 0, `packed-lookups`, `packed-names`, .. are the packed table's lists
-#   widths         of all tables, then the widest
-#   bound          of all tables, then the heights
-#   prefixes       then W, how many, and the prefixes, with the first two challenges as alpha and beta
-#   balance        of all tables, then the words of the workspace; `workspace` is its content afterwards
-# The crate panics where a number is 6 (packing), 9, 13 to 15 or 18. The details of 6, 13 to 15, and the workspace, it does not give: these are
-# the model's. An answer stands here only where the crate gives the same, or panics for the same reason.";
+/// What lent words hold before a call.
+const BEFORE: u32 = 7;
+
+#[derive(Default)]
+struct Text(String);
+
+impl Text {
+    fn case(&mut self, title: &str) {
+        writeln!(self.0, "case {title}").unwrap();
+    }
+
+    fn list<T: Display>(&mut self, key: &str, numbers: &[T]) {
+        let numbers: String = numbers.iter().map(|n| format!(" {n}")).collect();
+        writeln!(self.0, "{key}{numbers}").unwrap();
+    }
+
+    fn answer(&mut self, door: &str, answer: Answer, more: &[u64]) {
+        self.list(door, &[&[u64::from(answer.number)], &answer.details[..], more].concat());
+    }
+
+    /// The lists of all tables, one table after the other; empty ones are left out.
+    fn tables(&mut self, tables: &[Table]) {
+        let size = |t: &Table| {
+            let counts = [t.main.len(), t.preprocessed.len(), t.public_values.len(), t.node_count(), t.lookup_count(), t.names.len()];
+            let more = [t.tuples.len(), t.multiplicities.len(), t.flags.len(), t.elements.len()];
+            let shape = [t.main_width, t.height, t.pre_width, t.pre_height];
+            [&shape[..], &counts.map(|n| n as u64), &more.map(|n| n as u64)].concat()
+        };
+        self.list("sizes", &tables.iter().flat_map(size).collect::<Vec<u64>>());
+        self.words(tables, "main", |t| &t.main);
+        self.words(tables, "preprocessed", |t| &t.preprocessed);
+        self.words(tables, "public", |t| &t.public_values);
+        self.words(tables, "nodes", |t| &t.nodes);
+        self.lookups(tables, "");
+    }
+
+    fn lookups(&mut self, tables: &[Table], before: &str) {
+        let key = |name: &str| format!("{before}{name}");
+        self.words(tables, &key("lookups"), |t| &t.lookups);
+        self.words(tables, &key("names"), |t| &t.names);
+        self.words(tables, &key("tuples"), |t| &t.tuples);
+        self.words(tables, &key("multiplicities"), |t| &t.multiplicities);
+        self.words(tables, &key("flags"), |t| &t.flags);
+        self.words(tables, &key("elements"), |t| &t.elements);
+    }
+
+    fn words<T: Display + Copy>(&mut self, tables: &[Table], key: &str, list: fn(&Table) -> &[T]) {
+        let words: Vec<T> = tables.iter().flat_map(list).copied().collect();
+        // A list that was given before in the same case is given again, if only as an empty one.
+        if !words.is_empty() || key.starts_with("packed") {
+            self.list(key, &words);
+        }
+    }
+
+    fn generate(&mut self, answer: Answer, trace: &[u32], terminal: Option<Ext>) {
+        self.list("trace", trace);
+        self.list("terminal", &marked(terminal));
+        self.answer("generate", answer, &[]);
+    }
+
+    fn constraints(&mut self, answer: Answer, width: u64, rows: &[u32], terminal: Option<Ext>) {
+        self.list("rows", rows);
+        self.list("claimed", &terminal.unwrap_or_default());
+        self.answer("constraints", answer, &[width, terminal.is_some().into()]);
+    }
+
+    fn pack(&mut self, answer: Answer, limit: u64, packed: &[Lookup]) {
+        let mut t = Table::default();
+        t.set_records(packed);
+        self.lookups(&[t], "packed-");
+        self.answer("pack", answer, &[limit]);
+    }
+
+    fn widths(&mut self, tables: &[Table], answer: Answer, widest: u64) {
+        let size = |t: &Table| [t.lookup_count(), t.names.len(), t.tuples.len()];
+        self.list("lists", &tables.iter().flat_map(size).collect::<Vec<usize>>());
+        self.answer("widths", answer, &[widest]);
+    }
+
+    fn bound(&mut self, tables: &[Table], heights: &[u64], answer: Answer) {
+        self.list("counts", &tables.iter().map(Table::lookup_count).collect::<Vec<usize>>());
+        self.list("heights", heights);
+        self.answer("bound", answer, &[]);
+    }
+
+    fn prefixes(&mut self, (alpha, beta): (Ext, Ext), width: u64, count: u64, answer: Answer, prefixes: &[Ext]) {
+        self.list("element", &[alpha, beta].concat());
+        self.list("written", &prefixes.concat());
+        self.answer("prefixes", answer, &[width, count]);
+    }
+
+    fn balance(&mut self, answer: Answer, workspace: &[u32]) {
+        self.list("workspace", workspace);
+        self.answer("balance", answer, &[]);
+    }
+}
+
+fn marked(terminal: Option<Ext>) -> [u32; 5] {
+    terminal.map_or([0; 5], |[a, b, c, d]| [1, a, b, c, d])
+}
 
 fn main() -> ExitCode {
     if !cfg!(source) {
         println!("no source of p3-lookup 0.8.0: set P3_LOOKUP_SRC");
         return ExitCode::FAILURE;
     }
-    println!("{HEADER}");
+    let mut text = Text::default();
+    text.0.push_str("# Document 01's worked cases, with the answers that it names.\n");
+    worked(&mut text);
+    text.0.push_str("# An example of each refusal, as document 01 gives it.\n");
+    refusals(&mut text);
+    text.0.push_str("# Answers of p3-lookup 0.8.0.\n");
     for (i, case) in cases().iter().enumerate() {
-        println!("vector {i}");
-        case.tables.iter().for_each(|t| print!("{t}"));
-        print!("{}", line("challenges", &case.challenges));
-        print_answers(case);
+        text.case(&format!("oracle {i}"));
+        oracle(&mut text, case);
     }
+    print!("{}", text.0);
     ExitCode::SUCCESS
 }
 
-fn answer_line(key: &str, answer: Answer, more: &[u64]) {
-    print!("{}", line(key, &[&[u64::from(answer.number)], &answer.details[..], more].concat()));
+// Document 01's cases.
+
+const ACCEPTED: Answer = model::ACCEPTED;
+
+fn refused(number: u32, details: [u64; 3]) -> Answer {
+    Answer { number, details }
 }
 
-/// The answer, if the crate gives the same.
-fn confirmed((answer, compared): (Answer, Result<Compared, String>)) -> Option<Answer> {
-    (compared.expect("model and crate agree on the vectors") == Compared::Same).then_some(answer)
-}
-
-fn print_answers(case: &Case) {
-    let t = &case.tables[0];
-    if let Some(answer) = confirmed(compare::generation(case)) {
-        let mut trace = vec![0; case.buffer];
-        let (_, terminal) = model::generate(t, &case.challenges, &mut trace);
-        answer_line("generate", answer, &[]);
-        if answer.number == 0 && 0 < t.lookup_count() {
-            print!("{}", line("trace", &trace[..t.height as usize * 4 * (t.lookup_count() + 1)]));
-            print!("{}", line("terminal", &terminal.unwrap()));
-            print_constraints(case);
-        }
-    }
-    for (lookup, transition) in (0..t.lookup_count()).flat_map(|i| [(i, 0), (i, 1)]) {
-        let case = Case { transition, ..case.clone() };
-        if let Some(answer) = confirmed(compare::degree(&case, lookup)) {
-            answer_line("degree", answer, &[lookup as u64, transition, model::degree(t, lookup as u64, transition).1]);
-        }
-    }
-    for limit in [0, 3] {
-        let case = Case { limit, ..case.clone() };
-        if let Some(answer) = confirmed(compare::packing(&case)) {
-            answer_line("pack", answer, &[limit]);
-            let mut packed = Table::default();
-            packed.set_records(&model::pack(t, limit).1);
-            print!("{}", packed.lookup_lines("packed-"));
-        }
-    }
-    if let Some(answer) = confirmed(compare::widths(case)) {
-        answer_line("widths", answer, &[model::widths(&case.tables).1]);
-    }
-    if let Some(answer) = confirmed(compare::height_bound(case)) {
-        answer_line("bound", answer, &case.heights);
-    }
-    if let (Some(answer), true) = (confirmed(compare::prefixes(case)), 8 <= case.challenges.len()) {
-        let (_, prefixes) = model::prefixes(case.challenge(0), case.challenge(1), case.prefix_width, case.prefixes);
-        let words: Vec<u64> = prefixes.iter().flatten().map(|w| u64::from(*w)).collect();
-        answer_line("prefixes", answer, &[&[case.prefix_width, case.prefixes], &words[..]].concat());
-    }
-    if let Some(answer) = confirmed(compare::balance(case)) {
-        let mut workspace = vec![7; case.workspace];
-        model::balance(&case.tables, &mut workspace);
-        answer_line("balance", answer, &[case.workspace as u64]);
-        print!("{}", line("workspace", &workspace));
-    }
-}
-
-/// The generated trace, wider, and with one word changed: each place of the second half, one after the other.
-fn print_constraints(case: &Case) {
-    let (width, trace, _) = compare::asked(case);
-    let words = trace.len() + 4;
-    for (place, addend) in [(0, 0), (0, 1), (words / 2, 1), (words - 8, 3), (words - 4, 1), (words - 1, 2)] {
-        let case = Case { changes: vec![(place, addend)], ..case.clone() };
-        if let Some(answer) = confirmed(compare::constraints(&case)) {
-            answer_line("constraints", answer, &[width, place as u64, addend.into()]);
-        }
-    }
-}
-
-/// One lookup over a column of the rows given, with alpha and beta.
-fn one_lookup(rows: &[u32], lookup: Lookup, alpha: Ext, beta: Ext) -> Case {
+/// Nodes 0 to 4: the column, then 1, 0, 7 and 2.
+fn table(rows: &[u32], lookups: &[Lookup]) -> Table {
     let mut t = Table { main_width: 1, height: rows.len() as u64, main: rows.to_vec(), ..Table::default() };
-    // Nodes 0 to 3: the column, then 1, 0 and 7.
-    t.nodes = vec![1, 0, 0, 0, 1, 0, 0, 0, 0, 0, 7, 0];
-    t.set_records(&[lookup]);
-    Case {
-        buffer: 8 * rows.len(),
-        challenges: [alpha, beta].concat(),
-        workspace: 25,
-        heights: vec![t.height],
-        prefix_width: 3,
-        prefixes: 2,
-        tables: vec![t],
-        ..Case::default()
-    }
+    t.nodes = vec![1, 0, 0, 0, 1, 0, 0, 0, 0, 0, 7, 0, 0, 2, 0];
+    let numbered = lookups.iter().zip(0..).map(|(l, column)| Lookup { column, ..l.clone() });
+    t.set_records(&numbered.collect::<Vec<Lookup>>());
+    t
 }
 
 fn lookup(tuples: &[&[u32]], multiplicities: &[u32], flags: Option<&[u32]>) -> Lookup {
@@ -139,28 +160,217 @@ fn lookup(tuples: &[&[u32]], multiplicities: &[u32], flags: Option<&[u32]>) -> L
     }
 }
 
+/// The column once: (3) for a row 3.
+fn once() -> Lookup {
+    lookup(&[&[0]], &[1], None)
+}
+
+fn words(elements: &[Ext]) -> Vec<u32> {
+    elements.concat()
+}
+
+/// A case of generation: the trace, in elements, and the terminal.
+fn generated(text: &mut Text, title: &str, t: &Table, alpha: u32, beta: u32, trace: &[u32], terminal: u32) {
+    text.case(title);
+    text.tables(&[t.clone()]);
+    text.list("challenges", &words(&[lift(alpha), lift(beta)]));
+    let trace: Vec<Ext> = trace.iter().map(|w| lift(*w)).collect();
+    text.generate(ACCEPTED, &words(&trace), Some(lift(terminal)));
+}
+
+fn worked(text: &mut Text) {
+    generated(text, "c1 (3, 7) with beta 10 combines to 37", &table(&[3], &[lookup(&[&[0, 3]], &[1], None)]), 38, 10, &[0, 1], 1);
+    generated(text, "c2 the empty tuple combines to 0", &table(&[3], &[lookup(&[&[]], &[1], None)]), 1, 10, &[0, 1], 1);
+    text.case("c3 X^3 * X = 11");
+    text.list("element", &[0, 1, 0, 0]);
+    text.list("result", &[11, 0, 0, 0]);
+    text.list("power", &[0, 4]);
+    let half = 1006632961;
+    generated(text, "c4 rows 3, 4 with multiplicity 1, alpha 5", &table(&[3, 4], &[once()]), 5, 0, &[0, half, half, 1], half + 1);
+    generated(text, "c5 additive (3), multiplicity 0, alpha 3", &table(&[3], &[lookup(&[&[0]], &[2], None)]), 3, 0, &[0, 0], 0);
+    fault(text, "c6 the same in a chosen branch", lookup(&[&[0]], &[2], Some(&[1])), 3, 15);
+    let unflagged = lookup(&[&[0], &[0]], &[1, 1], Some(&[2, 2]));
+    generated(text, "c7 all flags 0", &table(&[3], &[unflagged]), 5, 0, &[0, 0], 0);
+    degree(text, "c8 two additive tuples, all of degree 1", lookup(&[&[0], &[0]], &[0, 0], None), 3);
+    degree(text, "c9 four exclusive branches likewise", lookup(&[&[0][..]; 4], &[0; 4], Some(&[0; 4])), 3);
+    let five: Vec<Lookup> = (0..5).map(|_| lookup(&[&[0]], &[0], None)).collect();
+    for (limit, sizes) in [(3, &[2, 2, 1][..]), (0, &[1; 5])] {
+        text.case(&format!("c10 five one-tuple additive lookups of degree 1 on one bus, limit {limit}"));
+        text.tables(&[table(&[3], &five)]);
+        let column = |(n, column): (&usize, u32)| Lookup { weight: *n as u32, column, ..lookup(&vec![&[0][..]; *n], &vec![0; *n], None) };
+        text.pack(ACCEPTED, limit, &sizes.iter().zip(0..).map(column).collect::<Vec<Lookup>>());
+    }
+    text.case("c11 alpha 1, beta 2, W 3");
+    text.prefixes((lift(1), lift(2)), 3, 2, ACCEPTED, &[lift(9), lift(17)]);
+    bound(text, "c12 weight 2013265920, height 1", 2013265920, ACCEPTED);
+    balance(text, "(9) and (10) both unbalanced name (10)", &[9, 10], 20, refused(18, [0, 1, 1]), &[(9, 1), (10, 1)]);
+    text.case("32 words suffice for row 10's example");
+    text.tables(&[table(&[3, 3, 3, 3], &[once()])]);
+    text.list("challenges", &words(&[lift(4), lift(0)]));
+    text.generate(ACCEPTED, &words(&[0, 1, 1, 1, 2, 1, 3, 1].map(lift)), Some(lift(4)));
+}
+
+/// One lookup on the row 3: the used part is zero after the fault.
+fn fault(text: &mut Text, title: &str, lookup: Lookup, alpha: u32, number: u32) {
+    text.case(title);
+    text.tables(&[table(&[3], &[lookup])]);
+    text.list("challenges", &words(&[lift(alpha), lift(0)]));
+    text.generate(refused(number, [0; 3]), &[0, 0, 0, 0, 0, 0, 0, 0, BEFORE], None);
+}
+
+fn degree(text: &mut Text, title: &str, lookup: Lookup, degree: u64) {
+    text.case(title);
+    text.tables(&[table(&[3], &[lookup])]);
+    text.answer("degree", ACCEPTED, &[0, 0, degree]);
+}
+
+fn bound(text: &mut Text, title: &str, weight: u32, answer: Answer) {
+    let t = table(&[3], &[Lookup { weight, ..once() }]);
+    text.case(title);
+    text.tables(&[t.clone()]);
+    text.bound(&[t], &[1], answer);
+}
+
+fn balance(text: &mut Text, title: &str, rows: &[u32], room: usize, answer: Answer, nets: &[(u32, u32)]) {
+    text.case(title);
+    text.tables(&[table(rows, &[once()])]);
+    let mut workspace: Vec<u32> = nets.iter().flat_map(|(word, net)| [1, *word, 0, 0, 0, 0, 0, 0, 0, *net]).collect();
+    workspace.resize(room, 0);
+    text.balance(answer, &workspace);
+}
+
+/// Generation refuses before it writes: the buffer stays.
+fn untouched(text: &mut Text, title: &str, t: &Table, challenges: &[u32], room: usize, number: u32) {
+    text.case(title);
+    text.tables(&[t.clone()]);
+    text.list("challenges", challenges);
+    text.generate(refused(number, [0; 3]), &vec![BEFORE; room], None);
+}
+
+fn refusals(text: &mut Text) {
+    let pair = words(&[lift(5), lift(0)]);
+    untouched(text, "1: 65 lookups", &table(&[3], &vec![once(); 65]), &words(&[lift(5); 130]), 8, 1);
+    untouched(text, "2: challenge word 2013265921", &table(&[3], &[once()]), &[P, 0, 0, 0, 0, 0, 0, 0], 8, 2);
+    let mut t = table(&[3], &[once()]);
+    t.nodes[9..12].copy_from_slice(&[9, 3, 1]);
+    untouched(text, "3: node 3 = node 3 + node 1", &t, &pair, 8, 3);
+    t.nodes = vec![1, 0, 0, 0, 1, 0];
+    t.nodes.extend([11, 0, 0].into_iter().chain((2..9).flat_map(|n| [11, n, n])));
+    untouched(text, "4: a column squared 8 times", &t, &pair, 8, 4);
+    let mut t = table(&[3], &[once(), once()]);
+    t.lookups[8 + 3] = 5;
+    untouched(text, "5: columns 0, 5", &t, &words(&[lift(5), lift(0), lift(5), lift(0)]), 12, 5);
+    let differing = table(&[3], &[lookup(&[&[0, 0]], &[1], None), lookup(&[&[0, 0, 0]], &[1], None)]);
+    text.case("6: bus \"mem\": 2 and 3");
+    text.tables(&[differing.clone()]);
+    text.widths(&[differing], refused(6, [1, 2, 3]), 0);
+    text.pack(refused(6, [1, 2, 3]), 3, &[]);
+    text.case("7: weights 4294967295 and 1");
+    text.tables(&[table(&[3], &[Lookup { weight: u32::MAX, ..once() }, once()])]);
+    text.pack(refused(7, [0; 3]), 3, &[]);
+    untouched(text, "8: 2 lookups, 3 challenges", &table(&[3], &[once(), once()]), &words(&[lift(5); 3]), 12, 8);
+    let short = Table { pre_width: 1, pre_height: 3, preprocessed: vec![0; 3], ..table(&[3; 4], &[once()]) };
+    untouched(text, "9: height 4, preprocessed 3", &short, &pair, 32, 9);
+    untouched(text, "10: 1 lookup, height 4, 31 words", &table(&[3; 4], &[once()]), &pair, 31, 10);
+
+    let half = 1006632961;
+    text.case("11: no terminal, 1 lookup");
+    text.tables(&[table(&[3], &[once()])]);
+    text.list("challenges", &pair);
+    text.constraints(refused(11, [0; 3]), 2, &words(&[lift(0), lift(half)]), None);
+    text.case("12: W = 0");
+    text.prefixes((lift(1), lift(2)), 0, 1, refused(12, [0; 3]), &[[BEFORE; 4]]);
+    fault(text, "13: flag 2", lookup(&[&[0]], &[1], Some(&[4])), 5, 13);
+    fault(text, "14: flags 1, 1", lookup(&[&[0], &[0]], &[1, 1], Some(&[1, 1])), 5, 14);
+    let t = table(&[5], &[once()]);
+    text.case("15: alpha 5, tuple (5), multiplicity 1");
+    text.tables(&[t]);
+    text.list("challenges", &pair);
+    text.generate(refused(15, [0; 3]), &[0; 8], None);
+    balance(text, "16: 2 tuples, 19 words", &[3, 4], 19, refused(16, [0; 3]), &[]);
+    text.case("17: accumulator 1 on row 0");
+    text.tables(&[table(&[3], &[once()])]);
+    text.list("challenges", &pair);
+    text.constraints(refused(17, [0, 1, 0]), 2, &words(&[lift(1), lift(half)]), Some(lift(half + 1)));
+    balance(text, "18: (3) once", &[3], 10, refused(18, [0, 0, 1]), &[(3, 1)]);
+    bound(text, "19: weight 2013265921, height 1", 2013265921, refused(19, [2013265921, 0, 0]));
+    text.case("20: 1 and 1");
+    text.list("given", &[1, 1, 0, 0, 0, 1, 1, 0, 0, 0]);
+    text.answer("terminals", refused(20, [0; 3]), &[]);
+}
+
+// The crate's answers.
+
+/// The answer, if the crate gives the same, or panics for the same reason.
+fn confirmed((answer, compared): (Answer, Result<Compared, String>)) -> Option<Answer> {
+    (compared.expect("model and crate agree on the vectors") == Compared::Same).then_some(answer)
+}
+
+fn oracle(text: &mut Text, case: &Case) {
+    text.tables(&case.tables);
+    let [t] = &case.tables[..] else { return of_all_tables(text, case) };
+    text.list("challenges", &case.challenges);
+    if let Some(answer) = confirmed(compare::generation(case)) {
+        let mut trace = vec![BEFORE; case.buffer];
+        let (_, terminal) = model::generate(t, &case.challenges, &mut trace);
+        text.generate(answer, &trace, terminal);
+        if answer.number == 0 && 0 < t.lookup_count() {
+            changed(text, case);
+        }
+    }
+    for (lookup, transition) in (0..t.lookup_count()).flat_map(|i| [(i, 0), (i, 1)]) {
+        let case = Case { transition, ..case.clone() };
+        if let Some(answer) = confirmed(compare::degree(&case, lookup)) {
+            text.answer("degree", answer, &[lookup as u64, transition, model::degree(t, lookup as u64, transition).1]);
+        }
+    }
+    for limit in [0, 3] {
+        if let Some(answer) = confirmed(compare::packing(&Case { limit, ..case.clone() })) {
+            text.pack(answer, limit, &model::pack(t, limit).1);
+        }
+    }
+    of_all_tables(text, case);
+}
+
+fn of_all_tables(text: &mut Text, case: &Case) {
+    if let Some(answer) = confirmed(compare::widths(case)) {
+        text.widths(&case.tables, answer, model::widths(&case.tables).1);
+    }
+    if let Some(answer) = confirmed(compare::height_bound(case)) {
+        text.bound(&case.tables, &case.heights, answer);
+    }
+    if let Some(answer) = confirmed(compare::prefixes(case)) {
+        let pair = (case.challenge(0), case.challenge(1));
+        let (_, prefixes) = model::prefixes(pair.0, pair.1, case.prefix_width, case.prefixes);
+        text.prefixes(pair, case.prefix_width, case.prefixes, answer, &prefixes);
+    }
+    if let Some(answer) = confirmed(compare::balance(case)) {
+        let mut workspace = vec![BEFORE; case.workspace];
+        model::balance(&case.tables, &mut workspace);
+        text.balance(answer, &workspace);
+    }
+}
+
+/// The constraints on the generated trace, made wider, and on it with one word changed.
+fn changed(text: &mut Text, case: &Case) {
+    let words = compare::asked(case).1.len() + 4;
+    for (place, addend) in [(0, 0), (words / 2, 1), (words - 2, 2)] {
+        let case = Case { changes: vec![(place, addend)], ..case.clone() };
+        if let Some(answer) = confirmed(compare::constraints(&case)) {
+            let (width, rows, terminal) = compare::asked(&case);
+            text.constraints(answer, width, &rows, terminal);
+        }
+    }
+}
+
+/// Random cases that are small enough to be read.
 fn cases() -> Vec<Case> {
-    let lift = plain::lift;
-    let mut cases = vec![
-        // c4, c5, c6 and c7 of document 01; a tuple of two under beta 10; none.
-        one_lookup(&[3, 4], lookup(&[&[0]], &[1], None), lift(5), lift(0)),
-        one_lookup(&[3, 3], lookup(&[&[0]], &[2], None), lift(3), lift(0)),
-        one_lookup(&[3, 3], lookup(&[&[0]], &[2], Some(&[1])), lift(3), lift(0)),
-        one_lookup(&[3, 4], lookup(&[&[0], &[0]], &[1, 1], Some(&[2, 2])), lift(5), lift(0)),
-        one_lookup(&[3], lookup(&[&[0, 3]], &[1], None), [0, 1, 0, 0], lift(10)),
-        one_lookup(&[3, 1], lookup(&[], &[], None), lift(5), lift(1)),
-        // The empty tuple; flags 0 and 1 from a column, then a flag of 3, then two flags.
-        one_lookup(&[1, 2], lookup(&[&[]], &[0], None), [0, 0, 1, 0], lift(1)),
-        one_lookup(&[0, 1], lookup(&[&[3], &[1, 3]], &[1, 3], Some(&[0, 2])), [9, 1, 0, 0], [2, 0, 3, 0]),
-        one_lookup(&[1, 3], lookup(&[&[1]], &[1], Some(&[0])), lift(5), lift(0)),
-        one_lookup(&[0, 1], lookup(&[&[3], &[3]], &[1, 1], Some(&[0, 1])), lift(5), lift(0)),
-    ];
     let mut random = Random(0x5DEECE66D);
-    while cases.len() < 40 {
-        let mut case = generator::case(&mut random);
-        case.workspace = 45;
-        let t = &case.tables[0];
-        if 0 < t.lookup_count() && case.tables.iter().all(|t| t.height <= 4 && t.main.len() <= 24 && t.node_count() <= 24) {
+    let mut cases = vec![];
+    while cases.len() < 60 {
+        let case = Case { workspace: 45, ..generator::case(&mut random) };
+        let small = |t: &Table| t.height <= 4 && t.main.len() <= 24 && t.node_count() <= 24 && t.lookup_count() <= 4;
+        if 0 < case.tables[0].lookup_count() && case.tables.iter().all(small) && case.prefixes <= 4 && case.buffer <= 256 {
             cases.push(case);
         }
     }

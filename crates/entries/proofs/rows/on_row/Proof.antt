@@ -6,7 +6,7 @@ use Rattle.entries.proofs.rows.on_row.Tie as tie
 use Rattle.entries.proofs.rows.on_row.Reads as reads
 use Rattle.entries.proofs.rows.on_row.Lts as lts
 use Rattle.entries.proofs.rows.enter_row.Reads as enter-row-reads
-use Rattle.expression.proofs.traits.row_values.Reads as row-values-reads
+use Rattle.evaluation.proofs.traits.row_values.Reads as row-values-reads
 
 -- src/rows.rt:114:9
 returns : tie.Need-returns

@@ -1,0 +1,2 @@
+// Refusals as numbers.
+pub mod numbers;

@@ -1,0 +1,18 @@
+use borrow.Author.Needs.{needs}
+use Rattle.doors.proofs.small.delmatik_prefixes.Statement.{statement}
+use Rattle.doors.proofs.small.delmatik_prefixes.Tie as tie
+
+new-requires : tie.Need-new-requires
+new-requires c κs = search needs
+
+tell-requires : tie.Need-tell-requires
+tell-requires c κs = search needs
+
+same-length : tie.Need-same-length
+same-length c = search needs
+
+returns : tie.Need-returns
+returns c = (cc, cc, cc)
+
+pub delmatik-prefixes-spec : {M : Type 1} → statement M
+delmatik-prefixes-spec = tie.close (tie.spec new-requires tell-requires same-length returns)

@@ -1,0 +1,163 @@
+// The values of the nodes on a row, from the two-row window. The tests of refusals 1 to 3 have passed, so that each read lies within its list.
+use expression::node::Node;
+use expression::node::node_at;
+use expression::sizes::Shape;
+use expression::words::index;
+use field::word;
+ghost use mathlib.Core.Path.{_≡_};
+ghost use mathlib.Core.List.{_++_};
+ghost use Prim.Native.Nat.{_+_, _*_, _-_, _<_, _≤_, _%_};
+ghost use lib.ListN.{length, replicate};
+ghost use Rattle.expression.specs.Words.{word};
+ghost use Rattle.expression.specs.Node.{node-count};
+ghost use Rattle.expression.specs.Window.{row-of, two, lent-traces, lent-window};
+ghost use Rattle.expression.specs.Values.{bit, node-value, values, row-values};
+ghost use Rattle.expression.specs.Valid.{Slots, Evaluable, Readable, Rows, Ready};
+
+fn bit(b: bool) -> u32
+    ensures { λ r. ⌜ (r ≤ 1) × (r ≡ bit b) ⌝ }
+{
+    if b { 1 } else { 0 }
+}
+
+// Word a of the row at an offset.
+fn at_offset(current: &[u32], next: &[u32], o: u32, a: u32) -> u32
+    requires { ⌜ (a < length (now current)) × (a < length (now next)) ⌝ }
+    ensures { λ r. ⌜ r ≡ word (two (now (current .entry)) (now (next .entry)) o) a ⌝ }
+{
+    if o == 0 {
+        current[index(a)]
+    } else {
+        next[index(a)]
+    }
+}
+
+// The value of a lower node.
+fn value(vals: &[u32; 1024], a: u32) -> u32
+    requires { ⌜ a < 1024 ⌝ }
+    ensures { λ r. ⌜ r ≡ word (now (vals .entry)) a ⌝ }
+{
+    vals[index(a)]
+}
+
+// The value of a node over the two rows and the values of the lower nodes.
+fn node_value(
+    p: u32,
+    n: Node,
+    main0: &[u32],
+    main1: &[u32],
+    pre0: &[u32],
+    pre1: &[u32],
+    public_values: &[u32],
+    row: usize,
+    height: usize,
+    vals: &[u32; 1024],
+) -> u32
+    requires { ⌜ Rows p (now main0) (now main1) (now pre0) (now pre1) (now «public_values») row height × Readable p (now main0) (now main1) (now pre0) (now pre1) (now «public_values») n × Slots p (now vals) ⌝ }
+    ensures { λ r. ⌜ (r < p) × (r ≡ node-value p (lent-window (now (main0 .entry)) (now (main1 .entry)) (now (pre0 .entry)) (now (pre1 .entry)) (now («public_values» .entry)) row height) (now (vals .entry)) n) ⌝ }
+{
+    match n {
+        Node::Constant(a) => a,
+        Node::Main(o, a) => at_offset(main0, main1, o, a),
+        Node::Preprocessed(o, a) => at_offset(pre0, pre1, o, a),
+        Node::PublicValue(a) => public_values[index(a)],
+        Node::FirstRow => bit(row == 0),
+        Node::LastRow => bit(row + 1 == height),
+        Node::Transition => bit(!(row + 1 == height)),
+        Node::Sum(a, b) => word::add(p, value(vals, a), value(vals, b)),
+        Node::Difference(a, b) => word::sub(p, value(vals, a), value(vals, b)),
+        Node::Product(a, b) => word::mul(p, value(vals, a), value(vals, b)),
+        Node::Negation(a) => word::neg(p, value(vals, a)),
+        Node::Unknown => 0,
+    }
+}
+
+// The values of the first n nodes, in node order, into zeros: operands are already computed.
+pub fn evaluate(
+    p: u32,
+    nodes: &[u32],
+    n: usize,
+    main0: &[u32],
+    main1: &[u32],
+    pre0: &[u32],
+    pre1: &[u32],
+    public_values: &[u32],
+    row: usize,
+    height: usize,
+    vals: &mut [u32; 1024],
+)
+    requires { ⌜ Rows p (now main0) (now main1) (now pre0) (now pre1) (now «public_values») row height × Ready p (now main0) (now main1) (now pre0) (now pre1) (now «public_values») (now nodes) n × (now vals ≡ replicate 1024 0) ⌝ }
+    ensures { λ _. ⌜ Slots p (now (vals .exit)) × (now (vals .exit) ≡ values p (now (nodes .entry)) (lent-window (now (main0 .entry)) (now (main1 .entry)) (now (pre0 .entry)) (now (pre1 .entry)) (now («public_values» .entry)) row height) n ++ replicate (1024 - n) 0) ⌝ }
+{
+    let mut i = 0;
+    while i < n {
+        let v = node_value(
+            p,
+            node_at(nodes, i),
+            main0,
+            main1,
+            pre0,
+            pre1,
+            public_values,
+            row,
+            height,
+            vals,
+        );
+        vals[i] = v;
+        i += 1;
+    }
+}
+
+// Row r of a trace, as the part of it that is lent.
+pub fn row_of(s: &[u32], width: usize, height: usize, r: usize) -> &[u32]
+    requires { ⌜ (r < height) × (width * height ≤ length (now s)) ⌝ }
+    ensures { λ t. ⌜ now t ≡ row-of (now (s .entry)) width r ⌝ }
+{
+    let start = r * width;
+    &s[start..start + width]
+}
+
+// The row after row r: row 0 after the last.
+pub fn next_row(r: usize, height: usize) -> usize
+    requires { ⌜ r < height ⌝ }
+    ensures { λ s. ⌜ (s < height) × (s ≡ (r + 1) % height) ⌝ }
+{
+    if r + 1 < height { r + 1 } else { 0 }
+}
+
+// The values of a table's nodes on row r, into zeros. Both traces wrap at main's height.
+pub fn row_values(
+    p: u32,
+    shape: Shape,
+    main: &[u32],
+    preprocessed: &[u32],
+    public_values: &[u32],
+    nodes: &[u32],
+    r: usize,
+    vals: &mut [u32; 1024],
+)
+    requires { ⌜ Evaluable p (lent-traces shape (now main) (now preprocessed) (now «public_values»)) (now nodes) × (r < shape .height) × (now vals ≡ replicate 1024 0) ⌝ }
+    ensures { λ _. ⌜ Slots p (now (vals .exit)) × (now (vals .exit) ≡ row-values p (now (nodes .entry)) (lent-traces shape (now (main .entry)) (now (preprocessed .entry)) (now («public_values» .entry))) r ++ replicate (1024 - node-count (now (nodes .entry))) 0) ⌝ }
+{
+    let height = shape.height;
+    let main_width = shape.main_width;
+    let pre_width = shape.pre_width;
+    let next = next_row(r, height);
+    let main0 = row_of(main, main_width, height, r);
+    let main1 = row_of(main, main_width, height, next);
+    let pre0 = row_of(preprocessed, pre_width, height, r);
+    let pre1 = row_of(preprocessed, pre_width, height, next);
+    evaluate(
+        p,
+        nodes,
+        nodes.len() / 3,
+        main0,
+        main1,
+        pre0,
+        pre1,
+        public_values,
+        r,
+        height,
+        vals,
+    );
+}
