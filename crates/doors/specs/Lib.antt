@@ -1,4 +1,5 @@
 pub mod Element
 pub mod Generation
+pub mod Constraints
 pub mod Types
 pub mod Packing

@@ -2,6 +2,7 @@
 pub mod answer;
 pub mod balancing;
 pub mod element;
+pub mod eval;
 pub mod pack;
 pub mod permutation;
 pub mod small;

@@ -27,7 +27,7 @@ use Rattle.generation.specs.Entry.{rows-answer, cleared}
 use Rattle.prepared.specs.Ready.{lent-values}
 use Rattle.prepared.specs.laws.Table.{joined-length}
 use Rattle.rows.specs.laws.Lengths.{sum-four, fractions-length}
-use Rattle.rows.specs.laws.Unnamed.{unnamed-accumulator, unnamed-trace, unnamed-first-fault}
+use Rattle.parts.specs.laws.Unnamed.{unnamed-accumulator, unnamed-trace, unnamed-first-fault}
 
 pub finish-none : (v : Verdict) (e b : List ℕ) (u : ℕ) → v ≡ Accepted → (terminal e ≡ rows-answer (refusal v) e) × (b ≡ cleared (refusal v) u b)
 finish-none v e b u k = (rw k, rw k)

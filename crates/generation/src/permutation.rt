@@ -32,10 +32,11 @@ use expression::words::all_below;
 use logup::logup::Generated;
 use lookup::tests;
 use lookup::types::LookupTerminal;
+use parts::trace::Progress;
+use parts::trace::parts;
+use parts::trace::zero;
 use prepared::door;
 use prepared::powers;
-use rows::parts;
-use rows::parts::Progress;
 
 // How many words the used part of the trace has.
 fn used_words(shape: Shape, lookups: &[u32]) -> usize
@@ -73,7 +74,7 @@ fn finish(progress: Progress, used: usize, trace: &mut [u32]) -> Generated
     match verdict {
         Verdict::Accepted => Generated::Terminal(LookupTerminal(accumulator)),
         Verdict::Refused(f) => {
-            parts::zero(&mut trace[0..used]);
+            zero(&mut trace[0..used]);
             Generated::Refused(f)
         }
     }
@@ -109,7 +110,7 @@ fn generate_rows(
     let n = lookups.len() / 8;
     let mut table = [0u32; 2048];
     powers::write_table(p, w, challenges, n, &mut table);
-    let progress = parts::parts(
+    let progress = parts(
         p,
         w,
         shape,

@@ -19,11 +19,11 @@ ghost use Rattle.prepared.specs.Ready.{lent-values, Ready, Stands, Spans};
 ghost use Rattle.terms.specs.Constraint.{vanishing};
 ghost use Rattle.lines.specs.Line.{line-sum, line-verdict, becomes, end-verdict, is-refused, Traced};
 use column::tuple;
+use evaluation::traits;
 use expression::refusal;
 use expression::refusal::Refusal;
 use expression::refusal::Verdict;
 use expression::sizes::Shape;
-use evaluation::traits;
 use field::extension;
 use field::extension::Ext;
 use prepared::starts::Starts;
@@ -163,11 +163,10 @@ fn becomes(p: u32, words: &[u32], next: usize, r: usize, height: usize, terminal
     requires { ⌜ Below p (now words) × (r < height) × (r + 1 < height → 4 * next + 4 ≤ length (now words)) × Word4 p (ws terminal) ⌝ }
     ensures { λ e. ⌜ Word4 p (ws e) × (ws e ≡ becomes (now (words .entry)) next r height (ws terminal)) ⌝ }
 {
-    if r + 1 < height {
-        extension::load(words, next)
-    } else {
-        terminal
+    if height <= r + 1 {
+        return terminal;
     }
+    extension::load(words, next)
 }
 
 // The accumulator is tested on row 0 alone.

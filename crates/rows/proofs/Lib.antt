@@ -1,4 +1,3 @@
 pub mod Fraction
 pub mod Lining
 pub mod Rowing
-pub mod Parting

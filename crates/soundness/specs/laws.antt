@@ -13,6 +13,7 @@ pub mod Demand3
 pub mod Entered
 pub mod Paper
 pub mod Fractions
+pub mod Vanishing
 pub mod Passes
 pub mod Layout
 pub mod Constraints

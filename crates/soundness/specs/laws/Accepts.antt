@@ -32,7 +32,7 @@ use Rattle.soundness.specs.laws.Elements.{element-sum, one-nonzero, sub-
 use Rattle.soundness.specs.laws.Columns.{ones, Lawful}
 use Rattle.soundness.specs.laws.Terminals.{place-at-pair}
 use Rattle.soundness.specs.laws.Entered.{Passed, entered}
-use Rattle.soundness.specs.laws.Passes.{first-all}
+use Rattle.soundness.specs.laws.Vanishing.{first-all}
 use Rattle.soundness.specs.laws.Words.{and-of, or-right, all-below-of, joined-each, append-each, element-each}
 
 -- none of the n tests holds

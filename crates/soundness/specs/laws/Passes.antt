@@ -1,57 +1,32 @@
 -- The rows' constraints hold exactly where the needed columns hold the generated trace and the terminal is the generated one.
 use mathlib.Core.Path.{_≡_, refl, sym, ap, ap₂, _∙_}
 use mathlib.Core.Logic.{_↔_}
-use mathlib.Core.Bool.{Bool, true, false, cond}
-use mathlib.Core.Option.{Option, none, some, Option·some-ne-none}
+use mathlib.Core.Bool.{true}
+use mathlib.Core.Option.{none}
 use mathlib.Core.List.{List}
 use Prim.Native.Nat.{ℕ, zero, suc, _+_, _<_, _≤_}
 use native.Mathlib.Omega.{arith}
 use native.Mathlib.Nat.{le-refl}
 use native.Mathlib.Numerals.{add-one}
-use lib.Dec.{eqb, ltb, ltb→lt, nltb→le, lt→ltb, not-T}
-use Rattle.lists.specs.Count.{first, or-else}
-use Rattle.lists.specs.laws.Count.{first-none, or-else-none, of-true, true-of, false-of, not-of-false, eqb-true, eq-of-eqb}
 use Rattle.field.specs.Element.{zero4, add4, sum4, element, is-zero}
 use Rattle.field.specs.Modulus.{Modulus, Certificate}
 use Rattle.field.specs.laws.Homomorphism.{el}
 use Rattle.expression.specs.Valid.{Below}
-use Rattle.expression.specs.declared.refusal.Refusal.{Refusal}
-use Rattle.expression.specs.declared.refusal.Refusal.the-variants.{ConstraintNotZero}
 use Rattle.lookup.specs.Lookups.{Lookups, lookup-count}
 use Rattle.logup.specs.Column.{Place}
 use Rattle.logup.specs.Rows.{place, fraction-at, row-sum, accumulator}
-use Rattle.logup.specs.Constraints.{must-vanish, cell, cell-sum, lookup-constraint, step, binding, row-verdict, rows-verdict, Regular, IsGenerated}
+use Rattle.logup.specs.Constraints.{cell, cell-sum, lookup-constraint, step, binding, rows-verdict, Regular, IsGenerated}
 use Rattle.logup.specs.Ledger.{Element}
+use Rattle.soundness.specs.Vanishing.{RowVanishes, Vanishes}
+use Rattle.soundness.specs.laws.Vanishing.{passes-exactly}
 use Rattle.soundness.specs.laws.Setting.{same-of-el}
 use Rattle.soundness.specs.laws.Elements.{element-sum, zero-iff}
 use Rattle.soundness.specs.laws.Fractions.{fraction-constraint, step-iff}
-
-module _ {A : Type 0} where
-  pub first-all : (f : ℕ → Option A) (n : ℕ) → ((i : ℕ) → i < n → f i ≡ none) → first f n ≡ none
-  unfolding first
-  first-all f zero e = refl
-  first-all f (suc n) e = ap₂ or-else (first-all f n (λ i l. e i (omega arith))) (e n (le-refl (suc n)))
-
-  both-none : (a b : Option A) → a ≡ none → b ≡ none → or-else a b ≡ none
-  both-none a b e q = ap₂ or-else e q
-
-pub vanish-iff : (x : List ℕ) (r i : ℕ) → (must-vanish x r i ≡ none) ↔ (is-zero x ≡ true)
-vanish-iff x r i = (go (is-zero x), λ e. ap (λ (b : Bool). cond b none (some (ConstraintNotZero r i))) e)
-  where
-    go : (b : Bool) → cond {A = Option Refusal} b none (some (ConstraintNotZero r i)) ≡ none → b ≡ true
-    go true e = refl
-    go false e = absurd (Option·some-ne-none (ConstraintNotZero r i) e)
 
 pub sum4-cong : (p : ℕ) (f g : ℕ → List ℕ) (n : ℕ) → ((i : ℕ) → i < n → f i ≡ g i) → sum4 p f n ≡ sum4 p g n
 unfolding sum4
 sum4-cong p f g zero e = refl
 sum4-cong p f g (suc n) e = ap₂ (add4 p) (sum4-cong p f g n (λ i l. e i (omega arith))) (e n (le-refl (suc n)))
-
-ltb-true : (a b : ℕ) → a < b → ltb a b ≡ true
-ltb-true a b l = true-of (ltb a b) (lt→ltb a b l)
-
-ltb-false : (a b : ℕ) → b ≤ a → ltb a b ≡ false
-ltb-false a b l = false-of (ltb a b) (λ t. let k : a < b = ltb→lt a b t in omega arith)
 
 module _ (p w : ℕ) (M : Modulus p) (C : Certificate p w) (l : Lookups) (challenges : List ℕ) (values : ℕ → List ℕ) (height width : ℕ) (words e : List ℕ) where
   abbrev n : ℕ
@@ -84,9 +59,6 @@ module _ (p w : ℕ) (M : Modulus p) (C : Certificate p w) (l : Lookups) (challe
   abbrev by-terminal : ℕ → List ℕ
   by-terminal = binding p w l challenges values width words e
 
-  abbrev row : ℕ → Option Refusal
-  row = row-verdict p w l challenges values width words e height
-
   abbrev Generated : Type 0
   Generated = IsGenerated p w l challenges values height width words e
 
@@ -102,43 +74,8 @@ module _ (p w : ℕ) (M : Modulus p) (C : Certificate p w) (l : Lookups) (challe
   unfolding accumulator sum4
   acc-next r = refl
 
-  -- the constraints of a row, one by one
-  record Row-holds (r : ℕ) : Type 0 where
-    lookups : (i : ℕ) → i < n → is-zero (by-lookup r i) ≡ true
-    starts : r ≡ 0 → is-zero (at-cell r 0) ≡ true
-    steps : r + 1 < height → is-zero (by-step r) ≡ true
-    ends : height ≤ r + 1 → is-zero (by-terminal r) ≡ true
-
-  row-holds : (r : ℕ) → row r ≡ none → Row-holds r
-  unfolding row-verdict
-  row-holds r v =
-      let (a, rest) = or-else-none v in
-      let (b, d) = or-else-none rest in
-      record {
-        lookups = λ i l. vanish-iff (by-lookup r i) r i .0 (first-none (λ i. must-vanish (by-lookup r i) r i) n i a l);
-        starts = λ z. vanish-iff (at-cell r 0) r n .0 (sym (ap (λ (q : Bool). cond q (must-vanish (at-cell r 0) r n) none) (eqb-true z)) ∙ b);
-        steps = λ l. vanish-iff (by-step r) r (n + 1) .0
-            (sym (ap (λ (q : Bool). cond q (must-vanish (by-step r) r (n + 1)) (must-vanish (by-terminal r) r (n + 2)))
-            (ltb-true (r + 1) height l)) ∙ d);
-        ends = λ l. vanish-iff (by-terminal r) r (n + 2) .0
-            (sym (ap (λ (q : Bool). cond q (must-vanish (by-step r) r (n + 1)) (must-vanish (by-terminal r) r (n + 2)))
-            (ltb-false (r + 1) height l)) ∙ d);
-      }
-
-  of-row-holds : (r : ℕ) → Row-holds r → row r ≡ none
-  unfolding row-verdict
-  of-row-holds r v =
-      both-none _ _ (first-all _ n (λ i l. vanish-iff (by-lookup r i) r i .1 (v .lookups i l)))
-      (both-none _ _ (first-case (eqb r 0) refl) (last-case (ltb (r + 1) height) refl))
-    where
-      first-case : (q : Bool) → eqb r 0 ≡ q → cond q (must-vanish (at-cell r 0) r n) none ≡ none
-      first-case true q = vanish-iff (at-cell r 0) r n .1 (v .starts (eq-of-eqb r 0 q))
-      first-case false q = refl
-
-      last-case : (q : Bool) → ltb (r + 1) height ≡ q
-          → cond q (must-vanish (by-step r) r (n + 1)) (must-vanish (by-terminal r) r (n + 2)) ≡ none
-      last-case true q = vanish-iff (by-step r) r (n + 1) .1 (v .steps (ltb→lt (r + 1) height (of-true q)))
-      last-case false q = vanish-iff (by-terminal r) r (n + 2) .1 (v .ends (nltb→le (r + 1) height (not-T (ltb (r + 1) height) (not-of-false q))))
+  abbrev Row-holds : ℕ → Type 0
+  Row-holds = RowVanishes p w l challenges values height width words e
 
   module _ (small : Below p words) (ee : Element p e) (some-rows : 0 < height)
       (regular : (r i : ℕ) → r < height → i < n → Regular p w (spot r i)) where
@@ -203,9 +140,11 @@ module _ (p w : ℕ) (M : Modulus p) (C : Certificate p w) (l : Lookups) (challe
 
     -- the rows pass exactly where the trace and the terminal are the generated ones
     pub exactly-generated : (rows-verdict p w l challenges values width words e height ≡ none) ↔ Generated
-    unfolding rows-verdict
-    exactly-generated = (λ v. split height refl v, λ g. first-all _ height (λ r l. of-row-holds r (generated-holds g r l)))
+    exactly-generated = (λ v. split height refl (vanish .0 v), λ g. vanish .1 (generated-holds g))
       where
-        split : (n : ℕ) → height ≡ n → first row height ≡ none → Generated
+        vanish : (rows-verdict p w l challenges values width words e height ≡ none) ↔ Vanishes p w l challenges values height width words e
+        vanish = passes-exactly p w l challenges values height width words e
+
+        split : (n : ℕ) → height ≡ n → Vanishes p w l challenges values height width words e → Generated
         split zero q v = absurd (omega arith)
-        split (suc n) q v = only (λ r l. row-holds r (first-none row height r v l)) n q
+        split (suc n) q v = only v n q

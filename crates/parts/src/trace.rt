@@ -12,12 +12,12 @@ ghost use Rattle.expression.specs.Refusal.{refusal};
 ghost use Rattle.lookup.specs.Lookups.{lent-lookups, lookup-count};
 ghost use Rattle.logup.specs.Rows.{accumulator, row-words, row-fault, trace, first-fault, used};
 ghost use Rattle.prepared.specs.Ready.{lent-values, Ready};
-use crate::row;
 use expression::refusal;
 use expression::refusal::Verdict;
 use expression::sizes::Shape;
 use field::extension;
 use field::extension::Ext;
+use rows::row;
 
 // The accumulator after a run of rows, and the first fault so far.
 pub struct Progress {

@@ -4,10 +4,10 @@ use Prim.Native.Nat.{_-_}
 use mathlib.Core.List.{[]}
 use Rattle.prepared.specs.Ready.{lent-values}
 use Rattle.lookup.specs.Lookups.{lent-lookups}
-use Rattle.rows.proofs.Parting.{Running, running-begins, running-in, running-part, running-turn, running-ends}
+use Rattle.parts.proofs.Parting.{Running, running-begins, running-in, running-part, running-turn, running-ends}
 use borrow.Author.Needs.{needs}
-use Rattle.rows.proofs.parts.rows.Statement.{statement}
-use Rattle.rows.proofs.parts.rows.Tie as tie
+use Rattle.parts.proofs.trace.rows.Statement.{statement}
+use Rattle.parts.proofs.trace.rows.Tie as tie
 
 abbrev Inv-loop : tie.InvT-loop
 Inv-loop p w shape main preprocessed public-values nodes lookups tuples multiplicities flags elements challenges table from k out₀ width accumulator₀ verdict₀ at₀ j₀ out accumulator verdict at j = Running p w (lent-lookups lookups [] tuples multiplicities flags elements) challenges (lent-values p shape main preprocessed public-values nodes) width from k out₀ out accumulator verdict at j

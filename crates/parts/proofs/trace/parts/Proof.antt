@@ -4,10 +4,10 @@ use mathlib.Core.Path.{refl}
 use mathlib.Core.List.{[]}
 use Rattle.prepared.specs.Ready.{lent-values}
 use Rattle.lookup.specs.Lookups.{lent-lookups}
-use Rattle.rows.proofs.Parting.{Going, going-begins, going-in, going-part, going-turn, going-ends}
+use Rattle.parts.proofs.Parting.{Going, going-begins, going-in, going-part, going-turn, going-ends}
 use borrow.Author.Needs.{needs}
-use Rattle.rows.proofs.parts.parts.Statement.{statement}
-use Rattle.rows.proofs.parts.parts.Tie as tie
+use Rattle.parts.proofs.trace.parts.Statement.{statement}
+use Rattle.parts.proofs.trace.parts.Tie as tie
 
 abbrev Inv-loop : tie.InvT-loop
 Inv-loop p w shape main preprocessed public-values nodes lookups tuples multiplicities flags elements challenges table out₀ width height progress₀ at₀ r₀ out progress at r = Going p w (lent-lookups lookups [] tuples multiplicities flags elements) challenges (lent-values p shape main preprocessed public-values nodes) width height out₀ out progress at r

@@ -20,8 +20,8 @@ use Rattle.expression.specs.declared.refusal.Verdict.the-variants.{Accepted}
 use Rattle.lookup.specs.Lookups.{Lookups, lookup-count}
 use Rattle.logup.specs.Rows.{fraction-at, row-sum, accumulator, row-words, row-fault, trace, first-fault, used}
 use Rattle.column.specs.laws.Powers.{word-zero}
-use Rattle.rows.specs.declared.parts.Progress.{Progress}
+use Rattle.parts.specs.declared.trace.Progress.{Progress}
 use Rattle.rows.specs.laws.Lengths.{fractions-length}
 
 next-times : (a b m : ℕ) → a < b → a * m + m ≤ b * m
 next-times a b m h = rw suc-mul at (mul-le-mul-right m h)
