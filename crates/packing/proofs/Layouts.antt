@@ -22,11 +22,11 @@ use Rattle.degree.specs.Formed.{Formed}
 use Rattle.degree.specs.laws.Formed.{few}
 use Rattle.widths.specs.Order.{name-at, alone-at}
 use Rattle.widths.specs.laws.Order.{arranged-length, arranged-below}
-use Rattle.parts.specs.Parts.{start-at, span-at, parts-of}
-use Rattle.parts.specs.Asks.{Numbers, Parted}
-use Rattle.parts.specs.laws.Starts.{parts-long}
-use Rattle.parts.specs.declared.writing.Part.{Part}
-use Rattle.parts.specs.declared.writing.Part.the-variants.{Names, Tuples, Multiplicities, Flags, Elements}
+use Rattle.segments.specs.Parts.{start-at, span-at, parts-of}
+use Rattle.segments.specs.Asks.{Numbers, Parted}
+use Rattle.segments.specs.laws.Starts.{parts-long}
+use Rattle.segments.specs.declared.writing.Part.{Part}
+use Rattle.segments.specs.declared.writing.Part.the-variants.{Names, Tuples, Multiplicities, Flags, Elements}
 use Rattle.plan.specs.Columns.{Source, source, columns-of, ordered, column-words, words-from, heads-of, over-of}
 use Rattle.plan.specs.Asks.{Ready, Planned}
 use Rattle.plan.specs.declared.columns.Open.{Open}

@@ -29,9 +29,9 @@ use Rattle.degree.specs.Formed.{Formed}
 use Rattle.degree.specs.laws.Degree.{sum-tab, part-tab}
 use Rattle.widths.specs.Order.{name-at, alone-at, arranged}
 use Rattle.widths.specs.laws.Order.{map-append, arranged-in}
-use Rattle.parts.specs.Parts.{start-at, span-at, part-at, parts-of}
-use Rattle.parts.specs.declared.writing.Part.{Part}
-use Rattle.parts.specs.declared.writing.Part.the-variants.{Names, Tuples, Multiplicities, Flags, Elements}
+use Rattle.segments.specs.Parts.{start-at, span-at, part-at, parts-of}
+use Rattle.segments.specs.declared.writing.Part.{Part}
+use Rattle.segments.specs.declared.writing.Part.the-variants.{Names, Tuples, Multiplicities, Flags, Elements}
 use Rattle.plan.specs.Columns.{Source, source, columns-of, ordered, words-from, heads-of, over-of}
 use Rattle.plan.specs.declared.columns.Open.{Open}
 use Rattle.packing.specs.Packing.{passes, in-order, merged, joins, fill, filled, numbered, renumbered, packed, overweight}
