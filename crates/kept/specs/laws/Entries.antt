@@ -1,0 +1,278 @@
+-- The packed table has the same entries on every row.
+use mathlib.Core.Path.{_≡_, refl, sym, ap, ap₂, _∙_}
+use mathlib.Core.Bool.{Bool, true, false, cond, not, _&&_, _||_}
+use mathlib.Core.List.{List, [], _∷_, _++_, append-assoc, append-nil, map, flatMap, zipWith}
+use Prim.Native.Nat.{ℕ, zero, suc, _+_, _<_, _≤_}
+use native.Mathlib.Nat.{zero-add}
+use native.Mathlib.Omega.{arith}
+use lib.Dec.{leb}
+use lib.ListN.{length, take, drop, length-append, length-take}
+use lib.Seq.{getD-take, getD-drop}
+use Rattle.lists.specs.Count.{joined}
+use Rattle.lists.specs.Tab.{tab}
+use Rattle.lists.specs.laws.Tab.{tab-length}
+use Rattle.field.specs.Word.{mulM}
+use Rattle.expression.specs.Words.{word}
+use Rattle.expression.specs.Node.{node-count}
+use Rattle.expression.specs.declared.sizes.Limits.{Limits}
+use Rattle.lookup.specs.Lookups.{Lookups, Lookup, lookup-count, on-bus, exclusive, tuple-count, multiplicity-count, flag-count, name-start, multiplicity-start, flag-start, multiplicity-node, flag-node, tuple-nodes, lookup-at, lookups-of}
+use Rattle.lookup.specs.laws.Tested.{placed}
+use Rattle.degree.specs.Sums.{sum-of}
+use Rattle.degree.specs.Degree.{node-degrees, lookup-degree}
+use Rattle.degree.specs.Formed.{Formed}
+use Rattle.degree.specs.laws.Degree.{zip-tab, part-tab}
+use Rattle.widths.specs.Order.{arranged}
+use Rattle.widths.specs.laws.Order.{map-append, sum-append, arranged-in}
+use Rattle.logup.specs.Tuple.{tuple}
+use Rattle.logup.specs.Ledger.{Entry, entry, count, lookup-entries, row-entries}
+use Rattle.packing.specs.Packing.{passes, on-one-bus, in-order, merged, joins, fill, filled, numbered, renumbered, packed}
+use Rattle.packing.specs.Written.{words-of}
+use Rattle.packing.specs.Door.{columns}
+use Rattle.packing.specs.laws.Columns.{and-both, on-one, order-sum}
+use Rattle.kept.specs.Entries.{record-counts, entered, record-entries, Sound}
+use Rattle.kept.specs.laws.Back.{Each, Unnamed, read-back}
+use mathlib.Core.List.{List·Memᴰ, List·Memᴰ·head, List·Memᴰ·tail}
+
+map-tab : {A B : Type 0} (g : A → B) (f : ℕ → A) (n : ℕ) → map g (tab f 0 n) ≡ tab (λ k. g (f k)) 0 n
+unfolding tab
+map-tab g f zero = refl
+map-tab {B = B} g f (suc n) = map-append g (tab f 0 n) (f (0 + n) ∷ []) ∙ ap (λ (z : List B). z ++ (g (f (0 + n)) ∷ [])) (map-tab g f n)
+
+singles : {A : Type 0} (f : ℕ → A) (n : ℕ) → joined (λ k. f k ∷ []) 0 n ≡ tab f 0 n
+unfolding joined tab
+singles f zero = refl
+singles {A} f (suc n) = ap (λ (z : List A). z ++ (f (0 + n) ∷ [])) (singles f n)
+
+-- a part whose length is n, by number
+part-by : (m : List ℕ) (c s n : ℕ) → length (take c (drop s m)) ≡ n → take c (drop s m) ≡ tab (λ k. word m (s + k)) 0 n
+part-by m c s n e =
+    let h : n ≤ length (drop s m) = omega (arith, sym e ∙ length-take c (drop s m)) in
+    let g : n ≤ c = omega (arith, sym e ∙ length-take c (drop s m)) in
+    cut (take c (drop s m)) n e ∙ tab-same′ n (λ k l. getD-take c (drop s m) (0 + k) 0 (omega arith) ∙ getD-drop s m (0 + k) 0 ∙ ap (λ (q : ℕ). word m (s + q)) (zero-add k))
+  where
+    cut : (xs : List ℕ) (n : ℕ) → length xs ≡ n → xs ≡ tab (λ k. word xs (0 + k)) 0 n
+    cut xs n e = sym (lib.Seq.take-all n xs (omega arith)) ∙ part-tab xs 0 n (omega arith)
+
+    tab-same′ : (n : ℕ) → ((k : ℕ) → k < n → word (take c (drop s m)) (0 + k) ≡ word m (s + k)) → tab (λ k. word (take c (drop s m)) (0 + k)) 0 n ≡ tab (λ k. word m (s + k)) 0 n
+    tab-same′ n h = Rattle.lists.specs.laws.Tab.tab-cong (λ k. word (take c (drop s m)) (0 + k)) (λ k. word m (s + k)) n h
+
+-- what lookup i enters, from its record
+module _ (p : ℕ) (vals : List ℕ) where
+  counts-at : (l : Lookups) (i : ℕ) → Sound (lookup-at l i) → record-counts p vals (lookup-at l i) ≡ tab (count p l vals i) 0 (tuple-count (l .lookups) i)
+  unfolding record-counts lookup-at count multiplicity-node flag-node
+  counts-at l i s = go (exclusive (l .lookups) i) refl
+    where
+      N : ℕ
+      N = tuple-count (l .lookups) i
+
+      tuples-long : length (tab (tuple-nodes l i) 0 N) ≡ N
+      tuples-long = tab-length (tuple-nodes l i) 0 N
+
+      M : List ℕ
+      M = take (multiplicity-count (l .lookups) i) (drop (multiplicity-start (l .lookups) i) (l .multiplicities))
+
+      F : List ℕ
+      F = take (flag-count (l .lookups) i) (drop (flag-start (l .lookups) i) (l .flags))
+
+      ms : M ≡ tab (λ k. word (l .multiplicities) (multiplicity-start (l .lookups) i + k)) 0 N
+      ms = part-by (l .multiplicities) (multiplicity-count (l .lookups) i) (multiplicity-start (l .lookups) i) N (s .aligned ∙ tuples-long)
+
+      go : (b : Bool) → exclusive (l .lookups) i ≡ b
+          → cond b (zipWith (λ m f. mulM p (word vals m) (word vals f)) M F) (map (word vals) M)
+          ≡ tab (λ k. cond b (mulM p (word vals (word (l .multiplicities) (multiplicity-start (l .lookups) i + k))) (word vals (word (l .flags) (flag-start (l .lookups) i + k)))) (word vals (word (l .multiplicities) (multiplicity-start (l .lookups) i + k)))) 0 N
+      go true e =
+          ap₂ (λ (x y : List ℕ). zipWith (λ m f. mulM p (word vals m) (word vals f)) x y) ms (part-by (l .flags) (flag-count (l .lookups) i) (flag-start (l .lookups) i) N (s .flagged e ∙ tuples-long))
+          ∙ zip-tab (λ m f. mulM p (word vals m) (word vals f)) (λ k. word (l .multiplicities) (multiplicity-start (l .lookups) i + k)) (λ k. word (l .flags) (flag-start (l .lookups) i + k)) N
+      go false e = ap (map (word vals)) ms ∙ map-tab (word vals) (λ k. word (l .multiplicities) (multiplicity-start (l .lookups) i + k)) N
+
+  entries-at : (l : Lookups) (i : ℕ) → Sound (lookup-at l i) → lookup-entries p l vals i ≡ record-entries p vals (lookup-at l i)
+  unfolding lookup-entries record-entries tuple
+  entries-at l i s =
+      singles (λ k. entry p l vals i k) (tuple-count (l .lookups) i)
+      ∙ sym (zip-tab (entered vals) (tuple-nodes l i) (count p l vals i) (tuple-count (l .lookups) i))
+      ∙ ap₂ (λ (x : List (List ℕ)) (y : List ℕ). zipWith (entered vals) x y) (sym (tuples-are l i)) (sym (counts-at l i s))
+    where
+      tuples-are : (l : Lookups) (i : ℕ) → lookup-at l i .tuples ≡ tab (tuple-nodes l i) 0 (tuple-count (l .lookups) i)
+      tuples-are l i = unfold lookup-at in refl
+
+  each-snoc : (xs : List Lookup) (y : Lookup) → Each Sound (xs ++ (y ∷ [])) → Each Sound xs × Sound y
+  each-snoc [] y e = (tt, e .0)
+  each-snoc (x ∷ xs) y e = let r = each-snoc xs y (e .1) in ((e .0, r .0), r .1)
+
+  flat-append : {A B : Type 0} (g : A → List B) (xs ys : List A) → flatMap g (xs ++ ys) ≡ flatMap g xs ++ flatMap g ys
+  unfolding flatMap
+  flat-append g [] ys = refl
+  flat-append {B = B} g (x ∷ xs) ys = ap (λ (z : List B). g x ++ z) (flat-append g xs ys) ∙ sym (append-assoc (g x) (flatMap g xs) (flatMap g ys))
+
+  -- the entries of a row: those of each lookup, in list order
+  rows-at : (l : Lookups) (n : ℕ) → Each Sound (tab (lookup-at l) 0 n) → joined (lookup-entries p l vals) 0 n ≡ flatMap (record-entries p vals) (tab (lookup-at l) 0 n)
+  unfolding joined tab flatMap
+  rows-at l zero e = refl
+  rows-at l (suc n) e =
+      let r = each-snoc (tab (lookup-at l) 0 n) (lookup-at l (0 + n)) e in
+      ap₂ (λ (x y : List Entry). x ++ y) (rows-at l n (r .0)) (entries-at l (0 + n) (r .1) ∙ sym (append-nil (record-entries p vals (lookup-at l (0 + n)))))
+      ∙ sym (flat-append (record-entries p vals) (tab (lookup-at l) 0 n) (lookup-at l (0 + n) ∷ []))
+
+  pub row-is : (l : Lookups) → Each Sound (lookups-of l) → row-entries p l vals ≡ flatMap (record-entries p vals) (lookups-of l)
+  unfolding row-entries lookups-of
+  row-is l e = rows-at l (lookup-count (l .lookups)) e
+
+  zip-append : {A B C : Type 0} (f : A → B → C) (xs xs′ : List A) (ys ys′ : List B) → length xs ≡ length ys → zipWith f (xs ++ xs′) (ys ++ ys′) ≡ zipWith f xs ys ++ zipWith f xs′ ys′
+  unfolding zipWith
+  zip-append f [] xs′ [] ys′ e = refl
+  zip-append f [] xs′ (y ∷ ys) ys′ e = absurd (omega arith)
+  zip-append f (x ∷ xs) xs′ [] ys′ e = absurd (omega arith)
+  zip-append {C = C} f (x ∷ xs) xs′ (y ∷ ys) ys′ e = ap (λ (z : List C). f x y ∷ z) (zip-append f xs xs′ ys ys′ (omega arith))
+
+  map-long : {A B : Type 0} (g : A → B) (xs : List A) → length (map g xs) ≡ length xs
+  map-long g [] = refl
+  map-long g (x ∷ xs) = ap suc (map-long g xs)
+
+  or-second : (a b : Bool) → (a || b) ≡ false → b ≡ false
+  or-second true b e = cc
+  or-second false b e = e
+
+  additive : (deg : ℕ → ℕ) (limit : ℕ) (a b : Lookup) → joins deg limit a b ≡ true → (a .exclusive ≡ false) × (b .exclusive ≡ false)
+  additive deg limit a b e =
+      let s = on-one a b (and-both (on-one-bus a b) (leb (lookup-degree deg (merged a b)) limit) e .0) in
+      (or-second (a .local) (a .exclusive) (s .0), or-second (b .local) (b .exclusive) (s .1))
+
+  -- a kept merge enters what its parts enter
+  merged-entries : (a b : Lookup) → a .exclusive ≡ false → b .exclusive ≡ false → Sound a → record-entries p vals (merged a b) ≡ record-entries p vals a ++ record-entries p vals b
+  unfolding record-entries record-counts
+  merged-entries a b ea eb s =
+      rw (ea, eb)
+      (ap (zipWith (entered vals) (a .tuples ++ b .tuples)) (map-append (word vals) (a .multiplicities) (b .multiplicities))
+      ∙ zip-append (entered vals) (a .tuples) (b .tuples) (map (word vals) (a .multiplicities)) (map (word vals) (b .multiplicities)) (sym (s .aligned) ∙ sym (map-long (word vals) (a .multiplicities))))
+
+  merged-sound : (a b : Lookup) → a .exclusive ≡ false → Sound a → Sound b → Sound (merged a b)
+  merged-sound a b ea s t =
+      record {
+        aligned = length-append (a .multiplicities) (b .multiplicities) ∙ ap₂ _+_ (s .aligned) (t .aligned) ∙ sym (length-append (a .tuples) (b .tuples));
+        flagged = λ e. cc;
+        unnamed = s .unnamed;
+      }
+
+  fill-sound : (deg : ℕ → ℕ) (limit : ℕ) (c : Lookup) (ls : List Lookup) → Sound c → Each Sound ls → Each Sound (fill deg limit c ls)
+  unfolding fill
+  fill-sound deg limit c [] s e = (s, tt)
+  fill-sound deg limit c (l ∷ ls) s e = go (joins deg limit c l) refl (λ (q : Sound (merged c l)). fill-sound deg limit (merged c l) ls q (e .1)) (fill-sound deg limit l ls (e .0) (e .1))
+    where
+      go : (b : Bool) → joins deg limit c l ≡ b → (Sound (merged c l) → Each Sound (fill deg limit (merged c l) ls)) → Each Sound (fill deg limit l ls)
+          → Each Sound (cond b (fill deg limit (merged c l) ls) (c ∷ fill deg limit l ls))
+      go true j x y = x (merged-sound c l (additive deg limit c l j .0) s (e .0))
+      go false j x y = (s, y)
+
+  fill-entries : (deg : ℕ → ℕ) (limit : ℕ) (c : Lookup) (ls : List Lookup) → Sound c → Each Sound ls
+      → flatMap (record-entries p vals) (fill deg limit c ls) ≡ record-entries p vals c ++ flatMap (record-entries p vals) ls
+  unfolding fill flatMap
+  fill-entries deg limit c [] s e = refl
+  fill-entries deg limit c (l ∷ ls) s e =
+      go (joins deg limit c l) refl (λ (q : Sound (merged c l)). fill-entries deg limit (merged c l) ls q (e .1)) (fill-entries deg limit l ls (e .0) (e .1))
+    where
+      E : Lookup → List Entry
+      E = record-entries p vals
+
+      go : (b : Bool) → joins deg limit c l ≡ b → (Sound (merged c l) → flatMap E (fill deg limit (merged c l) ls) ≡ E (merged c l) ++ flatMap E ls) → flatMap E (fill deg limit l ls) ≡ E l ++ flatMap E ls
+          → flatMap E (cond b (fill deg limit (merged c l) ls) (c ∷ fill deg limit l ls)) ≡ E c ++ (E l ++ flatMap E ls)
+      go true j x y =
+          let a = additive deg limit c l j in
+          x (merged-sound c l (a .0) s (e .0)) ∙ ap (λ (z : List Entry). z ++ flatMap E ls) (merged-entries c l (a .0) (a .1) s) ∙ append-assoc (E c) (E l) (flatMap E ls)
+      go false j x y = ap (λ (z : List Entry). E c ++ z) y
+
+  filled-sound : (deg : ℕ → ℕ) (limit : ℕ) (ls : List Lookup) → Each Sound ls → Each Sound (filled deg limit ls)
+  unfolding filled
+  filled-sound deg limit [] e = tt
+  filled-sound deg limit (l ∷ ls) e = fill-sound deg limit l ls (e .0) (e .1)
+
+  filled-entries : (deg : ℕ → ℕ) (limit : ℕ) (ls : List Lookup) → Each Sound ls → flatMap (record-entries p vals) (filled deg limit ls) ≡ flatMap (record-entries p vals) ls
+  unfolding filled flatMap
+  filled-entries deg limit [] e = refl
+  filled-entries deg limit (l ∷ ls) e = fill-entries deg limit l ls (e .0) (e .1)
+
+  numbered-sound : (k : ℕ) (ls : List Lookup) → Each Sound ls → Each Sound (renumbered k ls)
+  unfolding renumbered
+  numbered-sound k [] e = tt
+  numbered-sound k (l ∷ ls) e = (record { aligned = e .0 .aligned; flagged = e .0 .flagged; unnamed = e .0 .unnamed }, numbered-sound (suc k) ls (e .1))
+
+  numbered-entries : (k : ℕ) (ls : List Lookup) → flatMap (record-entries p vals) (renumbered k ls) ≡ flatMap (record-entries p vals) ls
+  unfolding renumbered flatMap record-entries record-counts
+  numbered-entries k [] = refl
+  numbered-entries k (l ∷ ls) = ap (λ (z : List Entry). record-entries p vals l ++ z) (numbered-entries (suc k) ls)
+
+  -- a sum over the entries is a sum over the lookups
+  flat-sum : (h : Entry → ℕ) (ls : List Lookup) → sum-of h (flatMap (record-entries p vals) ls) ≡ sum-of (λ (x : Lookup). sum-of h (record-entries p vals x)) ls
+  unfolding flatMap sum-of
+  flat-sum h [] = refl
+  flat-sum h (l ∷ ls) = sum-append h (record-entries p vals l) (flatMap (record-entries p vals) ls) ∙ ap (λ (n : ℕ). sum-of h (record-entries p vals l) + n) (flat-sum h ls)
+
+-- the lookups of a table that passed the tests
+module _ (m : Limits) (nodes : List ℕ) (l : Lookups) (f : Formed m nodes l) where
+  at-sound : (i : ℕ) → i < lookup-count (l .lookups) → Sound (lookup-at l i)
+  unfolding lookup-at
+  at-sound i h =
+      let q = placed l (f .fitting) i h in
+      let t : length (lookup-at l i .tuples) ≡ tuple-count (l .lookups) i = tab-length (tuple-nodes l i) 0 (tuple-count (l .lookups) i) in
+      record {
+        aligned = lib.Seq.length-take-le _ _ (fits (l .multiplicities) _ _ (q .multiplicities)) ∙ f .agreeing .multiplicities-agree i h ∙ sym t;
+        flagged = λ e. lib.Seq.length-take-le _ _ (fits (l .flags) _ _ (q .flags)) ∙ f .agreeing .flags-agree i h ∙ ap (λ (b : Bool). cond b (tuple-count (l .lookups) i) 0) e ∙ sym t;
+        unnamed = unnamed (drop (name-start (l .lookups) i) (l .names)) (entry-word 1) (on-bus (l .lookups) i);
+      }
+    where
+      fits : (xs : List ℕ) (s n : ℕ) → s + n ≤ length xs → n ≤ length (drop s xs)
+      fits xs s n h = simp lib.ListN.length-drop (omega arith)
+
+      entry-word : ℕ → ℕ
+      entry-word f = Rattle.lookup.specs.Lookups.entry (l .lookups) i f
+
+      unnamed : (xs : List ℕ) (n : ℕ) (b : Bool) → not b ≡ true → take (cond b n 0) xs ≡ []
+      unnamed xs n true e = cc
+      unnamed xs n false e = refl
+
+  map-sound : (is : List ℕ) → ((i : ℕ) → List·Memᴰ i is → i < lookup-count (l .lookups)) → Each Sound (map (lookup-at l) is)
+  map-sound [] h = tt
+  map-sound (i ∷ is) h = (at-sound i (h i (List·Memᴰ·head refl)), map-sound is (λ (j : ℕ) q. h j (List·Memᴰ·tail q)))
+
+  each-tab : (n : ℕ) → n ≤ lookup-count (l .lookups) → Each Sound (tab (lookup-at l) 0 n)
+  unfolding tab
+  each-tab zero h = tt
+  each-tab (suc n) h = snoc (tab (lookup-at l) 0 n) (lookup-at l (0 + n)) (each-tab n (omega arith)) (at-sound (0 + n) (omega arith))
+    where
+      snoc : (xs : List Lookup) (y : Lookup) → Each Sound xs → Sound y → Each Sound (xs ++ (y ∷ []))
+      snoc [] y e s = (s, tt)
+      snoc (x ∷ xs) y e s = (e .0, snoc xs y (e .1) s)
+
+  order-sound : Each Sound (in-order l)
+  unfolding in-order
+  order-sound = map-sound (arranged (λ i. passes (lookup-at l i)) (λ i. lookup-at l i .name) (lookup-count (l .lookups))) (arranged-in (λ i. passes (lookup-at l i)) (λ i. lookup-at l i .name) (lookup-count (l .lookups)))
+
+  columns-sound : (limit : ℕ) → Each Sound (columns limit nodes l)
+  unfolding columns packed
+  columns-sound limit = numbered-sound 0 [] 0 (filled (node-degrees 0 nodes) limit (in-order l)) (filled-sound 0 [] (node-degrees 0 nodes) limit (in-order l) order-sound)
+
+  columns-back : (limit : ℕ) → lookups-of (words-of (columns limit nodes l)) ≡ columns limit nodes l
+  columns-back limit = read-back (columns limit nodes l) (all-unnamed (columns limit nodes l) (columns-sound limit))
+    where
+      all-unnamed : (xs : List Lookup) → Each Sound xs → Each Unnamed xs
+      all-unnamed [] e = tt
+      all-unnamed (x ∷ xs) e = (e .0 .unnamed, all-unnamed xs (e .1))
+
+  -- the packed table enters on a row what the lookups enter in packing's order
+  pub packed-row : (limit p : ℕ) (vals : List ℕ) → row-entries p (words-of (columns limit nodes l)) vals ≡ flatMap (record-entries p vals) (in-order l)
+  packed-row limit p vals =
+      row-is p vals (words-of (columns limit nodes l)) (rw (columns-back limit) (columns-sound limit))
+      ∙ ap (flatMap (record-entries p vals)) (columns-back limit)
+      ∙ opened limit p vals
+    where
+      opened : (limit p : ℕ) (vals : List ℕ) → flatMap (record-entries p vals) (columns limit nodes l) ≡ flatMap (record-entries p vals) (in-order l)
+      opened limit p vals = unfold columns in unfold packed in (numbered-entries p vals 0 (filled (node-degrees 0 nodes) limit (in-order l)) ∙ filled-entries p vals (node-degrees 0 nodes) limit (in-order l) order-sound)
+
+  -- the same entries for every row, whatever is counted of them
+  pub same-entries : (limit p : ℕ) (vals : List ℕ) (h : Entry → ℕ) → sum-of h (row-entries p (words-of (columns limit nodes l)) vals) ≡ sum-of h (row-entries p l vals)
+  unfolding lookups-of
+  same-entries limit p vals h =
+      ap (sum-of h) (packed-row limit p vals)
+      ∙ flat-sum p vals h (in-order l)
+      ∙ order-sum l (λ (x : Lookup). sum-of h (record-entries p vals x))
+      ∙ sym (flat-sum p vals h (lookups-of l))
+      ∙ ap (sum-of h) (sym (row-is p vals l (each-tab (lookup-count (l .lookups)) (omega arith))))

@@ -1,0 +1,1 @@
+// What packing keeps of a table. No code: laws only.
