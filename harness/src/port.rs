@@ -75,6 +75,10 @@ mod exported {
     door!(delmatik_widths([lookups: u32], [names: u8], [tuples: u32], [sizes: u32], widest: *mut u64, details: *mut [u64; 3],));
     door!(delmatik_height_bound([lookups: u32], [counts: u32], [heights: u32], details: *mut [u64; 3],));
     door!(delmatik_terminals([terminals: u32], details: *mut [u64; 3],));
+    door!(delmatik_balance(
+        [main: u32], [preprocessed: u32], [public_values: u32], [nodes: u32], [lookups: u32], [names: u8], [tuples: u32],
+        [multiplicities: u32], [flags: u32], [elements: u32], [sizes: u32], [workspace: mut u32], details: *mut [u64; 3],
+    ));
     door!(delmatik_prefixes([alpha: u32], [beta: u32], width: u64, count: u64, [out: mut u32], details: *mut [u64; 3],));
 }
 
@@ -162,5 +166,26 @@ impl Port for Exported {
         assert!(answer.number == 0 || untouched, "a refusal leaves the output as it was");
         let prefixes = if answer.number == 0 { out.chunks_exact(4).map(|e| e.try_into().unwrap()).collect() } else { vec![] };
         Some((answer, prefixes))
+    }
+
+    fn balance(&self, tables: &[Table], workspace: &mut [u32]) -> Option<Answer> {
+        let (main, preprocessed) = (joined(tables, |t| &t.main), joined(tables, |t| &t.preprocessed));
+        let (public_values, nodes) = (joined(tables, |t| &t.public_values), joined(tables, |t| &t.nodes));
+        let (lookups, names, tuples) = (joined(tables, |t| &t.lookups), joined(tables, |t| &t.names), joined(tables, |t| &t.tuples));
+        let (multiplicities, flags, elements) =
+            (joined(tables, |t| &t.multiplicities), joined(tables, |t| &t.flags), joined(tables, |t| &t.elements));
+        let words = |n: usize| word(n as u64);
+        let size = |t: &Table| {
+            [
+                word(t.main_width), word(t.height), word(t.pre_width), word(t.pre_height), words(t.main.len()), words(t.preprocessed.len()),
+                words(t.public_values.len()), words(t.nodes.len() / 3), words(t.lookup_count()), words(t.names.len()), words(t.tuples.len()),
+                words(t.multiplicities.len()), words(t.flags.len()), words(t.elements.len()),
+            ]
+        };
+        let sizes: Vec<u32> = tables.iter().flat_map(size).collect();
+        Some(call!(delmatik_balance(
+            [main], [preprocessed], [public_values], [nodes], [lookups], [names], [tuples], [multiplicities], [flags], [elements], [sizes],
+            [mut workspace],
+        )))
     }
 }
