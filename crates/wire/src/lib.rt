@@ -1,0 +1,2 @@
+// Words in bytes, for callers that hold bytes.
+pub mod words;
