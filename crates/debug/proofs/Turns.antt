@@ -22,7 +22,7 @@ use Rattle.balance.specs.Groups.{members, groups}
 use Rattle.balance.specs.Balance.{Visited, visit, unvisited, balance, Outcome, outcome, check}
 use Rattle.balance.specs.laws.Whole.{fitted}
 use Rattle.groups.specs.ByNumber.{groups-to}
-use Rattle.groups.specs.Seen.{accepts}
+use Rattle.visiting.specs.Seen.{accepts}
 use Rattle.groups.specs.laws.Groups.{groups-are}
 use Rattle.several.specs.Lowest.{lowest, one-refusal}
 use Rattle.several.specs.laws.Lowest.{tables-lowest, tables-unfit}

@@ -1,3 +1,2 @@
 pub mod ByNumber
-pub mod Seen
 pub mod laws

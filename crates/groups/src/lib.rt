@@ -1,4 +1,3 @@
-// The groups of balance: which lookups are in one, what they enter, and the visit of all groups in order.
+// The groups of balance: which lookups are in one, and what they enter.
 pub mod buses;
 pub mod group;
-pub mod visits;

@@ -1,10 +1,10 @@
 use lib.ListN.{length}
 use mathlib.Core.Path.{refl}
 use native.Mathlib.Omega.{arith}
-use Rattle.groups.specs.laws.Group.{entered, left, Entered}
+use Rattle.visiting.specs.laws.Group.{entered, left, Entered}
 use borrow.Author.Needs.{needs}
-use Rattle.groups.proofs.visits.visit_group.Statement.{statement}
-use Rattle.groups.proofs.visits.visit_group.Tie as tie
+use Rattle.visiting.proofs.visits.visit_group.Statement.{statement}
+use Rattle.visiting.proofs.visits.visit_group.Tie as tie
 
 clear-requires : tie.Need-clear-requires
 clear-requires c κs = search needs

@@ -33,8 +33,8 @@ use Rattle.balance.specs.Members.{member-at}
 use Rattle.balance.specs.Balance.{Visited}
 use Rattle.balance.specs.Valid.{Whole}
 use Rattle.balance.specs.laws.Lists.{tab-in, tab-at, flat-in}
 use Rattle.groups.specs.ByNumber.{kept, joins, group-at}
-use Rattle.groups.specs.Seen.{after}
+use Rattle.visiting.specs.Seen.{after}
 
 -- where an element comes from
 kept-in : {A : Type 0} (t : ℕ → Bool) (f : ℕ → A) (n : ℕ) {e : A} → List·Memᴰ e (kept t f n) → (k : ℕ) × (e ≡ f k)

@@ -2,11 +2,11 @@ use Prim.Native.Nat.{_-_}
 use lib.ListN.{length}
 use Rattle.lookup.specs.Lookups.{lookup-count}
 use Rattle.balance.specs.Valid.{lent-lists}
-use Rattle.groups.specs.Seen.{seen}
-use Rattle.groups.proofs.Turns.{Visiting, visiting-begins, visiting-turn, visiting-ends}
+use Rattle.visiting.specs.Seen.{seen}
+use Rattle.visiting.proofs.Turns.{Visiting, visiting-begins, visiting-turn, visiting-ends}
 use borrow.Author.Needs.{needs}
-use Rattle.groups.proofs.visits.visit_all.Statement.{statement}
-use Rattle.groups.proofs.visits.visit_all.Tie as tie
+use Rattle.visiting.proofs.visits.visit_all.Statement.{statement}
+use Rattle.visiting.proofs.visits.visit_all.Tie as tie
 
 abbrev Inv-loop : tie.InvT-loop
 Inv-loop p sizes main preprocessed public-values nodes lookups names tuples multiplicities flags elements buses ws₀ n w₀ m₀ ws w m = Visiting p (lent-lists sizes main preprocessed public-values nodes lookups names tuples multiplicities flags elements) buses (seen ws₀ w₀) (length ws₀) (w₀ .group) m ws w

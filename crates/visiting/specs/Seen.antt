@@ -11,7 +11,7 @@ use Rattle.slots.specs.Named.{group-refusal}
 use Rattle.balance.specs.Groups.{Member}
 use Rattle.balance.specs.Entries.{entries}
 use Rattle.balance.specs.Balance.{Visited}
-use Rattle.groups.specs.declared.visits.Visit.{Visit}
+use Rattle.visiting.specs.declared.visits.Visit.{Visit}
 
 abbrev pub seen : List ℕ → Visit → Visited
 seen ws v = record { refusal = refusal (v .verdict); workspace = ws; group = v .group }

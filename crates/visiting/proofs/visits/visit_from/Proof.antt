@@ -1,8 +1,8 @@
 use native.Mathlib.Omega.{arith}
-use Rattle.groups.proofs.Turns.{none-begins, after-refusal, one-visited}
+use Rattle.visiting.proofs.Turns.{none-begins, after-refusal, one-visited}
 use borrow.Author.Needs.{needs}
-use Rattle.groups.proofs.visits.visit_from.Statement.{statement}
-use Rattle.groups.proofs.visits.visit_from.Tie as tie
+use Rattle.visiting.proofs.visits.visit_from.Statement.{statement}
+use Rattle.visiting.proofs.visits.visit_from.Tie as tie
 
 begins-requires : tie.Need-begins-requires
 begins-requires c κs = search needs

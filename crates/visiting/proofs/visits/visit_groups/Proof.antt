@@ -1,8 +1,8 @@
 use native.Mathlib.Omega.{arith}
-use Rattle.groups.proofs.Turns.{both-visited}
+use Rattle.visiting.proofs.Turns.{both-visited}
 use borrow.Author.Needs.{needs}
-use Rattle.groups.proofs.visits.visit_groups.Statement.{statement}
-use Rattle.groups.proofs.visits.visit_groups.Tie as tie
+use Rattle.visiting.proofs.visits.visit_groups.Statement.{statement}
+use Rattle.visiting.proofs.visits.visit_groups.Tie as tie
 
 clear-requires : tie.Need-clear-requires
 clear-requires c κs = search needs

@@ -1,7 +1,7 @@
 // The visit of the groups: each local alone, then each bus over all tables.
-use crate::buses::begins;
-use crate::group::enter_group;
 use expression::refusal::Verdict;
+use groups::buses::begins;
+use groups::group::enter_group;
 use slots::enter::Use;
 use slots::enter::clear;
 use slots::least::judge;
@@ -15,8 +15,8 @@ ghost use Rattle.expression.specs.Refusal.{refusal};
 ghost use Rattle.lookup.specs.Lookups.{lookup-count};
 ghost use Rattle.balance.specs.Balance.{visit, unvisited};
 ghost use Rattle.balance.specs.Valid.{lent-lists, Whole};
 ghost use Rattle.groups.specs.ByNumber.{begins, group-at, groups-to};
-ghost use Rattle.groups.specs.Seen.{seen, accepts, after};
+ghost use Rattle.visiting.specs.Seen.{seen, accepts, after};
 
 // The verdict so far, and the number of the next group.
 pub struct Visit {

@@ -1,0 +1,373 @@
+-- A packed table says the same to balance as the table that it was packed from.
+use mathlib.Core.Path.{_≡_, refl, sym, ap, ap₂, _∙_}
+use mathlib.Core.Option.{none}
+use mathlib.Core.Logic.{_↔_}
+use mathlib.Core.Bool.{Bool, true, false, cond, not, _&&_, _||_}
+use mathlib.Core.List.{List, [], _∷_, _++_, append-nil, map, flatMap, List·Memᴰ, List·Memᴰ·head, List·Memᴰ·tail}
+use Prim.Native.Nat.{ℕ, zero, suc, _+_, _<_, _≤_}
+use native.Mathlib.Nat.{suc-inj}
+use native.Mathlib.Omega.{arith}
+use lib.ListN.{length, getD, drop, length-append, length-take, length-drop}
+use Rattle.lists.specs.Count.{joined, total}
+use Rattle.lists.specs.Tab.{tab}
+use Rattle.lists.specs.laws.Tab.{tab-none, tab-length}
+use Rattle.field.specs.Word.{mulM}
+use Rattle.expression.specs.Words.{word}
+use Rattle.expression.specs.Node.{node-count}
+use Rattle.expression.specs.Window.{Traces}
+use Rattle.expression.specs.Values.{row-values}
+use Rattle.lookup.specs.Lookups.{Lookups, Lookup, lookup-count, tuple-count, multiplicity-count, multiplicity-start, tuple-nodes, lookup-at, lookups-of}
+use Rattle.lookup.specs.Table.{Table}
+use Rattle.lookup.specs.Valid.{Fitting, Agreeing}
+use Rattle.lookup.specs.laws.Tested.{placed}
+use Rattle.logup.specs.Ledger.{Entry}
+use Rattle.widths.specs.Order.{keep, same}
+use Rattle.widths.specs.laws.Order.{keep-append, keep-same}
+use Rattle.packing.specs.Packing.{passes, additive-on, in-order, merged, joins, fill, filled, numbered, renumbered, packed}
+use Rattle.packing.specs.laws.Columns.{order-in}
+use Rattle.packing.specs.laws.Keeps.{packing-keeps}
+use Rattle.balance.specs.Groups.{Member, local}
+use Rattle.balance.specs.Entries.{count-of, entry-of, row-entries, member-entries, entries}
+use Rattle.balance.specs.Balance.{balance}
+use Rattle.balance.specs.laws.Sums.{tally, tally-append, tally-joined, total-cong}
+use Rattle.regrouping.specs.Same.{on, own, Same, AllSame, Roomy, Packs, AllPacked}
+use Rattle.regrouping.specs.laws.Same.{same-accepted}
+
+-- lists of lookups by a property
+abbrev Each : (Lookup → Type 0) → List Lookup → Type 0
+Each P [] = Unit {0}
+Each P (x ∷ xs) = P x × Each P xs
+
+each-in : (P : Lookup → Type 0) (xs : List Lookup) → ((x : Lookup) → List·Memᴰ x xs → P x) → Each P xs
+each-in P [] h = tt
+each-in P (x ∷ xs) h = (h x (List·Memᴰ·head refl), each-in P xs (λ y k. h y (List·Memᴰ·tail k)))
+
+-- as many multiplicities as tuples
+abbrev Aligned : Lookup → Type 0
+Aligned x = length (x .tuples) ≡ length (x .multiplicities)
+
+merged-aligned : (a b : Lookup) → Aligned a → Aligned b → Aligned (merged a b)
+merged-aligned a b e f = length-append (a .tuples) (b .tuples) ∙ ap₂ _+_ e f ∙ sym (length-append (a .multiplicities) (b .multiplicities))
+
+fill-aligned : (deg : ℕ → ℕ) (limit : ℕ) (c : Lookup) (ls : List Lookup) → Aligned c → Each Aligned ls → Each Aligned (fill deg limit c ls)
+unfolding fill
+fill-aligned deg limit c [] e a = (e, tt)
+fill-aligned deg limit c (l ∷ ls) e a =
+    go (joins deg limit c l) (fill-aligned deg limit (merged c l) ls (merged-aligned c l e (a .0)) (a .1)) (fill-aligned deg limit l ls (a .0) (a .1))
+  where
+    go : (b : Bool) → Each Aligned (fill deg limit (merged c l) ls) → Each Aligned (fill deg limit l ls) → Each Aligned (cond b (fill deg limit (merged c l) ls) (c ∷ fill deg limit l ls))
+    go true x y = x
+    go false x y = (e, y)
+
+filled-aligned : (deg : ℕ → ℕ) (limit : ℕ) (ls : List Lookup) → Each Aligned ls → Each Aligned (filled deg limit ls)
+unfolding filled
+filled-aligned deg limit [] a = tt
+filled-aligned deg limit (l ∷ ls) a = fill-aligned deg limit l ls (a .0) (a .1)
+
+numbered-aligned : (k : ℕ) (ls : List Lookup) → Each Aligned ls → Each Aligned (renumbered k ls)
+unfolding renumbered
+numbered-aligned k [] a = tt
+numbered-aligned k (l ∷ ls) a = (a .0, numbered-aligned (suc k) ls (a .1))
+
+-- the additive lookups of a bus
+record Additive (x : Lookup) : Type 0 where
+  plain : x .exclusive ≡ false
+  aligned : Aligned x
+
+kept-additive : (bus : List ℕ) (xs : List Lookup) → Each Aligned xs → Each Additive (keep (additive-on bus) xs)
+unfolding keep
+kept-additive bus [] a = tt
+kept-additive bus (x ∷ xs) a = go (x .local) (x .exclusive) refl (same bus (x .name)) (kept-additive bus xs (a .1))
+  where
+    go : (l e : Bool) → x .exclusive ≡ e → (s : Bool) → Each Additive (keep (additive-on bus) xs) → Each Additive (cond (not (l || e) && s) (x ∷ keep (additive-on bus) xs) (keep (additive-on bus) xs))
+    go true e q s ih = ih
+    go false true q s ih = ih
+    go false false q true ih = (record { plain = q; aligned = a .0 }, ih)
+    go false false q false ih = ih
+
+-- the entries on a row of tuples and multiplicities, one by one
+module _ (p : ℕ) (vals : List ℕ) where
+  abbrev pair : List ℕ → ℕ → Entry
+  pair t m = record { tuple = map (word vals) t; count = mulM p (word vals m) 1 }
+
+  unfoldable pairs : List (List ℕ) → List ℕ → List Entry
+  pairs ts ms = tab (λ k. pair (getD ts k []) (word ms k)) 0 (length ts)
+
+  tab-cons : (f : ℕ → Entry) (n : ℕ) → tab f 0 (suc n) ≡ f 0 ∷ tab (λ k. f (suc k)) 0 n
+  unfolding tab
+  tab-cons f zero = refl
+  tab-cons f (suc n) =
+      ap₂ (λ (x : List Entry) (k : ℕ). x ++ (f k ∷ [])) (tab-cons f n) (let e : 0 + suc n ≡ suc (0 + n) = omega arith in e)
+
+  pairs-cons : (t : List ℕ) (ts : List (List ℕ)) (m : ℕ) (ms : List ℕ) → pairs (t ∷ ts) (m ∷ ms) ≡ pair t m ∷ pairs ts ms
+  unfolding pairs
+  pairs-cons t ts m ms = tab-cons (λ k. pair (getD (t ∷ ts) k []) (word (m ∷ ms) k)) (length ts)
+
+  pairs-append : (ts us : List (List ℕ)) (ms ns : List ℕ) → length ts ≡ length ms → pairs (ts ++ us) (ms ++ ns) ≡ pairs ts ms ++ pairs us ns
+  pairs-append [] us [] ns e = sym (ap (λ (x : List Entry). x ++ pairs us ns) none)
+    where
+      none : pairs [] [] ≡ []
+      none = unfold pairs in tab-none (λ k. pair (getD [] k []) (word [] k)) 0
+  pairs-append [] us (m ∷ ms) ns e = absurd (omega arith)
+  pairs-append (t ∷ ts) us [] ns e = absurd (omega arith)
+  pairs-append (t ∷ ts) us (m ∷ ms) ns e =
+      pairs-cons t (ts ++ us) m (ms ++ ns) ∙ ap (λ (x : List Entry). pair t m ∷ x) (pairs-append ts us ms ns (suc-inj e)) ∙ ap (λ (x : List Entry). x ++ pairs us ns) (sym (pairs-cons t ts m ms))
+
+  row-pairs : (x : Lookup) → x .exclusive ≡ false → row-entries p x vals ≡ pairs (x .tuples) (x .multiplicities)
+  unfolding row-entries entry-of count-of pairs
+  row-pairs x e =
+      ap (λ (b : Bool). tab (λ k. record { tuple = map (word vals) (getD (x .tuples) k []); count = mulM p (word vals (word (x .multiplicities) k)) (cond b (word vals (word (x .flags) k)) 1) }) 0 (length (x .tuples))) e
+
+  rows-pairs : (xs : List Lookup) → Each Additive xs
+      → flatMap (λ (x : Lookup). row-entries p x vals) xs ≡ pairs (flatMap (λ (x : Lookup). x .tuples) xs) (flatMap (λ (x : Lookup). x .multiplicities) xs)
+  unfolding flatMap
+  rows-pairs [] a = sym (unfold pairs in tab-none (λ k. pair (getD [] k []) (word [] k)) 0)
+  rows-pairs (x ∷ xs) a =
+      ap₂ (λ (u v : List Entry). u ++ v) (row-pairs x (a .0 .plain)) (rows-pairs xs (a .1))
+      ∙ sym (pairs-append (x .tuples) (flatMap (λ (x : Lookup). x .tuples) xs) (x .multiplicities) (flatMap (λ (x : Lookup). x .multiplicities) xs) (a .0 .aligned))
+
+-- sums over rows and lookups in either order
+total-zero : (n : ℕ) → total (λ i. 0) n ≡ 0
+unfolding total
+total-zero zero = refl
+total-zero (suc n) = ap (λ (k : ℕ). k + 0) (total-zero n)
+
+total-add : (f g : ℕ → ℕ) (n : ℕ) → total f n + total g n ≡ total (λ i. f i + g i) n
+unfolding total
+total-add f g zero = refl
+total-add f g (suc n) = omega (arith, total-add f g n)
+
+module _ (p : ℕ) (t : Table) where
+  abbrev at : Lookup → Member
+  at x = record { table = t; lookup = x }
+
+  abbrev vals : ℕ → List ℕ
+  vals r = row-values p (t .nodes) (t .traces) r
+
+  abbrev height : ℕ
+  height = t .traces .shape .height
+
+  abbrev enters : Lookup → List Entry
+  enters x = member-entries p (at x)
+
+  by-rows : (xs : List Lookup) (l : List ℕ) → tally (flatMap enters xs) l ≡ total (λ r. tally (flatMap (λ (x : Lookup). row-entries p x (vals r)) xs) l) height
+  unfolding flatMap member-entries
+  by-rows [] l = unfold tally in sym (total-zero height)
+  by-rows (x ∷ xs) l =
+      tally-append (enters x) (flatMap enters xs) l
+      ∙ ap₂ _+_ (tally-joined (λ r. row-entries p x (vals r)) height l) (by-rows xs l)
+      ∙ total-add (λ r. tally (row-entries p x (vals r)) l) (λ r. tally (flatMap (λ (y : Lookup). row-entries p y (vals r)) xs) l) height
+      ∙ total-cong (λ r. tally (row-entries p x (vals r)) l + tally (flatMap (λ (y : Lookup). row-entries p y (vals r)) xs) l)
+      (λ r. tally (row-entries p x (vals r) ++ flatMap (λ (y : Lookup). row-entries p y (vals r)) xs) l) height
+      (λ r h. sym (tally-append (row-entries p x (vals r)) (flatMap (λ (y : Lookup). row-entries p y (vals r)) xs) l))
+
+  -- additive lookups with the same tuples and multiplicities
+  additive-same : (xs ys : List Lookup) → Each Additive xs → Each Additive ys → flatMap (λ (x : Lookup). x .tuples) xs ≡ flatMap (λ (x : Lookup). x .tuples) ys
+      → flatMap (λ (x : Lookup). x .multiplicities) xs ≡ flatMap (λ (x : Lookup). x .multiplicities) ys → (l : List ℕ) → tally (flatMap enters xs) l ≡ tally (flatMap enters ys) l
+  additive-same xs ys a b et em l =
+      by-rows xs l
+      ∙ total-cong (λ r. tally (flatMap (λ (x : Lookup). row-entries p x (vals r)) xs) l) (λ r. tally (flatMap (λ (x : Lookup). row-entries p x (vals r)) ys) l) height
+      (λ r h. ap (λ (es : List Entry). tally es l) (rows-pairs p (vals r) xs a ∙ ap₂ (pairs p (vals r)) et em ∙ sym (rows-pairs p (vals r) ys b)))
+      ∙ sym (by-rows ys l)
+
+-- a table's own lookups
+keep-map : {A B : Type 0} (f : B → Bool) (g : A → B) (xs : List A) → keep f (map g xs) ≡ map g (keep (λ x. f (g x)) xs)
+unfolding keep
+keep-map f g [] = refl
+keep-map {A} {B} f g (x ∷ xs) = go (f (g x)) (keep-map f g xs)
+  where
+    go : (b : Bool) → keep f (map g xs) ≡ map g (keep (λ x. f (g x)) xs) → cond b (g x ∷ keep f (map g xs)) (keep f (map g xs)) ≡ map g (cond b (x ∷ keep (λ x. f (g x)) xs) (keep (λ x. f (g x)) xs))
+    go true e = ap (λ (l : List B). g x ∷ l) e
+    go false e = e
+
+map-map : (p : ℕ) (t : Table) (xs : List Lookup) → map (member-entries p) (map (at p t) xs) ≡ map (enters p t) xs
+map-map p t [] = refl
+map-map p t (x ∷ xs) = ap (λ (l : List (List Entry)). enters p t x ∷ l) (map-map p t xs)
+
+flat-map : (p : ℕ) (t : Table) (xs : List Lookup) → entries p (map (at p t) xs) ≡ flatMap (enters p t) xs
+unfolding entries flatMap
+flat-map p t [] = refl
+flat-map p t (x ∷ xs) = ap (λ (l : List Entry). enters p t x ++ l) (flat-map p t xs)
+
+abbrev on-bus : List ℕ → Lookup → Bool
+on-bus bus x = not (x .local) && same bus (x .name)
+
+own-locals : (p : ℕ) (t : Table) → map (member-entries p) (keep local (own t)) ≡ map (enters p t) (keep (λ (x : Lookup). x .local) (lookups-of (t .lookups)))
+own-locals p t = ap (map (member-entries p)) (keep-map local (at p t) (lookups-of (t .lookups))) ∙ map-map p t (keep (λ (x : Lookup). x .local) (lookups-of (t .lookups)))
+
+own-bus : (p : ℕ) (bus : List ℕ) (t : Table) → entries p (keep (on bus) (own t)) ≡ flatMap (enters p t) (keep (on-bus bus) (lookups-of (t .lookups)))
+own-bus p bus t = ap (entries p) (keep-map (on bus) (at p t) (lookups-of (t .lookups))) ∙ flat-map p t (keep (on-bus bus) (lookups-of (t .lookups)))
+
+-- a lookup enters the same in the other table, and under another number
+module _ (p : ℕ) (t : Table) where
+  enters-in : (u : Table) → u .traces ≡ t .traces → u .nodes ≡ t .nodes → (x : Lookup) → enters p u x ≡ enters p t x
+  unfolding member-entries
+  enters-in u et en x = ap₂ (λ (n : List ℕ) (s : Traces). joined (λ r. row-entries p x (row-values p n s r)) 0 (s .shape .height)) en et
+
+  map-in : (u : Table) → u .traces ≡ t .traces → u .nodes ≡ t .nodes → (xs : List Lookup) → map (enters p u) xs ≡ map (enters p t) xs
+  map-in u et en [] = refl
+  map-in u et en (x ∷ xs) = ap₂ (λ (e : List Entry) (l : List (List Entry)). e ∷ l) (enters-in u et en x) (map-in u et en xs)
+
+  enters-numbered : (k : ℕ) (x : Lookup) → enters p t (numbered k x) ≡ enters p t x
+  unfolding member-entries row-entries entry-of count-of
+  enters-numbered k x = refl
+
+  -- renumbering changes nothing
+  map-numbered : (f : Lookup → Bool) → ((k : ℕ) (x : Lookup) → f (numbered k x) ≡ f x) → (k : ℕ) (xs : List Lookup) → map (enters p t) (keep f (renumbered k xs)) ≡ map (enters p t) (keep f xs)
+  unfolding keep renumbered
+  map-numbered f h k [] = refl
+  map-numbered f h k (x ∷ xs) = ap (λ (b : Bool). map (enters p t) (cond b (numbered k x ∷ keep f (renumbered (suc k) xs)) (keep f (renumbered (suc k) xs)))) (h k x) ∙ go (f x) (map-numbered f h (suc k) xs)
+    where
+      go : (b : Bool) → map (enters p t) (keep f (renumbered (suc k) xs)) ≡ map (enters p t) (keep f xs)
+          → map (enters p t) (cond b (numbered k x ∷ keep f (renumbered (suc k) xs)) (keep f (renumbered (suc k) xs))) ≡ map (enters p t) (cond b (x ∷ keep f xs) (keep f xs))
+      go true e = ap₂ (λ (a : List Entry) (l : List (List Entry)). a ∷ l) (enters-numbered k x) e
+      go false e = e
+
+  -- those that packing passes on stay, in order
+  module _ (deg : ℕ → ℕ) (limit : ℕ) where
+    passed-on : (f : Lookup → Bool) → ((k : ℕ) (x : Lookup) → f (numbered k x) ≡ f x) → ((x : Lookup) → f x ≡ true → passes x ≡ true)
+        → map (enters p t) (keep f (packed deg limit (t .lookups))) ≡ map (enters p t) (keep f (lookups-of (t .lookups)))
+    passed-on f h g =
+        let o = packing-keeps deg limit (t .lookups) .others in
+        let ls : List Lookup = lookups-of (t .lookups) in
+        let c : keep f (o .0) ≡ [] = sym (keep-same f passes g (o .0)) ∙ ap (keep f) (o .2) ∙ none f in
+        ap (λ (xs : List Lookup). map (enters p t) (keep f xs)) (o .1)
+        ∙ map-numbered f h 0 (keep passes ls ++ o .0)
+        ∙ ap (map (enters p t)) (keep-append f (keep passes ls) (o .0) ∙ ap₂ (λ (x y : List Lookup). x ++ y) (keep-same f passes g ls) c ∙ append-nil (keep f ls))
+      where
+        none : (f : Lookup → Bool) → keep f [] ≡ []
+        none f = unfold keep in refl
+
+-- a bus: its exclusives and its additive lookups
+abbrev chosen-on : List ℕ → Lookup → Bool
+chosen-on bus x = on-bus bus x && x .exclusive
+
+-- the sum over a list of lists of entries
+unfoldable sums : List ℕ → List (List Entry) → ℕ
+sums l [] = 0
+sums l (es ∷ rest) = tally es l + sums l rest
+
+module _ (p : ℕ) (t : Table) (l : List ℕ) where
+  flat-sums : (xs : List Lookup) → tally (flatMap (enters p t) xs) l ≡ sums l (map (enters p t) xs)
+  unfolding flatMap sums
+  flat-sums [] = unfold tally in refl
+  flat-sums (x ∷ xs) = tally-append (enters p t x) (flatMap (enters p t) xs) l ∙ ap (λ (n : ℕ). tally (enters p t x) l + n) (flat-sums xs)
+
+  apart : (bus : List ℕ) (xs : List Lookup)
+      → sums l (map (enters p t) (keep (on-bus bus) xs)) ≡ sums l (map (enters p t) (keep (chosen-on bus) xs)) + sums l (map (enters p t) (keep (additive-on bus) xs))
+  unfolding keep sums
+  apart bus [] = refl
+  apart bus (x ∷ xs) = go (x .local) (x .exclusive) (same bus (x .name)) (apart bus xs)
+    where
+      A : List Lookup
+      A = keep (on-bus bus) xs
+
+      B : List Lookup
+      B = keep (chosen-on bus) xs
+
+      C : List Lookup
+      C = keep (additive-on bus) xs
+
+      S : List Lookup → ℕ
+      S ys = sums l (map (enters p t) ys)
+
+      more : (ys : List Lookup) → S (x ∷ ys) ≡ tally (enters p t x) l + S ys
+      more ys = unfold sums in refl
+
+      go : (a e s : Bool) → S A ≡ S B + S C
+          → S (cond (not a && s) (x ∷ A) A) ≡ S (cond ((not a && s) && e) (x ∷ B) B) + S (cond (not (a || e) && s) (x ∷ C) C)
+      go true e s ih = ih
+      go false true true ih = more A ∙ (let k : tally (enters p t x) l + S A ≡ (tally (enters p t x) l + S B) + S C = omega (arith, ih) in k) ∙ ap (λ (n : ℕ). n + S C) (sym (more B))
+      go false false true ih = more A ∙ (let k : tally (enters p t x) l + S A ≡ S B + (tally (enters p t x) l + S C) = omega (arith, ih) in k) ∙ ap (λ (n : ℕ). S B + n) (sym (more C))
+      go false true false ih = ih
+      go false false false ih = ih
+
+-- every lookup of a table that has none of refusals 1 and 5 has as many multiplicities as tuples
+lookup-aligned : (n : ℕ) (k : Lookups) → Fitting k → Agreeing n k → (i : ℕ) → i < lookup-count (k .lookups) → Aligned (lookup-at k i)
+unfolding lookup-at
+lookup-aligned n k f a i h =
+    tab-length (tuple-nodes k i) 0 (tuple-count (k .lookups) i)
+    ∙ sym (a .multiplicities-agree i h)
+    ∙ sym (length-take (multiplicity-count (k .lookups) i) (drop (multiplicity-start (k .lookups) i) (k .multiplicities))
+    ∙ (let q : Prim.Native.Nat.min (multiplicity-count (k .lookups) i) (length (drop (multiplicity-start (k .lookups) i) (k .multiplicities))) ≡ multiplicity-count (k .lookups) i =
+    rw (length-drop (multiplicity-start (k .lookups) i) (k .multiplicities)) (omega (arith, placed k f i h .multiplicities)) in q))
+
+order-aligned : (n : ℕ) (k : Lookups) → Fitting k → Agreeing n k → Each Aligned (in-order k)
+order-aligned n k f a = each-in Aligned (in-order k) (λ x m. let r = order-in k m in rw (r .2) (lookup-aligned n k f a (r .0) (r .1)))
+
+each-one : (xs : List Lookup) (y : Lookup) → Each Aligned xs → Aligned y → Each Aligned (xs ++ (y ∷ []))
+each-one [] y e s = (s, tt)
+each-one (x ∷ xs) y e s = (e .0, each-one xs y (e .1) s)
+
+first-aligned : (n : ℕ) (k : Lookups) → Fitting k → Agreeing n k → (i : ℕ) → i ≤ lookup-count (k .lookups) → Each Aligned (tab (lookup-at k) 0 i)
+unfolding tab
+first-aligned n k f a zero h = tt
+first-aligned n k f a (suc i) h = each-one (tab (lookup-at k) 0 i) (lookup-at k (0 + i)) (first-aligned n k f a i (omega arith)) (lookup-aligned n k f a (0 + i) (omega arith))
+
+lookups-aligned : (n : ℕ) (k : Lookups) → Fitting k → Agreeing n k → Each Aligned (lookups-of k)
+unfolding lookups-of
+lookups-aligned n k f a = first-aligned n k f a (lookup-count (k .lookups)) (omega arith)
+
+packed-aligned : (n : ℕ) (k : Lookups) → Fitting k → Agreeing n k → (deg : ℕ → ℕ) (limit : ℕ) → Each Aligned (packed deg limit k)
+unfolding packed
+packed-aligned n k f a deg limit = numbered-aligned 0 (filled deg limit (in-order k)) (filled-aligned deg limit (in-order k) (order-aligned n k f a))
+
+-- The packed table says the same.
+pub packed-same : (p n : ℕ) (deg : ℕ → ℕ) (limit : ℕ) (t u : Table) → Fitting (t .lookups) → Agreeing n (t .lookups) → Packs deg limit t u → Same p t u
+packed-same p n deg limit t u f a k =
+    record {
+      locals =
+          own-locals p t ∙ sym (passed-on p t deg limit (λ (x : Lookup). x .local) (λ k x. refl) is-local)
+          ∙ sym (own-locals p u ∙ map-in p t u (k .traces) (k .nodes) (keep (λ (x : Lookup). x .local) (lookups-of (u .lookups))) ∙ ap (λ (xs : List Lookup). map (enters p t) (keep (λ (x : Lookup). x .local) xs)) (k .lookups));
+      buses = λ bus l. before bus l ∙ sym (after bus l);
+    }
+  where
+    ls : List Lookup
+    ls = lookups-of (t .lookups)
+
+    ps : List Lookup
+    ps = packed deg limit (t .lookups)
+
+    is-local : (x : Lookup) → x .local ≡ true → passes x ≡ true
+    is-local x e = ap (λ (b : Bool). b || x .exclusive) e
+
+    is-chosen : (bus : List ℕ) (x : Lookup) → chosen-on bus x ≡ true → passes x ≡ true
+    is-chosen bus x e = go (x .local) (x .exclusive) (same bus (x .name)) e
+      where
+        go : (b c s : Bool) → ((not b && s) && c) ≡ true → (b || c) ≡ true
+        go true c s q = refl
+        go false true s q = refl
+        go false false true q = q
+        go false false false q = q
+
+    S : List ℕ → List Lookup → ℕ
+    S l xs = sums l (map (enters p t) xs)
+
+    -- on the bus of t, and of the packed table
+    before : (bus l : List ℕ) → tally (entries p (keep (on bus) (own t))) l ≡ S l (keep (chosen-on bus) ps) + S l (keep (additive-on bus) ps)
+    before bus l =
+        ap (λ (es : List Entry). tally es l) (own-bus p bus t) ∙ flat-sums p t l (keep (on-bus bus) ls) ∙ apart p t l bus ls
+        ∙ ap₂ _+_ (ap (sums l) (sym (passed-on p t deg limit (chosen-on bus) (λ k x. refl) (is-chosen bus))))
+        (sym (flat-sums p t l (keep (additive-on bus) ls))
+        ∙ additive-same p t (keep (additive-on bus) ls) (keep (additive-on bus) ps) (kept-additive bus ls (lookups-aligned n (t .lookups) f a)) (kept-additive bus ps (packed-aligned n (t .lookups) f a deg limit))
+        (sym (packing-keeps deg limit (t .lookups) .tuples bus)) (sym (packing-keeps deg limit (t .lookups) .multiplicities bus)) l
+        ∙ flat-sums p t l (keep (additive-on bus) ps))
+
+    after : (bus l : List ℕ) → tally (entries p (keep (on bus) (own u))) l ≡ S l (keep (chosen-on bus) ps) + S l (keep (additive-on bus) ps)
+    after bus l =
+        ap (λ (es : List Entry). tally es l) (own-bus p bus u) ∙ flat-sums p u l (keep (on-bus bus) (lookups-of (u .lookups)))
+        ∙ ap (sums l) (map-in p t u (k .traces) (k .nodes) (keep (on-bus bus) (lookups-of (u .lookups))))
+        ∙ ap (λ (xs : List Lookup). S l (keep (on-bus bus) xs)) (k .lookups)
+        ∙ apart p t l bus ps
+
+all-same : (p : ℕ) (ts us : List Table) → AllPacked ts us → AllSame p ts us
+all-same p [] [] k = tt
+all-same p [] (u ∷ us) k = absurd k
+all-same p (t ∷ ts) [] k = absurd k
+all-same p (t ∷ ts) (u ∷ us) k =
+    (packed-same p (node-count (t .nodes)) (k .0 .degree) (k .0 .limit) t u (k .0 .fitting) (k .0 .agreeing) (k .0 .packs), all-same p ts us (k .1))
+
+-- With room for both, balance accepts the packed tables exactly where it accepts the tables.
+pub packing-accepted : (p room room′ : ℕ) → 0 < p → (ts us : List Table) → AllPacked ts us → Roomy p room ts → Roomy p room′ us
+    → (balance p room ts .refusal ≡ none) ↔ (balance p room′ us .refusal ≡ none)
+packing-accepted p room room′ z ts us k r r′ = same-accepted p room room′ z ts us (all-same p ts us k) r r′
