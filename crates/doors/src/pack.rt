@@ -2,9 +2,9 @@
 use crate::answer::tell;
 use expression::refusal::Verdict;
 use lookup::entry::Columns;
+use packer::door::pack_same_bus;
 use packing::door::Counts;
 use packing::door::PackingAnswer;
-use packing::door::pack_same_bus;
 ghost use mathlib.Core.Path.{_≡_};
 ghost use mathlib.Core.List.{[], _∷_};
 ghost use Rattle.expression.specs.Refusal.{refusal, answer-number, answer-details};

@@ -1,3 +1,2 @@
 // Packing: same-bus lookups share columns.
 pub mod door;
-pub mod layout;

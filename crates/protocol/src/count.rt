@@ -13,7 +13,7 @@ ghost use Prim.Native.Nat.{_+_, _*_, _<_, _≤_, _/_};
 ghost use lib.ListN.{length};
 ghost use Rattle.field.specs.Modulus.{Modulus, babybear};
 ghost use Rattle.expression.specs.Limits as Sizes;
-ghost use Rattle.protocol.specs.Count.{count-of, residue, count-refusal, negation-refusal, counted, nodes-after};
+ghost use Rattle.protocol.specs.Count.{count-of, negative, magnitude, residue, count-refusal, negation-refusal, counted, nodes-after};
 
 pub struct Count {
     pub node: u32,
@@ -91,6 +91,24 @@ pub fn constant(
     }
     push(nodes, used, 0, residue(p, minus, magnitude));
     Counted::Added(bounded(used as u32, magnitude))
+}
+
+// The magnitude of a number. That of the least one does not fit the signed type: one is added after the sign is gone.
+fn magnitude(x: i32) -> u32
+    ensures { λ r. ⌜ r ≡ magnitude x ⌝ }
+{
+    if x < 0 {
+        let y = -1 - x;
+        return y as u32 + 1;
+    }
+    x as u32
+}
+
+// The count of a number, with the limits and the field of document 01.
+pub fn from_i32(nodes: &mut [u32], used: usize, x: i32) -> Counted
+    ensures { λ r. ⌜ (r ≡ counted (count-refusal Sizes.cabinet (now (nodes .entry)) used) used (magnitude x)) × (now (nodes .exit) ≡ nodes-after (count-refusal Sizes.cabinet (now (nodes .entry)) used) (now (nodes .entry)) used 0 (residue babybear (negative x) (magnitude x))) ⌝ }
+{
+    constant(cabinet(), 2013265921, nodes, used, x < 0, magnitude(x))
 }
 
 // The count with the other sign.

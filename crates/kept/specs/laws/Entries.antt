@@ -21,7 +21,7 @@ use Rattle.degree.specs.Sums.{sum-of}
 use Rattle.degree.specs.Degree.{node-degrees, lookup-degree}
 use Rattle.degree.specs.Formed.{Formed}
 use Rattle.degree.specs.laws.Degree.{zip-tab, part-tab}
-use Rattle.widths.specs.Order.{arranged}
+use Rattle.widths.specs.Order.{keep, same, arranged}
 use Rattle.widths.specs.laws.Order.{map-append, sum-append, arranged-in}
 use Rattle.logup.specs.Tuple.{tuple}
 use Rattle.logup.specs.Ledger.{Entry, entry, count, lookup-entries, row-entries}
@@ -276,3 +276,78 @@ module _ (m : Limits) (nodes : List ℕ) (l : Lookups) (f : Formed m nodes l) wh
       ∙ order-sum l (λ (x : Lookup). sum-of h (record-entries p vals x))
       ∙ sym (flat-sum p vals h (lookups-of l))
       ∙ ap (sum-of h) (sym (row-is p vals l (each-tab (lookup-count (l .lookups)) (omega arith))))
+
+  fill-sum : (g : Lookup → ℕ) → ((a b : Lookup) → on-one-bus a b ≡ true → Sound a → g (merged a b) ≡ g a + g b) → (deg : ℕ → ℕ) (limit : ℕ) (c : Lookup) (ls : List Lookup) → Sound c → Each Sound ls
+      → sum-of g (fill deg limit c ls) ≡ g c + sum-of g ls
+  unfolding fill sum-of
+  fill-sum g adds deg limit c [] s e = refl
+  fill-sum g adds deg limit c (x ∷ ls) s e = go (joins deg limit c x) refl (λ (q : Sound (merged c x)). fill-sum g adds deg limit (merged c x) ls q (e .1)) (fill-sum g adds deg limit x ls (e .0) (e .1))
+    where
+      go : (b : Bool) → joins deg limit c x ≡ b → (Sound (merged c x) → sum-of g (fill deg limit (merged c x) ls) ≡ g (merged c x) + sum-of g ls) → sum-of g (fill deg limit x ls) ≡ g x + sum-of g ls
+          → sum-of g (cond b (fill deg limit (merged c x) ls) (c ∷ fill deg limit x ls)) ≡ g c + (g x + sum-of g ls)
+      go true j y z =
+          let o = and-both (on-one-bus c x) (leb (lookup-degree deg (merged c x)) limit) j .0 in
+          y (merged-sound 0 [] c x (additive 0 [] deg limit c x j .0) s (e .0)) ∙ omega (arith, adds c x o s)
+      go false j y z = omega (arith, z)
+
+  numbered-sum : (g : Lookup → ℕ) → ((k : ℕ) (x : Lookup) → g (numbered k x) ≡ g x) → (k : ℕ) (ls : List Lookup) → sum-of g (renumbered k ls) ≡ sum-of g ls
+  unfolding renumbered sum-of
+  numbered-sum g free k [] = refl
+  numbered-sum g free k (x ∷ ls) = omega (arith, free k x, numbered-sum g free (suc k) ls)
+
+  columns-sum : (g : Lookup → ℕ) → ((a b : Lookup) → on-one-bus a b ≡ true → Sound a → g (merged a b) ≡ g a + g b) → ((k : ℕ) (x : Lookup) → g (numbered k x) ≡ g x)
+      → (limit : ℕ) → sum-of g (columns limit nodes l) ≡ sum-of g (lookups-of l)
+  unfolding columns packed
+  columns-sum g adds free limit = numbered-sum g free 0 (filled (node-degrees 0 nodes) limit (in-order l)) ∙ all (in-order l) order-sound ∙ order-sum l g
+    where
+      all : (ls : List Lookup) → Each Sound ls → sum-of g (filled (node-degrees 0 nodes) limit ls) ≡ sum-of g ls
+      all [] e = unfold filled in refl
+      all (x ∷ ls) e = unfold filled in unfold sum-of in fill-sum g adds (node-degrees 0 nodes) limit x ls (e .0) (e .1)
+
+  -- of the lookups on one bus, exclusives too
+  abbrev pub on : List ℕ → Lookup → Bool
+  on bus x = not (x .local) && same bus (x .name)
+
+  kept-sum : (f : Lookup → Bool) (h : Entry → ℕ) (p : ℕ) (vals : List ℕ) (ls : List Lookup)
+      → sum-of h (flatMap (record-entries p vals) (keep f ls)) ≡ sum-of (λ (x : Lookup). cond (f x) (sum-of h (record-entries p vals x)) 0) ls
+  unfolding keep flatMap sum-of
+  kept-sum f h p vals [] = refl
+  kept-sum f h p vals (x ∷ ls) = go (f x) (kept-sum f h p vals ls)
+    where
+      go : {n : ℕ} (b : Bool) → sum-of h (flatMap (record-entries p vals) (keep f ls)) ≡ n
+          → sum-of h (flatMap (record-entries p vals) (cond b (x ∷ keep f ls) (keep f ls))) ≡ cond b (sum-of h (record-entries p vals x)) 0 + n
+      go true e = sum-append h (record-entries p vals x) (flatMap (record-entries p vals) (keep f ls)) ∙ ap (λ (n : ℕ). sum-of h (record-entries p vals x) + n) e
+      go false e = e ∙ omega arith
+
+  -- every bus has the same entries for every row
+  pub same-bus-entries : (limit p : ℕ) (vals : List ℕ) (h : Entry → ℕ) (bus : List ℕ)
+      → sum-of h (flatMap (record-entries p vals) (keep (on bus) (columns limit nodes l))) ≡ sum-of h (flatMap (record-entries p vals) (keep (on bus) (lookups-of l)))
+  same-bus-entries limit p vals h bus =
+      kept-sum (on bus) h p vals (columns limit nodes l)
+      ∙ columns-sum (λ (x : Lookup). cond (on bus x) (sum-of h (record-entries p vals x)) 0) adds free limit
+      ∙ sym (kept-sum (on bus) h p vals (lookups-of l))
+    where
+      free : (k : ℕ) (x : Lookup) → cond (on bus (numbered k x)) (sum-of h (record-entries p vals (numbered k x))) 0 ≡ cond (on bus x) (sum-of h (record-entries p vals x)) 0
+      free k x = unfold record-entries in unfold record-counts in refl
+
+      own : (a b : Bool) (s t : List ℕ) → a ≡ false → b ≡ false → s ≡ t → (not b && same bus t) ≡ (not a && same bus s)
+      own a b s t e g q = rw (e, g, q)
+
+      part : (b : Bool) (x y z : ℕ) → z ≡ x + y → cond b z 0 ≡ cond b x 0 + cond b y 0
+      part true x y z e = e
+      part false x y z e = refl
+
+      or-first : (a b : Bool) → (a || b) ≡ false → a ≡ false
+      or-first true b e = cc
+      or-first false b e = refl
+
+      adds : (a b : Lookup) → on-one-bus a b ≡ true → Sound a
+          → cond (on bus (merged a b)) (sum-of h (record-entries p vals (merged a b))) 0 ≡ cond (on bus a) (sum-of h (record-entries p vals a)) 0 + cond (on bus b) (sum-of h (record-entries p vals b)) 0
+      adds a b o s =
+          let q = on-one a b o in
+          let ea : a .exclusive ≡ false = or-second 0 [] (a .local) (a .exclusive) (q .0) in
+          let eb : b .exclusive ≡ false = or-second 0 [] (b .local) (b .exclusive) (q .1) in
+          let same-on : on bus b ≡ on bus a = own (a .local) (b .local) (a .name) (b .name) (or-first (a .local) (a .exclusive) (q .0)) (or-first (b .local) (b .exclusive) (q .1)) (q .2) in
+          part (on bus a) (sum-of h (record-entries p vals a)) (sum-of h (record-entries p vals b)) (sum-of h (record-entries p vals (merged a b)))
+          (ap (sum-of h) (merged-entries p vals a b ea eb s) ∙ sum-append h (record-entries p vals a) (record-entries p vals b))
+          ∙ ap (λ (c : Bool). cond (on bus a) (sum-of h (record-entries p vals a)) 0 + cond c (sum-of h (record-entries p vals b)) 0) (sym same-on)

@@ -1,0 +1,2 @@
+// The packed table, laid out from the plan of packing.
+pub mod words;

@@ -1,0 +1,2 @@
+// The door of packing.
+pub mod door;
