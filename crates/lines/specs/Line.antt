@@ -10,7 +10,7 @@ use Rattle.lists.specs.Count.{first, or-else}
 use Rattle.field.specs.Element.{sub4, element, sum4}
 use Rattle.expression.specs.Valid.{Below}
 use Rattle.expression.specs.declared.refusal.Refusal.{Refusal}
-use Rattle.lookup.specs.Lookups.{Lookups, lookup-count}
+use Rattle.lookup.specs.Lookups.{Lookups}
 use Rattle.logup.specs.Rows.{place}
 use Rattle.logup.specs.Constraints.{must-vanish}
 use Rattle.terms.specs.Constraint.{vanishing}

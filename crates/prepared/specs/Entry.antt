@@ -1,7 +1,7 @@
 -- Refusals 1 to 5 of the two doors that take a trace, generation and constraints: "A door tests 1 to 12 in this order".
 use Prim.Native.Nat.{ℕ}
 use mathlib.Core.Bool.{Bool, _&&_}
-use mathlib.Core.Option.{Option, none}
+use mathlib.Core.Option.{Option}
 use Rattle.expression.specs.Refusal.{unless}
 use Rattle.expression.specs.Node.{node-count}
 use Rattle.expression.specs.Tests.{degrees-low}

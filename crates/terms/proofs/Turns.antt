@@ -3,7 +3,7 @@ use mathlib.Core.Path.{_≡_, refl, sym, ap, ap₂, _∙_, subst}
 use mathlib.Core.Bool.{Bool, true, false, cond}
 use mathlib.Core.List.{List, [], map}
 use lib.Dec.{eqb}
-use Prim.Native.Nat.{ℕ, zero, suc, _+_, _*_, _-_, _<_, _≤_, zero-le}
+use Prim.Native.Nat.{ℕ, _+_, _*_, _-_, _<_, _≤_, zero-le}
 use native.Mathlib.Numerals.{add-one}
 use native.Mathlib.Omega.{arith}
 use lib.ListN.{length, take, drop}
@@ -22,7 +22,7 @@ use Rattle.column.specs.Powers.{beta-of}
 use Rattle.column.specs.Own.{own-place, Fits}
 use Rattle.column.specs.laws.Own.{start-next, start-in, own-multiplicity, own-flag, own-tuple}
 use Rattle.terms.specs.Constraint.{Summed, Chosen, vanishing}
-use Rattle.terms.specs.laws.Sums.{numerator-to, numerator-next}
+use Rattle.terms.specs.laws.Sums.{numerator-next}
 use Rattle.terms.specs.declared.compute.Terms.{Terms}
 use Rattle.terms.specs.declared.compute.Branches.{Branches}
 

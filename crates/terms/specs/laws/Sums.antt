@@ -1,6 +1,6 @@
 -- Sums and products over the tuples of a lookup: N ÷ D + m ÷ d = (N·d + m·D) ÷ (D·d), tuple by tuple.
 use mathlib.Core.Path.{_≡_, refl, sym, ap, ap₂, _∙_}
-use mathlib.Core.Bool.{Bool, true, false, cond}
+use mathlib.Core.Bool.{Bool, cond}
 use mathlib.Core.List.{List, [], _∷_}
 use Prim.Native.Nat.{ℕ, zero, suc, _<_, _*_, _%_}
 use native.Mathlib.Omega.{arith}
