@@ -1,17 +1,17 @@
 // The packed table, laid out from the plan and the table's own lists.
 use degree::tuples::tuple_degrees;
-use screening::degrees::fill_degrees;
 use expression::refusal::Refusal;
 use expression::refusal::Verdict;
 use expression::sizes::Limits;
 use packing::door::Counts;
+use plan::columns::Plan;
+use plan::columns::make_plan;
+use screening::degrees::fill_degrees;
 use segments::writing::Part;
 use segments::writing::copy;
 use segments::writing::parts_total;
 use segments::writing::write_names;
 use segments::writing::write_parts;
-use plan::columns::Plan;
-use plan::columns::make_plan;
 use widths::tables::bus_widths;
 ghost use mathlib.Core.Path.{_≡_};
 ghost use Rattle.expression.specs.Refusal.{refusal};
