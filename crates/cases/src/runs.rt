@@ -1,13 +1,18 @@
 // One function for each door: it calls the door on the lists of the case and compares what the door answered and wrote.
 use crate::spans;
+use crate::spans::bytes_room;
 use crate::spans::holds;
+use crate::spans::holds_bytes;
 use crate::spans::list;
 use crate::spans::list_of_bytes;
 use crate::spans::room;
 use crate::spans::same_five;
 use crate::spans::size;
 use crate::text::word;
+use doors::balancing::delmatik_balance;
 use doors::element::delmatik_power;
+use doors::eval::delmatik_constraints;
+use doors::pack::delmatik_pack;
 use doors::permutation::delmatik_generate;
 use doors::small::delmatik_height_bound;
 use doors::small::delmatik_prefixes;
@@ -89,6 +94,133 @@ pub fn generate(line: &[u64; 8], words: &[u32], bytes: &[u8], spans: &[usize; 64
     );
     let same = holds(&buffer, expected) & same_five(&terminal, list(words, spans, spans::TERMINAL));
     compared(number, &details, line, same)
+}
+
+// Word i of a list.
+fn word_at(list: &[u32], i: usize) -> u32 {
+    word(size(list, i) as u64)
+}
+
+pub fn constraints(line: &[u64; 8], words: &[u32], bytes: &[u8], spans: &[usize; 64]) -> Answer {
+    let mut details = [0u64; 3];
+    let sizes = list(words, spans, spans::SIZES);
+    let claimed = list(words, spans, spans::CLAIMED);
+    let number = delmatik_constraints(
+        size(sizes, 0),
+        size(sizes, 1),
+        size(sizes, 2),
+        size(sizes, 3),
+        list(words, spans, spans::MAIN),
+        list(words, spans, spans::PREPROCESSED),
+        list(words, spans, spans::PUBLIC),
+        list(words, spans, spans::NODES),
+        list(words, spans, spans::LOOKUPS),
+        list_of_bytes(bytes, spans, spans::NAMES),
+        list(words, spans, spans::TUPLES),
+        list(words, spans, spans::MULTIPLICITIES),
+        list(words, spans, spans::FLAGS),
+        list(words, spans, spans::ELEMENTS),
+        list(words, spans, spans::CHALLENGES),
+        line[4] as usize,
+        list(words, spans, spans::ROWS),
+        word(line[5]),
+        word_at(claimed, 0),
+        word_at(claimed, 1),
+        word_at(claimed, 2),
+        word_at(claimed, 3),
+        &mut details,
+    );
+    compared(number, &details, line, true)
+}
+
+// The lists that packing writes, each as long as the case says.
+struct Packed {
+    number: u32,
+    same: bool,
+}
+
+fn call_pack(
+    line: &[u64; 8],
+    words: &[u32],
+    bytes: &[u8],
+    spans: &[usize; 64],
+    details: &mut [u64; 3],
+) -> Packed {
+    let mut lookups_out = [7u32; 32768];
+    let mut names_out = [7u8; 4096];
+    let mut tuples_out = [7u32; 32768];
+    let mut multiplicities_out = [7u32; 32768];
+    let mut flags_out = [7u32; 32768];
+    let mut elements_out = [7u32; 32768];
+    let mut used = [0u64; 6];
+    let sizes = list(words, spans, spans::SIZES);
+    let public_values = list(words, spans, spans::PUBLIC);
+    let a = room(list(words, spans, spans::PACKED_LOOKUPS));
+    let b = bytes_room(list_of_bytes(bytes, spans, spans::PACKED_NAMES));
+    let c = room(list(words, spans, spans::PACKED_TUPLES));
+    let d = room(list(words, spans, spans::PACKED_MULTIPLICITIES));
+    let e = room(list(words, spans, spans::PACKED_FLAGS));
+    let f = room(list(words, spans, spans::PACKED_ELEMENTS));
+    let number = delmatik_pack(
+        line[4],
+        size(sizes, 0),
+        size(sizes, 2),
+        public_values.len(),
+        list(words, spans, spans::NODES),
+        list(words, spans, spans::LOOKUPS),
+        list_of_bytes(bytes, spans, spans::NAMES),
+        list(words, spans, spans::TUPLES),
+        list(words, spans, spans::MULTIPLICITIES),
+        list(words, spans, spans::FLAGS),
+        list(words, spans, spans::ELEMENTS),
+        &mut lookups_out[0..a],
+        &mut names_out[0..b],
+        &mut tuples_out[0..c],
+        &mut multiplicities_out[0..d],
+        &mut flags_out[0..e],
+        &mut elements_out[0..f],
+        &mut used,
+        details,
+    );
+    let same = holds(&lookups_out, list(words, spans, spans::PACKED_LOOKUPS))
+        & holds_bytes(&names_out, list_of_bytes(bytes, spans, spans::PACKED_NAMES))
+        & holds(&tuples_out, list(words, spans, spans::PACKED_TUPLES))
+        & holds(
+            &multiplicities_out,
+            list(words, spans, spans::PACKED_MULTIPLICITIES),
+        )
+        & holds(&flags_out, list(words, spans, spans::PACKED_FLAGS))
+        & holds(&elements_out, list(words, spans, spans::PACKED_ELEMENTS));
+    Packed { number, same }
+}
+
+pub fn pack(line: &[u64; 8], words: &[u32], bytes: &[u8], spans: &[usize; 64]) -> Answer {
+    let mut details = [0u64; 3];
+    let packed = call_pack(line, words, bytes, spans, &mut details);
+    compared(packed.number, &details, line, packed.same)
+}
+
+pub fn balance(line: &[u64; 8], words: &[u32], bytes: &[u8], spans: &[usize; 64]) -> Answer {
+    let mut buffer = [7u32; 32768];
+    let mut details = [0u64; 3];
+    let expected = list(words, spans, spans::WORKSPACE);
+    let n = room(expected);
+    let number = delmatik_balance(
+        list(words, spans, spans::MAIN),
+        list(words, spans, spans::PREPROCESSED),
+        list(words, spans, spans::PUBLIC),
+        list(words, spans, spans::NODES),
+        list(words, spans, spans::LOOKUPS),
+        list_of_bytes(bytes, spans, spans::NAMES),
+        list(words, spans, spans::TUPLES),
+        list(words, spans, spans::MULTIPLICITIES),
+        list(words, spans, spans::FLAGS),
+        list(words, spans, spans::ELEMENTS),
+        list(words, spans, spans::SIZES),
+        &mut buffer[0..n],
+        &mut details,
+    );
+    compared(number, &details, line, holds(&buffer, expected))
 }
 
 pub fn degree(line: &[u64; 8], words: &[u32], bytes: &[u8], spans: &[usize; 64]) -> Answer {

@@ -2,6 +2,7 @@
 // A span is a start and an end. An accessor takes any span: where it does not lie in the array, the part is empty.
 use crate::text;
 use expression::words::index;
+use widths::order::same_bytes;
 ghost use Prim.Native.Nat.{_≤_, _<_};
 ghost use lib.ListN.{length};
 
@@ -156,7 +157,21 @@ pub fn room(words: &[u32]) -> usize
     32768
 }
 
+// As many bytes as a list has, but no more than the array that is lent for them.
+pub fn bytes_room(bytes: &[u8]) -> usize
+    ensures { λ r. ⌜ r ≤ 4096 ⌝ }
+{
+    if bytes.len() < 4096 {
+        return bytes.len();
+    }
+    4096
+}
+
 // Whether the front of a buffer, where an output was written, is what is expected.
+pub fn holds_bytes(buffer: &[u8; 4096], expected: &[u8]) -> bool {
+    same_bytes(bytes_part(buffer, 0, expected.len()), expected)
+}
+
 pub fn holds(buffer: &[u32; 32768], expected: &[u32]) -> bool {
     same_words(words_part(buffer, 0, expected.len()), expected)
 }
