@@ -9,8 +9,6 @@ use runs::Answer;
 use std::num::wrapping_add_u64;
 use text::run_end;
 use widths::order::same_bytes;
-ghost use Prim.Native.Nat.{_≤_, _<_};
-ghost use lib.ListN.{length};
 
 // How far the arrays of words and bytes are filled, and the counts so far.
 struct State {
@@ -27,6 +25,7 @@ enum Ran {
     Unknown,
 }
 
+// A door by its name: an arm for each.
 fn door(name: &[u8], line: &[u64; 8], words: &[u32], bytes: &[u8], spans: &[usize; 64]) -> Ran {
     if same_bytes(name, b"generate") {
         return Ran::Door(runs::generate(line, words, bytes, spans));
@@ -79,19 +78,25 @@ fn print_told(name: &[u8], told: Answer) {
     }
 }
 
-fn one_if(differs: bool) -> u64 {
-    if differs { 1 } else { 0 }
-}
-
-// One answer more.
-fn counted(state: State, differs: bool) -> State {
+// One difference more.
+fn one_more(state: State) -> State {
     State {
         words: state.words,
         bytes: state.bytes,
         cases: state.cases,
-        answers: wrapping_add_u64(state.answers, 1),
-        differ: wrapping_add_u64(state.differ, one_if(differs)),
+        answers: state.answers,
+        differ: wrapping_add_u64(state.differ, 1),
     }
+}
+
+// One answer more, and a difference where it is not as said.
+fn counted(state: State, same: bool) -> State {
+    let mut new = state;
+    if !same {
+        new = one_more(state);
+    }
+    new.answers = wrapping_add_u64(state.answers, 1);
+    new
 }
 
 // A door's line.
@@ -109,11 +114,11 @@ fn answer(
     match ran {
         Ran::Door(told) => {
             print_told(name, told);
-            counted(state, !told.same)
+            counted(state, told.same)
         }
         Ran::Unknown => {
             io::write_all(1, b" unknown");
-            counted(state, true)
+            one_more(state)
         }
     }
 }
@@ -136,12 +141,11 @@ fn begin(title: &[u8], spans: &mut [usize; 64], state: State) -> State {
 
 // A list that finds no room is said and counted as a difference.
 fn filled(state: State, full: bool) -> State {
-    let mut new = state;
     if full {
         io::write_all(1, b" full");
-        new.differ = wrapping_add_u64(state.differ, 1);
+        return one_more(state);
     }
-    new
+    state
 }
 
 // The line of a list of words.

@@ -4,7 +4,7 @@ use crate::text::byte;
 use crate::text::digits_end;
 use crate::text::number;
 use crate::text::word;
-ghost use Prim.Native.Nat.{_≤_, _<_};
+ghost use Prim.Native.Nat.{_≤_};
 ghost use lib.ListN.{length};
 
 fn put_word(words: &mut [u32; 32768], at: usize, n: u64) -> usize {

@@ -3,8 +3,7 @@
 use crate::text;
 use expression::words::index;
 use widths::order::same_bytes;
-ghost use Prim.Native.Nat.{_≤_, _<_};
-ghost use lib.ListN.{length};
+ghost use Prim.Native.Nat.{_≤_};
 
 pub const SIZES: usize = 0;
 
@@ -139,12 +138,17 @@ pub fn back(words: &[u32]) -> &[u32] {
     &words[4..]
 }
 
-// The word at a place of a list as a size; 0 past its end.
-pub fn size(words: &[u32], i: usize) -> usize {
+// The word at a place of a list; 0 past its end.
+pub fn at(words: &[u32], i: usize) -> u32 {
     if i < words.len() {
-        return index(words[i]);
+        return words[i];
     }
     0
+}
+
+// The same as a size.
+pub fn size(words: &[u32], i: usize) -> usize {
+    index(at(words, i))
 }
 
 // How many words an output gets: as many as the list has that it is compared with.

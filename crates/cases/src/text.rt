@@ -1,6 +1,5 @@
 // Lines, words and numbers of a text of cases. Each function is total: what is no number counts as none, a number over 2^64 - 1 is held there.
 use widths::order::same_bytes;
-ghost use mathlib.Core.Path.{_≡_};
 ghost use Prim.Native.Nat.{_≤_, _<_};
 ghost use lib.ListN.{length};
 
