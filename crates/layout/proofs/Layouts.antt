@@ -21,11 +21,11 @@ use Rattle.degree.specs.Formed.{Formed}
 use Rattle.degree.specs.laws.Formed.{few}
 use Rattle.widths.specs.Order.{name-at, alone-at}
 use Rattle.widths.specs.laws.Order.{arranged-length, arranged-below}
-use Rattle.parts.specs.Parts.{start-at, span-at, parts-of}
-use Rattle.parts.specs.Asks.{Parted}
-use Rattle.parts.specs.laws.Starts.{parts-long}
-use Rattle.parts.specs.declared.writing.Part.{Part}
-use Rattle.parts.specs.declared.writing.Part.the-variants.{Names, Tuples, Multiplicities, Flags, Elements}
+use Rattle.segments.specs.Parts.{start-at, span-at, parts-of}
+use Rattle.segments.specs.Asks.{Parted}
+use Rattle.segments.specs.laws.Starts.{parts-long}
+use Rattle.segments.specs.declared.writing.Part.{Part}
+use Rattle.segments.specs.declared.writing.Part.the-variants.{Names, Tuples, Multiplicities, Flags, Elements}
 use Rattle.plan.specs.Columns.{source, columns-of, ordered, column-words, words-from, heads-of}
 use Rattle.plan.specs.Asks.{Ready, Planned}
 use Rattle.plan.specs.declared.columns.Open.{Open}

@@ -15,10 +15,10 @@ use Rattle.lookup.specs.Lookups.{Lookups, lookup-count, name-start, tuple-start
 use Rattle.lookup.specs.Valid.{Fitting}
 use Rattle.widths.specs.Widths.{widths-refusal}
 use Rattle.widths.specs.Asks.{bare}
-use Rattle.parts.specs.Parts.{span-at, parts-of}
-use Rattle.parts.specs.Asks.{Numbers, Parted}
-use Rattle.parts.specs.declared.writing.Part.{Part}
-use Rattle.parts.specs.declared.writing.Part.the-variants.{Names, Tuples, Multiplicities, Flags, Elements}
+use Rattle.segments.specs.Parts.{span-at, parts-of}
+use Rattle.segments.specs.Asks.{Numbers, Parted}
+use Rattle.segments.specs.declared.writing.Part.{Part}
+use Rattle.segments.specs.declared.writing.Part.the-variants.{Names, Tuples, Multiplicities, Flags, Elements}
 use Rattle.plan.specs.declared.columns.Plan.{Plan}
 use Rattle.packing.specs.Packing.{overweight}
 use Rattle.packing.specs.Written.{words-of}

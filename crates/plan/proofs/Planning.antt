@@ -15,7 +15,7 @@ use Rattle.lookup.specs.Lookups.{lookup-count}
 use Rattle.widths.specs.Order.{name-at, alone-at}
 use Rattle.widths.specs.laws.Order.{arranged-length, arranged-below}
 use Rattle.plan.specs.Columns.{Source, columns-of, ordered, column-words, words-from, heads-of, over-of}
-use Rattle.parts.specs.Asks.{Numbers}
+use Rattle.segments.specs.Asks.{Numbers}
 use Rattle.plan.specs.Asks.{Taken, Planned}
 use Rattle.plan.specs.declared.columns.Open.{Open}
 use Rattle.plan.specs.declared.columns.Column.{Column}

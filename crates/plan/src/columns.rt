@@ -19,7 +19,7 @@ ghost use Rattle.expression.specs.Values.{bit};
 ghost use Rattle.lookup.specs.Lookups.{lookup-count};
 ghost use Rattle.degree.specs.At.{Few};
 ghost use Rattle.widths.specs.Asks.{Named};
-ghost use Rattle.parts.specs.Asks.{Numbers};
+ghost use Rattle.segments.specs.Asks.{Numbers};
 ghost use Rattle.plan.specs.Columns.{source, top-at, opened, merge, column-degree, fits, held, column-words};
 ghost use Rattle.plan.specs.Asks.{Within, Low, Ready, Taken, Planned};
 

@@ -1,4 +1,4 @@
-use Rattle.parts.specs.laws.Numbers.{numbered}
+use Rattle.segments.specs.laws.Numbers.{numbered}
 use Rattle.plan.proofs.Filling.{small, merged-small}
 use native.Mathlib.Omega.{arith}
 use Rattle.plan.proofs.Filling.{Filling, fill-begins, fill-turn, fill-stops, fill-ends}

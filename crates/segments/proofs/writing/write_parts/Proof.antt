@@ -1,12 +1,12 @@
-use Rattle.parts.proofs.Copying.{Writing, write-begins, write-room, write-turn, write-ends, start-next, next-part, copied, copy-room}
-use Rattle.parts.specs.laws.Numbers.{numbered}
-use Rattle.parts.specs.Parts.{part-at, parts-of}
+use Rattle.segments.proofs.Copying.{Writing, write-begins, write-room, write-turn, write-ends, start-next, next-part, copied, copy-room}
+use Rattle.segments.specs.laws.Numbers.{numbered}
+use Rattle.segments.specs.Parts.{part-at, parts-of}
 use lib.ListN.{length}
 use Prim.Native.Nat.{_-_}
 use native.Mathlib.Omega.{arith}
 use borrow.Author.Needs.{needs}
-use Rattle.parts.proofs.writing.write_parts.Statement.{statement}
-use Rattle.parts.proofs.writing.write_parts.Tie as tie
+use Rattle.segments.proofs.writing.write_parts.Statement.{statement}
+use Rattle.segments.proofs.writing.write_parts.Tie as tie
 
 abbrev Inv-loop : tie.InvT-loop
 Inv-loop part lookups tuples order src out₀ end₀ t₀ out end t = Writing (part-at part lookups tuples src) order out₀ out end t

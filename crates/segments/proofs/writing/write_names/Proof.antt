@@ -1,14 +1,14 @@
-use Rattle.parts.proofs.Copying.{Writing, write-begins, write-room, write-turn, write-ends, start-next, next-part, copied, copy-room}
-use Rattle.parts.specs.laws.Numbers.{numbered}
-use Rattle.parts.specs.Parts.{part-at, parts-of}
+use Rattle.segments.proofs.Copying.{Writing, write-begins, write-room, write-turn, write-ends, start-next, next-part, copied, copy-room}
+use Rattle.segments.specs.laws.Numbers.{numbered}
+use Rattle.segments.specs.Parts.{part-at, parts-of}
 use lib.ListN.{length}
 use Prim.Native.Nat.{_-_}
 use native.Mathlib.Omega.{arith}
-use Rattle.parts.specs.declared.writing.Part.the-variants.{Names}
+use Rattle.segments.specs.declared.writing.Part.the-variants.{Names}
 use mathlib.Core.List.{[]}
 use borrow.Author.Needs.{needs}
-use Rattle.parts.proofs.writing.write_names.Statement.{statement}
-use Rattle.parts.proofs.writing.write_names.Tie as tie
+use Rattle.segments.proofs.writing.write_names.Statement.{statement}
+use Rattle.segments.proofs.writing.write_names.Tie as tie
 
 abbrev Inv-loop : tie.InvT-loop
 Inv-loop lookups order src out₀ none end₀ t₀ out end t = Writing (part-at Names lookups [] src) order out₀ out end t

@@ -3,8 +3,8 @@ use mathlib.Core.List.{List, flatMap}
 use Prim.Native.Nat.{ℕ, _+_, _-_}
 use lib.ListN.{take, drop}
 use Rattle.lookup.specs.Lookups.{name-start, tuple-start, multiplicity-start, flag-start, element-start}
-use Rattle.parts.specs.declared.writing.Part.{Part}
-use Rattle.parts.specs.declared.writing.Part.the-variants.{Names, Tuples, Multiplicities, Flags, Elements}
+use Rattle.segments.specs.declared.writing.Part.{Part}
+use Rattle.segments.specs.declared.writing.Part.the-variants.{Names, Tuples, Multiplicities, Flags, Elements}
 
 -- where the part of lookup i begins in each list
 unfoldable pub start-at : Part → List ℕ → List ℕ → ℕ → ℕ

@@ -1,9 +1,9 @@
-use Rattle.parts.proofs.Copying.{Copying, copy-begins, copy-turn, copy-ends}
+use Rattle.segments.proofs.Copying.{Copying, copy-begins, copy-turn, copy-ends}
 use lib.ListN.{length}
 use Prim.Native.Nat.{_-_}
 use borrow.Author.Needs.{needs}
-use Rattle.parts.proofs.writing.copy_bytes.Statement.{statement}
-use Rattle.parts.proofs.writing.copy_bytes.Tie as tie
+use Rattle.segments.proofs.writing.copy_bytes.Statement.{statement}
+use Rattle.segments.proofs.writing.copy_bytes.Tie as tie
 
 abbrev Inv-loop : tie.InvT-loop
 Inv-loop src out₀ i₀ out i = Copying src out₀ out i

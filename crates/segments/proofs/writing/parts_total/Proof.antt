@@ -1,14 +1,14 @@
-use Rattle.parts.proofs.Copying.{span-is, start-next}
-use Rattle.parts.specs.laws.Numbers.{numbered}
+use Rattle.segments.proofs.Copying.{span-is, start-next}
+use Rattle.segments.specs.laws.Numbers.{numbered}
 use Rattle.lists.specs.laws.Turns.{Summing, sum-begins, sum-turn, sum-ends}
-use Rattle.parts.specs.Parts.{span-at}
+use Rattle.segments.specs.Parts.{span-at}
 use Rattle.expression.specs.Words.{word}
 use lib.ListN.{length}
 use Prim.Native.Nat.{_-_}
 use native.Mathlib.Omega.{arith}
 use borrow.Author.Needs.{needs}
-use Rattle.parts.proofs.writing.parts_total.Statement.{statement}
-use Rattle.parts.proofs.writing.parts_total.Tie as tie
+use Rattle.segments.proofs.writing.parts_total.Statement.{statement}
+use Rattle.segments.proofs.writing.parts_total.Tie as tie
 
 abbrev Inv-loop : tie.InvT-loop
 Inv-loop part lookups tuples order sum₀ t₀ sum t = Summing (λ t. span-at part lookups tuples (word order t)) 274877906880 (length order) t sum

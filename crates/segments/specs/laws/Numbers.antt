@@ -4,7 +4,7 @@ use mathlib.Core.List.{List}
 use Prim.Native.Nat.{ℕ, _<_}
 use lib.ListN.{length}
 use Rattle.expression.specs.Words.{word}
-use Rattle.parts.specs.Asks.{Numbers}
+use Rattle.segments.specs.Asks.{Numbers}
 
 pub numbered : {n i k : ℕ} {order : List ℕ} → Numbers n order → k < length order → i ≡ word order k → i < n
 numbered {n} {i} {k} {order} s h e = rw e (s .below k h)

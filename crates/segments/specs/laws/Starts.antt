@@ -8,9 +8,9 @@ use Rattle.lists.specs.Count.{total}
 use Rattle.lists.specs.laws.Count.{total-le}
 use Rattle.expression.specs.Words.{word}
 use Rattle.lookup.specs.Lookups.{lookup-count, name-start, tuple-start, multiplicity-start, flag-start, element-start}
-use Rattle.parts.specs.Parts.{start-at, span-at, part-at, parts-of}
-use Rattle.parts.specs.declared.writing.Part.{Part}
-use Rattle.parts.specs.declared.writing.Part.the-variants.{Names, Tuples, Multiplicities, Flags, Elements}
+use Rattle.segments.specs.Parts.{start-at, span-at, part-at, parts-of}
+use Rattle.segments.specs.declared.writing.Part.{Part}
+use Rattle.segments.specs.declared.writing.Part.the-variants.{Names, Tuples, Multiplicities, Flags, Elements}
 
 -- a start is no further than a later one
 pub start-le : (part : Part) (lookups tuples : List ℕ) (i j : ℕ) → i ≤ j → start-at part lookups tuples i ≤ start-at part lookups tuples j

@@ -5,8 +5,8 @@ use Rattle.expression.specs.Words.{word}
 use mathlib.Core.Path.{_∙_}
 use Prim.Native.Nat.{_-_}
 use borrow.Author.Needs.{needs}
-use Rattle.parts.proofs.writing.element_start.Statement.{statement}
-use Rattle.parts.proofs.writing.element_start.Tie as tie
+use Rattle.segments.proofs.writing.element_start.Statement.{statement}
+use Rattle.segments.proofs.writing.element_start.Tie as tie
 
 abbrev Inv-loop : tie.InvT-loop
 Inv-loop tuples j sum₀ k₀ sum k = Summing (word tuples) 4294967295 j k sum

@@ -11,10 +11,10 @@ use Rattle.lists.specs.laws.Parts.{take-one, take-more}
 use Rattle.lists.specs.laws.Filled.{Filled, filled-none, filled-one, filled-part}
 use Rattle.expression.specs.Words.{word}
 use Rattle.lookup.specs.Lookups.{lookup-count}
-use Rattle.parts.specs.Parts.{start-at, span-at, part-at, parts-of}
-use Rattle.parts.specs.Asks.{Numbers}
-use Rattle.parts.specs.laws.Starts.{start-le}
-use Rattle.parts.specs.declared.writing.Part.{Part}
+use Rattle.segments.specs.Parts.{start-at, span-at, part-at, parts-of}
+use Rattle.segments.specs.Asks.{Numbers}
+use Rattle.segments.specs.laws.Starts.{start-le}
+use Rattle.segments.specs.declared.writing.Part.{Part}
 
 -- the first i words are copied
 pub record Copying (src d b : List ℕ) (i : ℕ) : Type 0 where

@@ -12,9 +12,9 @@ ghost use lib.ListN.{length, drop};
 ghost use Rattle.lists.specs.Count.{total};
 ghost use Rattle.expression.specs.Words.{word};
 ghost use Rattle.lookup.specs.Lookups.{lookup-count, element-start};
-ghost use Rattle.parts.specs.Parts.{start-at, span-at, parts-of};
-ghost use Rattle.parts.specs.declared.writing.Part.the-variants.{Names};
-ghost use Rattle.parts.specs.Asks.{Numbers, Parted};
+ghost use Rattle.segments.specs.Parts.{start-at, span-at, parts-of};
+ghost use Rattle.segments.specs.declared.writing.Part.the-variants.{Names};
+ghost use Rattle.segments.specs.Asks.{Numbers, Parted};
 
 // A list whose parts belong to the lookups.
 pub enum Part {
