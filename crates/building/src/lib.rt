@@ -1,0 +1,2 @@
+// Building lookups from interactions.
+pub mod door;
