@@ -33,12 +33,6 @@ fn door(name: &[u8], line: &[u64; 8], words: &[u32], bytes: &[u8], spans: &[usiz
     if same_bytes(name, b"constraints") {
         return Ran::Door(runs::constraints(line, words, bytes, spans));
     }
-    if same_bytes(name, b"pack") {
-        return Ran::Door(runs::pack(line, words, bytes, spans));
-    }
-    if same_bytes(name, b"balance") {
-        return Ran::Door(runs::balance(line, words, bytes, spans));
-    }
     if same_bytes(name, b"degree") {
         return Ran::Door(runs::degree(line, words, bytes, spans));
     }
@@ -56,6 +50,12 @@ fn door(name: &[u8], line: &[u64; 8], words: &[u32], bytes: &[u8], spans: &[usiz
     }
     if same_bytes(name, b"power") {
         return Ran::Door(runs::power(line, words, spans));
+    }
+    if same_bytes(name, b"pack") {
+        return Ran::Door(runs::pack(line, words, bytes, spans));
+    }
+    if same_bytes(name, b"balance") {
+        return Ran::Door(runs::balance(line, words, bytes, spans));
     }
     Ran::Unknown
 }

@@ -1,11 +1,12 @@
 // One function for each door: it calls the door on the lists of the case and compares what the door answered and wrote.
 use crate::spans;
-use crate::spans::bytes_room;
+use crate::spans::at;
 use crate::spans::holds;
 use crate::spans::holds_bytes;
 use crate::spans::list;
 use crate::spans::list_of_bytes;
 use crate::spans::room;
+use crate::spans::room_of_bytes;
 use crate::spans::same_five;
 use crate::spans::size;
 use crate::text::word;
@@ -94,133 +95,6 @@ pub fn generate(line: &[u64; 8], words: &[u32], bytes: &[u8], spans: &[usize; 64
     );
     let same = holds(&buffer, expected) & same_five(&terminal, list(words, spans, spans::TERMINAL));
     compared(number, &details, line, same)
-}
-
-// Word i of a list.
-fn word_at(list: &[u32], i: usize) -> u32 {
-    word(size(list, i) as u64)
-}
-
-pub fn constraints(line: &[u64; 8], words: &[u32], bytes: &[u8], spans: &[usize; 64]) -> Answer {
-    let mut details = [0u64; 3];
-    let sizes = list(words, spans, spans::SIZES);
-    let claimed = list(words, spans, spans::CLAIMED);
-    let number = delmatik_constraints(
-        size(sizes, 0),
-        size(sizes, 1),
-        size(sizes, 2),
-        size(sizes, 3),
-        list(words, spans, spans::MAIN),
-        list(words, spans, spans::PREPROCESSED),
-        list(words, spans, spans::PUBLIC),
-        list(words, spans, spans::NODES),
-        list(words, spans, spans::LOOKUPS),
-        list_of_bytes(bytes, spans, spans::NAMES),
-        list(words, spans, spans::TUPLES),
-        list(words, spans, spans::MULTIPLICITIES),
-        list(words, spans, spans::FLAGS),
-        list(words, spans, spans::ELEMENTS),
-        list(words, spans, spans::CHALLENGES),
-        line[4] as usize,
-        list(words, spans, spans::ROWS),
-        word(line[5]),
-        word_at(claimed, 0),
-        word_at(claimed, 1),
-        word_at(claimed, 2),
-        word_at(claimed, 3),
-        &mut details,
-    );
-    compared(number, &details, line, true)
-}
-
-// The lists that packing writes, each as long as the case says.
-struct Packed {
-    number: u32,
-    same: bool,
-}
-
-fn call_pack(
-    line: &[u64; 8],
-    words: &[u32],
-    bytes: &[u8],
-    spans: &[usize; 64],
-    details: &mut [u64; 3],
-) -> Packed {
-    let mut lookups_out = [7u32; 32768];
-    let mut names_out = [7u8; 4096];
-    let mut tuples_out = [7u32; 32768];
-    let mut multiplicities_out = [7u32; 32768];
-    let mut flags_out = [7u32; 32768];
-    let mut elements_out = [7u32; 32768];
-    let mut used = [0u64; 6];
-    let sizes = list(words, spans, spans::SIZES);
-    let public_values = list(words, spans, spans::PUBLIC);
-    let a = room(list(words, spans, spans::PACKED_LOOKUPS));
-    let b = bytes_room(list_of_bytes(bytes, spans, spans::PACKED_NAMES));
-    let c = room(list(words, spans, spans::PACKED_TUPLES));
-    let d = room(list(words, spans, spans::PACKED_MULTIPLICITIES));
-    let e = room(list(words, spans, spans::PACKED_FLAGS));
-    let f = room(list(words, spans, spans::PACKED_ELEMENTS));
-    let number = delmatik_pack(
-        line[4],
-        size(sizes, 0),
-        size(sizes, 2),
-        public_values.len(),
-        list(words, spans, spans::NODES),
-        list(words, spans, spans::LOOKUPS),
-        list_of_bytes(bytes, spans, spans::NAMES),
-        list(words, spans, spans::TUPLES),
-        list(words, spans, spans::MULTIPLICITIES),
-        list(words, spans, spans::FLAGS),
-        list(words, spans, spans::ELEMENTS),
-        &mut lookups_out[0..a],
-        &mut names_out[0..b],
-        &mut tuples_out[0..c],
-        &mut multiplicities_out[0..d],
-        &mut flags_out[0..e],
-        &mut elements_out[0..f],
-        &mut used,
-        details,
-    );
-    let same = holds(&lookups_out, list(words, spans, spans::PACKED_LOOKUPS))
-        & holds_bytes(&names_out, list_of_bytes(bytes, spans, spans::PACKED_NAMES))
-        & holds(&tuples_out, list(words, spans, spans::PACKED_TUPLES))
-        & holds(
-            &multiplicities_out,
-            list(words, spans, spans::PACKED_MULTIPLICITIES),
-        )
-        & holds(&flags_out, list(words, spans, spans::PACKED_FLAGS))
-        & holds(&elements_out, list(words, spans, spans::PACKED_ELEMENTS));
-    Packed { number, same }
-}
-
-pub fn pack(line: &[u64; 8], words: &[u32], bytes: &[u8], spans: &[usize; 64]) -> Answer {
-    let mut details = [0u64; 3];
-    let packed = call_pack(line, words, bytes, spans, &mut details);
-    compared(packed.number, &details, line, packed.same)
-}
-
-pub fn balance(line: &[u64; 8], words: &[u32], bytes: &[u8], spans: &[usize; 64]) -> Answer {
-    let mut buffer = [7u32; 32768];
-    let mut details = [0u64; 3];
-    let expected = list(words, spans, spans::WORKSPACE);
-    let n = room(expected);
-    let number = delmatik_balance(
-        list(words, spans, spans::MAIN),
-        list(words, spans, spans::PREPROCESSED),
-        list(words, spans, spans::PUBLIC),
-        list(words, spans, spans::NODES),
-        list(words, spans, spans::LOOKUPS),
-        list_of_bytes(bytes, spans, spans::NAMES),
-        list(words, spans, spans::TUPLES),
-        list(words, spans, spans::MULTIPLICITIES),
-        list(words, spans, spans::FLAGS),
-        list(words, spans, spans::ELEMENTS),
-        list(words, spans, spans::SIZES),
-        &mut buffer[0..n],
-        &mut details,
-    );
-    compared(number, &details, line, holds(&buffer, expected))
 }
 
 pub fn degree(line: &[u64; 8], words: &[u32], bytes: &[u8], spans: &[usize; 64]) -> Answer {
@@ -313,4 +187,165 @@ pub fn power(line: &[u64; 8], words: &[u32], spans: &[usize; 64]) -> Answer {
         third: 0,
         same: holds(&buffer, expected) & (told == line[0]),
     }
+}
+
+pub fn constraints(line: &[u64; 8], words: &[u32], bytes: &[u8], spans: &[usize; 64]) -> Answer {
+    let mut details = [0u64; 3];
+    let sizes = list(words, spans, spans::SIZES);
+    let claimed = list(words, spans, spans::CLAIMED);
+    let number = delmatik_constraints(
+        size(sizes, 0),
+        size(sizes, 1),
+        size(sizes, 2),
+        size(sizes, 3),
+        list(words, spans, spans::MAIN),
+        list(words, spans, spans::PREPROCESSED),
+        list(words, spans, spans::PUBLIC),
+        list(words, spans, spans::NODES),
+        list(words, spans, spans::LOOKUPS),
+        list_of_bytes(bytes, spans, spans::NAMES),
+        list(words, spans, spans::TUPLES),
+        list(words, spans, spans::MULTIPLICITIES),
+        list(words, spans, spans::FLAGS),
+        list(words, spans, spans::ELEMENTS),
+        list(words, spans, spans::CHALLENGES),
+        line[4] as usize,
+        list(words, spans, spans::ROWS),
+        word(line[5]),
+        at(claimed, 0),
+        at(claimed, 1),
+        at(claimed, 2),
+        at(claimed, 3),
+        &mut details,
+    );
+    compared(number, &details, line, true)
+}
+
+// The lists of all tables, lent to balance.
+fn call_balance(
+    words: &[u32],
+    bytes: &[u8],
+    spans: &[usize; 64],
+    workspace: &mut [u32],
+    details: &mut [u64; 3],
+) -> u32 {
+    delmatik_balance(
+        list(words, spans, spans::MAIN),
+        list(words, spans, spans::PREPROCESSED),
+        list(words, spans, spans::PUBLIC),
+        list(words, spans, spans::NODES),
+        list(words, spans, spans::LOOKUPS),
+        list_of_bytes(bytes, spans, spans::NAMES),
+        list(words, spans, spans::TUPLES),
+        list(words, spans, spans::MULTIPLICITIES),
+        list(words, spans, spans::FLAGS),
+        list(words, spans, spans::ELEMENTS),
+        list(words, spans, spans::SIZES),
+        workspace,
+        details,
+    )
+}
+
+pub fn balance(line: &[u64; 8], words: &[u32], bytes: &[u8], spans: &[usize; 64]) -> Answer {
+    let mut buffer = [7u32; 32768];
+    let mut details = [0u64; 3];
+    let expected = list(words, spans, spans::WORKSPACE);
+    let n = room(expected);
+    let number = call_balance(words, bytes, spans, &mut buffer[0..n], &mut details);
+    compared(number, &details, line, holds(&buffer, expected))
+}
+
+// The table's lists, lent to packing with its output lists.
+fn call_pack(
+    limit: u64,
+    words: &[u32],
+    bytes: &[u8],
+    spans: &[usize; 64],
+    lookups: &mut [u32],
+    names: &mut [u8],
+    tuples: &mut [u32],
+    multiplicities: &mut [u32],
+    flags: &mut [u32],
+    elements: &mut [u32],
+    used: &mut [u64; 6],
+    details: &mut [u64; 3],
+) -> u32 {
+    let sizes = list(words, spans, spans::SIZES);
+    let public_values = list(words, spans, spans::PUBLIC);
+    delmatik_pack(
+        limit,
+        size(sizes, 0),
+        size(sizes, 2),
+        public_values.len(),
+        list(words, spans, spans::NODES),
+        list(words, spans, spans::LOOKUPS),
+        list_of_bytes(bytes, spans, spans::NAMES),
+        list(words, spans, spans::TUPLES),
+        list(words, spans, spans::MULTIPLICITIES),
+        list(words, spans, spans::FLAGS),
+        list(words, spans, spans::ELEMENTS),
+        lookups,
+        names,
+        tuples,
+        multiplicities,
+        flags,
+        elements,
+        used,
+        details,
+    )
+}
+
+// How much of a list was written: all that the case has, or nothing where packing is refused.
+fn as_long(used: u64, end: usize, number: u32) -> bool {
+    if number == 0 {
+        return used == end as u64;
+    }
+    used == 0
+}
+
+pub fn pack(line: &[u64; 8], words: &[u32], bytes: &[u8], spans: &[usize; 64]) -> Answer {
+    let mut lookups = [7u32; 32768];
+    let mut names = [7u8; 4096];
+    let mut tuples = [7u32; 32768];
+    let mut multiplicities = [7u32; 32768];
+    let mut flags = [7u32; 32768];
+    let mut elements = [7u32; 32768];
+    let mut used = [0u64; 6];
+    let mut details = [0u64; 3];
+    let lookups_end = room(list(words, spans, spans::PACKED_LOOKUPS));
+    let names_end = room_of_bytes(list_of_bytes(bytes, spans, spans::PACKED_NAMES));
+    let tuples_end = room(list(words, spans, spans::PACKED_TUPLES));
+    let multiplicities_end = room(list(words, spans, spans::PACKED_MULTIPLICITIES));
+    let flags_end = room(list(words, spans, spans::PACKED_FLAGS));
+    let elements_end = room(list(words, spans, spans::PACKED_ELEMENTS));
+    let number = call_pack(
+        line[4],
+        words,
+        bytes,
+        spans,
+        &mut lookups[0..lookups_end],
+        &mut names[0..names_end],
+        &mut tuples[0..tuples_end],
+        &mut multiplicities[0..multiplicities_end],
+        &mut flags[0..flags_end],
+        &mut elements[0..elements_end],
+        &mut used,
+        &mut details,
+    );
+    let whole = as_long(used[0], lookups_end, number)
+        & as_long(used[1], names_end, number)
+        & as_long(used[2], tuples_end, number)
+        & as_long(used[3], multiplicities_end, number)
+        & as_long(used[4], flags_end, number)
+        & as_long(used[5], elements_end, number);
+    let same = holds(&lookups, list(words, spans, spans::PACKED_LOOKUPS))
+        & holds_bytes(&names, list_of_bytes(bytes, spans, spans::PACKED_NAMES))
+        & holds(&tuples, list(words, spans, spans::PACKED_TUPLES))
+        & holds(
+            &multiplicities,
+            list(words, spans, spans::PACKED_MULTIPLICITIES),
+        )
+        & holds(&flags, list(words, spans, spans::PACKED_FLAGS))
+        & holds(&elements, list(words, spans, spans::PACKED_ELEMENTS));
+    compared(number, &details, line, same & whole)
 }

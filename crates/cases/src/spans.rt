@@ -161,8 +161,7 @@ pub fn room(words: &[u32]) -> usize
     32768
 }
 
-// As many bytes as a list has, but no more than the array that is lent for them.
-pub fn bytes_room(bytes: &[u8]) -> usize
+pub fn room_of_bytes(bytes: &[u8]) -> usize
     ensures { λ r. ⌜ r ≤ 4096 ⌝ }
 {
     if bytes.len() < 4096 {
@@ -172,12 +171,12 @@ pub fn bytes_room(bytes: &[u8]) -> usize
 }
 
 // Whether the front of a buffer, where an output was written, is what is expected.
-pub fn holds_bytes(buffer: &[u8; 4096], expected: &[u8]) -> bool {
-    same_bytes(bytes_part(buffer, 0, expected.len()), expected)
-}
-
 pub fn holds(buffer: &[u32; 32768], expected: &[u32]) -> bool {
     same_words(words_part(buffer, 0, expected.len()), expected)
+}
+
+pub fn holds_bytes(buffer: &[u8; 4096], expected: &[u8]) -> bool {
+    same_bytes(bytes_part(buffer, 0, expected.len()), expected)
 }
 
 // The same for the words of a terminal.

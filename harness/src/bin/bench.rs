@@ -8,7 +8,7 @@ use std::time::Instant;
 use delmatik::{Lookup, LookupTerminal, Table};
 use harness::plain::{self, Ext, P, Random};
 
-const ROUNDS: usize = 5;
+const ROUNDS: usize = 3;
 
 /// The medians of both sides, in seconds.
 fn race<A: PartialEq + std::fmt::Debug>(mut port: impl FnMut() -> A, mut other: impl FnMut() -> A) -> (f64, f64) {
@@ -97,7 +97,7 @@ fn generation(random: &mut Random) {
         ("8 lookups, 4 tuples of 4, 60 nodes", 8, 4, 4, 60, false),
         ("8 exclusive lookups, 4 branches of 4, 60 nodes", 8, 4, 4, 60, true),
     ];
-    let rows = 1 << 14;
+    let rows = 1 << 16;
     for (name, count, tuples, width, nodes, exclusive) in shapes {
         let mut t = table(random, rows, nodes, &lookups(count, tuples, width, nodes, exclusive));
         // Node `nodes` is 0.

@@ -77,9 +77,17 @@ impl Text {
         self.answer("constraints", answer, &[width, terminal.is_some().into()]);
     }
 
-    fn pack(&mut self, answer: Answer, limit: u64, packed: &[Lookup]) {
-        let mut t = Table::default();
-        t.set_records(packed);
+    /// The packed lookups; a refused call leaves its outputs as they were, which are as long as the table's own lists.
+    fn pack(&mut self, table: &Table, answer: Answer, limit: u64, packed: &[Lookup]) {
+        let mut t = table.clone();
+        if answer.number == 0 {
+            t.set_records(packed);
+        } else {
+            t.names.fill(BEFORE as u8);
+            for list in [&mut t.lookups, &mut t.tuples, &mut t.multiplicities, &mut t.flags, &mut t.elements] {
+                list.fill(BEFORE);
+            }
+        }
         self.lookups(&[t], "packed-");
         self.answer("pack", answer, &[limit]);
     }
@@ -196,9 +204,10 @@ fn worked(text: &mut Text) {
     let five: Vec<Lookup> = (0..5).map(|_| lookup(&[&[0]], &[0], None)).collect();
     for (limit, sizes) in [(3, &[2, 2, 1][..]), (0, &[1; 5])] {
         text.case(&format!("c10 five one-tuple additive lookups of degree 1 on one bus, limit {limit}"));
-        text.tables(&[table(&[3], &five)]);
+        let t = table(&[3], &five);
+        text.tables(&[t.clone()]);
         let column = |(n, column): (&usize, u32)| Lookup { weight: *n as u32, column, ..lookup(&vec![&[0][..]; *n], &vec![0; *n], None) };
-        text.pack(ACCEPTED, limit, &sizes.iter().zip(0..).map(column).collect::<Vec<Lookup>>());
+        text.pack(&t, ACCEPTED, limit, &sizes.iter().zip(0..).map(column).collect::<Vec<Lookup>>());
     }
     text.case("c11 alpha 1, beta 2, W 3");
     text.prefixes((lift(1), lift(2)), 3, 2, ACCEPTED, &[lift(9), lift(17)]);
@@ -263,11 +272,12 @@ fn refusals(text: &mut Text) {
     let differing = table(&[3], &[lookup(&[&[0, 0]], &[1], None), lookup(&[&[0, 0, 0]], &[1], None)]);
     text.case("6: bus \"mem\": 2 and 3");
     text.tables(&[differing.clone()]);
-    text.widths(&[differing], refused(6, [1, 2, 3]), 0);
-    text.pack(refused(6, [1, 2, 3]), 3, &[]);
+    text.widths(&[differing.clone()], refused(6, [1, 2, 3]), 0);
+    text.pack(&differing, refused(6, [1, 2, 3]), 3, &[]);
     text.case("7: weights 4294967295 and 1");
-    text.tables(&[table(&[3], &[Lookup { weight: u32::MAX, ..once() }, once()])]);
-    text.pack(refused(7, [0; 3]), 3, &[]);
+    let heavy = table(&[3], &[Lookup { weight: u32::MAX, ..once() }, once()]);
+    text.tables(&[heavy.clone()]);
+    text.pack(&heavy, refused(7, [0; 3]), 3, &[]);
     untouched(text, "8: 2 lookups, 3 challenges", &table(&[3], &[once(), once()]), &words(&[lift(5); 3]), 12, 8);
     let short = Table { pre_width: 1, pre_height: 3, preprocessed: vec![0; 3], ..table(&[3; 4], &[once()]) };
     untouched(text, "9: height 4, preprocessed 3", &short, &pair, 32, 9);
@@ -326,7 +336,7 @@ fn oracle(text: &mut Text, case: &Case) {
     }
     for limit in [0, 3] {
         if let Some(answer) = confirmed(compare::packing(&Case { limit, ..case.clone() })) {
-            text.pack(answer, limit, &model::pack(t, limit).1);
+            text.pack(t, answer, limit, &model::pack(t, limit).1);
         }
     }
     of_all_tables(text, case);
