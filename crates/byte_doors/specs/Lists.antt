@@ -8,7 +8,7 @@ use Rattle.lists.specs.Count.{total}
 use Rattle.expression.specs.Words.{word}
 use Rattle.lookup.specs.Lookups.{Lookups, lent-lookups}
 use Rattle.lookup.specs.Table.{Table, lent-table}
-use Rattle.doors.specs.Generation.{shape-of}
+use Rattle.telling.specs.Generation.{shape-of}
 use Rattle.byte_doors.specs.declared.cut.Ends.{Ends}
 
 -- size f of all tables

@@ -1,6 +1,6 @@
 // Balance for callers that hold words.
-use crate::answer::tell;
 use debug::debug_util::check_lookups;
+use telling::answer::tell;
 ghost use mathlib.Core.Path.{_≡_};
 ghost use Rattle.expression.specs.Refusal.{answer-number, answer-details};
 ghost use Rattle.expression.specs.Limits.{cabinet};

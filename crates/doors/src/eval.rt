@@ -1,10 +1,8 @@
 // The constraints over a whole trace, for callers that hold words.
-use crate::answer::tell;
-use constraints::eval::Terminal;
 use constraints::eval::eval_all;
 use expression::sizes::Shape;
-use field::extension::Ext;
-use lookup::types::LookupTerminal;
+use telling::answer::tell;
+use telling::given::terminal;
 ghost use mathlib.Core.Path.{_≡_};
 ghost use Rattle.expression.specs.Refusal.{answer-number, answer-details};
 ghost use Rattle.expression.specs.Limits.{cabinet};
@@ -12,18 +10,8 @@ ghost use Rattle.field.specs.Modulus.{babybear, babybear-w};
 ghost use Rattle.lookup.specs.Lookups.{lent-lookups};
 ghost use Rattle.lookup.specs.Table.{lent-table};
 ghost use Rattle.logup.specs.Constraints.{verdict};
-ghost use Rattle.constraints.specs.Entry.{terminal-of};
-ghost use Rattle.doors.specs.Generation.{shape-of};
-ghost use Rattle.doors.specs.Constraints.{marked-terminal};
-
-fn terminal(mark: u32, c0: u32, c1: u32, c2: u32, c3: u32) -> Terminal
-    ensures { λ r. ⌜ terminal-of r ≡ marked-terminal mark c0 c1 c2 c3 ⌝ }
-{
-    if mark == 0 {
-        return Terminal::Absent;
-    }
-    Terminal::Given(LookupTerminal(Ext { c0, c1, c2, c3 }))
-}
+ghost use Rattle.telling.specs.Generation.{shape-of};
+ghost use Rattle.telling.specs.Constraints.{marked-terminal};
 
 // `eval_all`: the number of the refusal is returned, 0 where every constraint is zero on every row; its details are written. The terminal
 // is a mark, 0 where it is absent, and its four words.

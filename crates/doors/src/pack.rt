@@ -1,54 +1,17 @@
 // Packing for callers that hold words.
-use crate::answer::tell;
-use expression::refusal::Verdict;
 use lookup::entry::Columns;
 use packer::door::pack_same_bus;
-use packing::door::Counts;
-use packing::door::PackingAnswer;
+use telling::answer::tell;
+use telling::packed::packing_verdict;
+use telling::packed::write_used;
 ghost use mathlib.Core.Path.{_≡_};
-ghost use mathlib.Core.List.{[], _∷_};
-ghost use Rattle.expression.specs.Refusal.{refusal, answer-number, answer-details};
+ghost use Rattle.expression.specs.Refusal.{answer-number, answer-details};
 ghost use Rattle.expression.specs.Limits.{cabinet};
 ghost use Rattle.field.specs.Modulus.{babybear};
 ghost use Rattle.lookup.specs.Lookups.{lent-lookups};
 ghost use Rattle.packing.specs.Door.{packing};
-ghost use Rattle.doors.specs.Types.{columns-of};
-ghost use Rattle.doors.specs.Packing.{packing-refused, packing-used};
-
-fn packing_verdict(a: PackingAnswer) -> Verdict
-    ensures { λ r. ⌜ refusal r ≡ packing-refused a ⌝ }
-{
-    match a {
-        PackingAnswer::Packed(_) => Verdict::Accepted,
-        PackingAnswer::Refused(f) => Verdict::Refused(f),
-    }
-}
-
-fn write_counts(c: Counts, out: &mut [u64; 6])
-    ensures { λ _. ⌜ now (out .exit) ≡ c .lookups ∷ c .names ∷ c .tuples ∷ c .multiplicities ∷ c .flags ∷ c .elements ∷ [] ⌝ }
-{
-    *out = [
-        c.lookups as u64,
-        c.names as u64,
-        c.tuples as u64,
-        c.multiplicities as u64,
-        c.flags as u64,
-        c.elements as u64,
-    ];
-}
-
-fn write_used(a: PackingAnswer, out: &mut [u64; 6])
-    ensures { λ _. ⌜ now (out .exit) ≡ packing-used a ⌝ }
-{
-    match a {
-        PackingAnswer::Packed(c) => {
-            write_counts(c, out);
-        }
-        PackingAnswer::Refused(_) => {
-            *out = [0u64, 0, 0, 0, 0, 0];
-        }
-    }
-}
+ghost use Rattle.telling.specs.Types.{columns-of};
+ghost use Rattle.telling.specs.Packing.{packing-refused, packing-used};
 
 // `pack_same_bus` of one table: its columns into the front of six lent lists, and how much of each was written.
 #[no_mangle]

@@ -1,65 +1,17 @@
 // Generation for callers that hold words.
-use crate::answer::write_details;
-use answers::numbers;
-use expression::refusal::ThreeDetails;
 use expression::sizes::Shape;
 use generation::permutation::generate;
-use logup::logup::Generated;
+use telling::answer::write_details;
+use telling::generated::details;
+use telling::generated::number;
+use telling::generated::write_terminal;
 ghost use mathlib.Core.Path.{_≡_};
-ghost use Rattle.expression.specs.Refusal.{the-details};
 ghost use Rattle.expression.specs.Limits.{cabinet};
 ghost use Rattle.field.specs.Modulus.{babybear, babybear-w};
 ghost use Rattle.lookup.specs.Lookups.{lent-lookups};
 ghost use Rattle.lookup.specs.Table.{lent-table};
-ghost use Rattle.logup.specs.Generation.{answer-of, generation};
-ghost use Rattle.doors.specs.Generation.{answer-number, answer-details, answer-terminal, shape-of};
-
-// The number of an answer: 0 where nothing is refused.
-fn number(g: Generated) -> u32
-    ensures { λ r. ⌜ r ≡ answer-number (answer-of g) ⌝ }
-{
-    match g {
-        Generated::Terminal(_) => 0,
-        Generated::Absent => 0,
-        Generated::Refused(f) => numbers::number(f),
-    }
-}
-
-fn details(g: Generated) -> ThreeDetails
-    ensures { λ r. ⌜ the-details r ≡ answer-details (answer-of g) ⌝ }
-{
-    match g {
-        Generated::Terminal(_) => ThreeDetails {
-            first: 0,
-            second: 0,
-            third: 0,
-        },
-        Generated::Absent => ThreeDetails {
-            first: 0,
-            second: 0,
-            third: 0,
-        },
-        Generated::Refused(f) => numbers::details(f),
-    }
-}
-
-// 1 and the terminal's four words, or zeros where there is none.
-fn write_terminal(g: Generated, out: &mut [u32; 5])
-    ensures { λ _. ⌜ now (out .exit) ≡ answer-terminal (answer-of g) ⌝ }
-{
-    match g {
-        Generated::Terminal(t) => {
-            let e = t.0;
-            *out = [1u32, e.c0, e.c1, e.c2, e.c3];
-        }
-        Generated::Absent => {
-            *out = [0u32, 0, 0, 0, 0];
-        }
-        Generated::Refused(_) => {
-            *out = [0u32, 0, 0, 0, 0];
-        }
-    }
-}
+ghost use Rattle.logup.specs.Generation.{generation};
+ghost use Rattle.telling.specs.Generation.{answer-number, answer-details, answer-terminal, shape-of};
 
 // `generate_permutation`: the number of the refusal is returned, 0 where there is none; its details, the terminal and the trace are written.
 #[no_mangle]

@@ -1,8 +1,8 @@
 // Prefixes, the terminals' sum and the height bound, for callers that hold words.
-use crate::answer::tell;
 use protocol::challenges::new;
 use protocol::protocol::check_multiplicity_height_bound;
 use protocol::protocol::verify_terminal_sum;
+use telling::answer::tell;
 ghost use mathlib.Core.Path.{_≡_};
 ghost use Rattle.expression.specs.Refusal.{answer-number, answer-details};
 ghost use Rattle.expression.specs.Limits.{cabinet};

@@ -1,63 +1,23 @@
 // Degree and bus widths, for callers that hold words.
-use crate::answer::tell;
-use degree::door::DegreeAnswer;
 use degree::door::constraint_degree;
-use expression::refusal::Verdict;
 use lookup::entry::Columns;
-use widths::door::WidthsAnswer;
+use telling::answer::tell;
+use telling::values::degree_value;
+use telling::values::degree_verdict;
+use telling::values::widest_value;
+use telling::values::widths_verdict;
+use telling::values::write_value;
 use widths::door::check_bus_widths;
 ghost use mathlib.Core.Path.{_≡_};
 ghost use mathlib.Core.List.{[], _∷_};
-ghost use Rattle.expression.specs.Refusal.{refusal, answer-number, answer-details};
+ghost use Rattle.expression.specs.Refusal.{answer-number, answer-details};
 ghost use Rattle.expression.specs.Limits.{cabinet};
 ghost use Rattle.field.specs.Modulus.{babybear};
 ghost use Rattle.lookup.specs.Lookups.{lent-lookups};
 ghost use Rattle.degree.specs.Door.{degree-answer};
 ghost use Rattle.widths.specs.Door.{widths-answer};
 ghost use Rattle.widths.specs.Asks.{lent-lists};
-ghost use Rattle.doors.specs.Types.{columns-of, degree-refused, degree-value, widths-refused, widest-value};
-
-fn degree_verdict(a: DegreeAnswer) -> Verdict
-    ensures { λ r. ⌜ refusal r ≡ degree-refused a ⌝ }
-{
-    match a {
-        DegreeAnswer::Degree(_) => Verdict::Accepted,
-        DegreeAnswer::Refused(f) => Verdict::Refused(f),
-    }
-}
-
-fn degree_value(a: DegreeAnswer) -> u64
-    ensures { λ r. ⌜ r ≡ degree-value a ⌝ }
-{
-    match a {
-        DegreeAnswer::Degree(d) => d,
-        DegreeAnswer::Refused(_) => 0,
-    }
-}
-
-fn widths_verdict(a: WidthsAnswer) -> Verdict
-    ensures { λ r. ⌜ refusal r ≡ widths-refused a ⌝ }
-{
-    match a {
-        WidthsAnswer::Widest(_) => Verdict::Accepted,
-        WidthsAnswer::Refused(f) => Verdict::Refused(f),
-    }
-}
-
-fn widest_value(a: WidthsAnswer) -> u64
-    ensures { λ r. ⌜ r ≡ widest-value a ⌝ }
-{
-    match a {
-        WidthsAnswer::Widest(d) => d,
-        WidthsAnswer::Refused(_) => 0,
-    }
-}
-
-fn write_value(n: u64, out: &mut [u64; 1])
-    ensures { λ _. ⌜ now (out .exit) ≡ n ∷ [] ⌝ }
-{
-    *out = [n];
-}
+ghost use Rattle.telling.specs.Types.{columns-of, degree-refused, degree-value, widths-refused, widest-value};
 
 // `constraint_degree_with_transition` of one lookup of a table; 0 where it is refused.
 #[no_mangle]

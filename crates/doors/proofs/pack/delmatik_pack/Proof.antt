@@ -1,4 +1,4 @@
-use Rattle.doors.specs.Packing.{packing-refused, packing-used}
+use Rattle.telling.specs.Packing.{packing-refused, packing-used}
 use Rattle.expression.specs.Refusal.{answer-number, answer-details}
 use mathlib.Core.Path.{ap, _∙_}
 use borrow.Author.Needs.{needs}

@@ -1,4 +1,4 @@
-use Rattle.doors.specs.Generation.{answer-number, answer-details, answer-terminal}
+use Rattle.telling.specs.Generation.{answer-number, answer-details, answer-terminal}
 use mathlib.Core.Path.{ap, _∙_}
 use borrow.Author.Needs.{needs}
 use Rattle.doors.proofs.permutation.delmatik_generate.Statement.{statement}

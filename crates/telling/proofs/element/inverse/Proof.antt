@@ -1,0 +1,54 @@
+use Rattle.field.specs.laws.Extension.{babybear-certificate}
+use Rattle.field.specs.Element.{inverse4}
+use Rattle.field.specs.Modulus.{babybear, babybear-w}
+use native.Mathlib.Omega.{arith}
+use mathlib.Core.List.{List}
+use mathlib.Core.Path.{_≡_, sym, ap, _∙_}
+use Rattle.telling.proofs.Tested.{Tested, tested, loaded, loaded-words, untouched, babybear-modulus}
+use borrow.Author.Needs.{needs}
+use Rattle.telling.proofs.element.inverse.Statement.{statement}
+use Rattle.telling.proofs.element.inverse.Tie as tie
+
+test-requires : tie.Need-test-requires
+test-requires c κs = search needs
+
+same-length : tie.Need-same-length
+same-length c = search needs
+
+returns : tie.Need-returns
+returns c = (c .before .test .ensures, untouched _ _ _ (c .if1 .taken))
+
+load-requires : tie.Need-load-requires
+load-requires c κs = omega (arith, tested _ _ (c .before .before .test .ensures) (c .before .if1 .left) .size)
+
+inv-requires : tie.Need-inv-requires
+inv-requires c κs = (babybear-modulus, omega arith, babybear-certificate, loaded-words (tested _ _ (c .before .before .before .test .ensures) (c .before .before .if1 .left)) (c .load .ensures))
+
+store-requires : tie.Need-store-requires
+store-requires c κs = tested _ _ (c .before .before .before .before .test .ensures) (c .before .before .before .if1 .left) .place
+
+same-length-2 : tie.Need-same-length-2
+same-length-2 c = search needs
+
+returns-2 : tie.Need-returns-2
+returns-2 c =
+    let e = c .before .before .before .before .before .before .if1 .left in
+    let k = c .before .before .before .before .before .before .before .test .ensures in
+    let s = c .before .before .before .before .before .before .before .before .before .before .before in (
+      sym e ∙ k,
+      c .before .before .store .ensures ∙ c .before .before .before .inv .ensures .1
+          ∙ ap (inverse4 babybear babybear-w) (c .before .before .before .before .load .ensures ∙ loaded (s .args .a .now) (tested _ _ k e .size)),
+    )
+
+pub inverse-spec : {M : Type 1} → statement M
+inverse-spec =
+    tie.close
+    (tie.spec
+    test-requires
+    same-length
+    returns
+    load-requires
+    inv-requires
+    store-requires
+    same-length-2
+    returns-2)

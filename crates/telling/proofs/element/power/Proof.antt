@@ -1,0 +1,54 @@
+use Prim.Native.Nat.{ℕ}
+use Rattle.field.specs.Element.{power4}
+use Rattle.field.specs.Modulus.{babybear, babybear-w}
+use native.Mathlib.Omega.{arith}
+use mathlib.Core.List.{List}
+use mathlib.Core.Path.{_≡_, sym, ap, _∙_}
+use Rattle.telling.proofs.Tested.{Tested, tested, loaded, loaded-words, untouched, babybear-modulus}
+use borrow.Author.Needs.{needs}
+use Rattle.telling.proofs.element.power.Statement.{statement}
+use Rattle.telling.proofs.element.power.Tie as tie
+
+test-requires : tie.Need-test-requires
+test-requires c κs = search needs
+
+same-length : tie.Need-same-length
+same-length c = search needs
+
+returns : tie.Need-returns
+returns c = (c .before .test .ensures, untouched _ _ _ (c .if1 .taken))
+
+load-requires : tie.Need-load-requires
+load-requires c κs = omega (arith, tested _ _ (c .before .before .test .ensures) (c .before .if1 .left) .size)
+
+power-requires : tie.Need-power-requires
+power-requires c κs = (babybear-modulus, omega arith, loaded-words (tested _ _ (c .before .before .before .test .ensures) (c .before .before .if1 .left)) (c .load .ensures))
+
+store-requires : tie.Need-store-requires
+store-requires c κs = tested _ _ (c .before .before .before .before .test .ensures) (c .before .before .before .if1 .left) .place
+
+same-length-2 : tie.Need-same-length-2
+same-length-2 c = search needs
+
+returns-2 : tie.Need-returns-2
+returns-2 c =
+    let e = c .before .before .before .before .before .before .if1 .left in
+    let k = c .before .before .before .before .before .before .before .test .ensures in
+    let s = c .before .before .before .before .before .before .before .before .before .before .before in (
+      sym e ∙ k,
+      c .before .before .store .ensures ∙ c .before .before .before .power .ensures .1
+          ∙ ap (λ (l : List ℕ). power4 babybear babybear-w l (s .args .n)) (c .before .before .before .before .load .ensures ∙ loaded (s .args .a .now) (tested _ _ k e .size)),
+    )
+
+pub power-spec : {M : Type 1} → statement M
+power-spec =
+    tie.close
+    (tie.spec
+    test-requires
+    same-length
+    returns
+    load-requires
+    power-requires
+    store-requires
+    same-length-2
+    returns-2)
