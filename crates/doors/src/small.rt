@@ -1,5 +1,5 @@
 // Prefixes, the terminals' sum and the height bound, for callers that hold words.
-use protocol::challenges::new;
+use prefixes::challenges::new;
 use protocol::protocol::check_multiplicity_height_bound;
 use protocol::protocol::verify_terminal_sum;
 use telling::answer::tell;
@@ -7,7 +7,7 @@ ghost use mathlib.Core.Path.{_≡_};
 ghost use Rattle.expression.specs.Refusal.{answer-number, answer-details};
 ghost use Rattle.expression.specs.Limits.{cabinet};
 ghost use Rattle.field.specs.Modulus.{babybear, babybear-w};
-ghost use Rattle.protocol.specs.Prefixes.{prefixes-refusal, prefixes-after};
+ghost use Rattle.prefixes.specs.Prefixes.{prefixes-refusal, prefixes-after};
 ghost use Rattle.protocol.specs.Terminals.{terminals-refusal};
 ghost use Rattle.protocol.specs.Height.{height-refusal};
 

@@ -1,4 +1,2 @@
-// The small doors: prefixes, the terminals' sum, the height bound, counts.
-pub mod challenges;
-pub mod count;
+// The checks over several tables: the terminals' sum and the height bound.
 pub mod protocol;

@@ -11,7 +11,7 @@ use Rattle.expression.specs.Refusal.{answer-number, answer-details}
 use Rattle.lookup.specs.Lookups.{Lookups, Lookup, lookup-at}
 use Rattle.degree.specs.Degree.{node-degrees, lookup-degree}
 use Rattle.packing.specs.Door.{columns}
-use Rattle.protocol.specs.Prefixes.{prefix}
+use Rattle.prefixes.specs.Prefixes.{prefix}
 use Rattle.protocol.specs.Height.{height-refusal}
 use Rattle.logup.specs.Tuple.{combine}
 use Rattle.logup.specs.laws.Cases.{additive, branching, generated, five, plain}

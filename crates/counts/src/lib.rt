@@ -1,0 +1,2 @@
+// Counts: a signed multiplicity with a bound on its magnitude.
+pub mod count;

@@ -1,0 +1,2 @@
+// Prefixes that keep buses apart.
+pub mod challenges;
