@@ -1,6 +1,7 @@
 //! The oracle runs and the benchmarks: the port's exported functions, the crate's own source, and a plain model of the specification.
 pub mod compare;
 pub mod generator;
+pub mod lent;
 pub mod model;
 #[cfg(source)]
 pub mod oracle;
@@ -8,3 +9,4 @@ pub mod plain;
 pub mod port;
 pub mod shrink;
 pub mod table;
+pub mod tuned;

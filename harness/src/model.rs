@@ -575,10 +575,8 @@ pub fn widths(tables: &[Table]) -> (Answer, u64) {
 
 /// The sum of weight × height. The door has the lookups' words only.
 pub fn height_bound(tables: &[Table], heights: &[u64]) -> Answer {
-    let fit = tables.len() <= TABLES
-        && heights.len() == tables.len()
-        && heights.iter().all(|h| *h <= HEIGHT)
-        && tables.iter().all(words_within);
+    let fit =
+        tables.len() <= TABLES && heights.len() == tables.len() && heights.iter().all(|h| *h <= HEIGHT) && tables.iter().all(words_within);
     if !fit {
         return refused(1);
     }

@@ -40,6 +40,33 @@ pub trait Port {
     }
 }
 
+/// A size that is no number of this machine is over every limit all the same.
+#[cfg(feature = "port")]
+fn size(n: u64) -> usize {
+    n.try_into().unwrap_or(usize::MAX)
+}
+
+/// The same table as the wrapper has it.
+#[cfg(feature = "port")]
+pub fn wrapped(t: &Table) -> delmatik::Table {
+    delmatik::Table {
+        main_width: size(t.main_width),
+        height: size(t.height),
+        pre_width: size(t.pre_width),
+        pre_height: size(t.pre_height),
+        main: t.main.clone(),
+        preprocessed: t.preprocessed.clone(),
+        public_values: t.public_values.clone(),
+        nodes: t.nodes.clone(),
+        lookups: t.lookups.clone(),
+        names: t.names.clone(),
+        tuples: t.tuples.clone(),
+        multiplicities: t.multiplicities.clone(),
+        flags: t.flags.clone(),
+        elements: t.elements.clone(),
+    }
+}
+
 /// The doors of the static library, by the wrapper in bindings/rust.
 #[cfg(feature = "port")]
 pub struct Exported;
@@ -50,29 +77,8 @@ mod exported {
 
     use super::*;
 
-    /// The same table as the wrapper has it. A size that is no number of this machine is over every limit all the same.
-    fn table(t: &Table) -> delmatik::Table {
-        let size = |n: u64| n.try_into().unwrap_or(usize::MAX);
-        delmatik::Table {
-            main_width: size(t.main_width),
-            height: size(t.height),
-            pre_width: size(t.pre_width),
-            pre_height: size(t.pre_height),
-            main: t.main.clone(),
-            preprocessed: t.preprocessed.clone(),
-            public_values: t.public_values.clone(),
-            nodes: t.nodes.clone(),
-            lookups: t.lookups.clone(),
-            names: t.names.clone(),
-            tuples: t.tuples.clone(),
-            multiplicities: t.multiplicities.clone(),
-            flags: t.flags.clone(),
-            elements: t.elements.clone(),
-        }
-    }
-
     fn tables(tables: &[Table]) -> Vec<delmatik::Table> {
-        tables.iter().map(table).collect()
+        tables.iter().map(wrapped).collect()
     }
 
     /// The number and details, and the value, or what stands for it where the door refuses.
@@ -83,27 +89,23 @@ mod exported {
         }
     }
 
-    fn size(n: u64) -> usize {
-        n.try_into().unwrap_or(usize::MAX)
-    }
-
     impl Port for Exported {
         fn generate(&self, t: &Table, challenges: &[u32], trace: &mut [u32], terminal: &mut [u32; 5]) -> Option<Answer> {
-            let (answer, given) = answer(table(t).generate_into(challenges, trace));
+            let (answer, given) = answer(wrapped(t).generate_into(challenges, trace));
             *terminal = given.map_or([0; 5], |LookupTerminal([a, b, c, d])| [1, a, b, c, d]);
             Some(answer)
         }
 
         fn constraints(&self, t: &Table, challenges: &[u32], width: u64, trace: &[u32], terminal: Option<Ext>) -> Option<Answer> {
-            Some(answer(table(t).constraints_on(challenges, size(width), trace, terminal.map(LookupTerminal))).0)
+            Some(answer(wrapped(t).constraints_on(challenges, size(width), trace, terminal.map(LookupTerminal))).0)
         }
 
         fn degree(&self, t: &Table, lookup: u64, transition: u64) -> Option<(Answer, u64)> {
-            Some(answer(table(t).degree(size(lookup), transition.try_into().unwrap_or(u32::MAX))))
+            Some(answer(wrapped(t).degree(size(lookup), transition.try_into().unwrap_or(u32::MAX))))
         }
 
         fn pack(&self, t: &Table, limit: u64) -> Option<(Answer, Vec<Lookup>)> {
-            let (answer, packed) = answer(table(t).pack(limit));
+            let (answer, packed) = answer(wrapped(t).pack(limit));
             let delmatik::Table { lookups, names, tuples, multiplicities, flags, elements, .. } = packed;
             Some((answer, Table { lookups, names, tuples, multiplicities, flags, elements, ..Table::default() }.records()))
         }

@@ -1,28 +1,36 @@
 //! Times the port's doors beside the same work in Rust, interleaved in one run, and compares every result: row evaluation beside the same
-//! loop, generation and constraints beside the crate's own source, balance beside a hash map.
+//! loop; generation beside the crate's own source and beside a version tuned by hand (src/tuned.rs); constraints and balance beside the crate's
+//! source, balance beside a hash map as well; and generation at growing heights. Prints tables; `--chart FILE` draws the ratios.
 //!
-//!     cargo run --release --offline --features port --bin bench
+//!     cargo run --release --offline --features port --bin bench -- --chart ../docs/benchmarks.svg
 use std::collections::HashMap;
+use std::fmt::{Debug, Write};
 use std::time::Instant;
 
-use delmatik::{Lookup, LookupTerminal, Table};
+use delmatik::LookupTerminal;
 use harness::plain::{self, Ext, P, Random};
+use harness::port::wrapped;
+use harness::table::{Lookup, Table};
+use harness::tuned;
 
 const ROUNDS: usize = 3;
+const ROWS: usize = 1 << 16;
 
-/// The medians of both sides, in seconds.
-fn race<A: PartialEq + std::fmt::Debug>(mut port: impl FnMut() -> A, mut other: impl FnMut() -> A) -> (f64, f64) {
-    let (mut ports, mut others) = (vec![], vec![]);
+type Side<'a, A> = Box<dyn FnMut() -> A + 'a>;
+
+/// The medians of the sides, in nanoseconds a row, one round of each after the other; the first is the port.
+fn race<A: PartialEq + Debug>(rows: usize, mut sides: Vec<Side<'_, A>>) -> Vec<f64> {
+    let mut times = vec![vec![]; sides.len()];
     for _ in 0..ROUNDS {
-        let start = Instant::now();
-        let a = port();
-        ports.push(start.elapsed().as_secs_f64());
-        let start = Instant::now();
-        let b = other();
-        others.push(start.elapsed().as_secs_f64());
-        assert_eq!(a, b);
+        let mut results = vec![];
+        for (work, times) in sides.iter_mut().zip(&mut times) {
+            let start = Instant::now();
+            results.push(work());
+            times.push(start.elapsed().as_secs_f64() * 1e9 / rows as f64);
+        }
+        assert!(results.iter().all(|r| *r == results[0]));
     }
-    (median(ports), median(others))
+    times.into_iter().map(median).collect()
 }
 
 fn median(mut times: Vec<f64>) -> f64 {
@@ -30,132 +38,200 @@ fn median(mut times: Vec<f64>) -> f64 {
     times[times.len() / 2]
 }
 
-fn report(name: &str, rows: usize, (port, other): (f64, f64)) {
-    let each = 1e9 / rows as f64;
-    println!("| {name} | {:.0} ns | {:.0} ns | {:.2} |", port * each, other * each, port / other);
+/// A line of a table: the port's time, then each other's with the ratio to it.
+fn report(name: &str, times: &[f64]) {
+    let others: String = times[1..].iter().map(|t| format!(" {t:.0} ns | {:.2} |", times[0] / t)).collect();
+    println!("| {name} | {:.0} ns |{others}", times[0]);
 }
 
-/// Four columns of random words; nodes: the columns, the constant 1, then sums and products of lower ones, up to `nodes`.
-fn table(random: &mut Random, rows: usize, nodes: u32, lookups: &[Lookup]) -> Table {
-    let mut words = vec![1, 0, 0, 1, 1, 0, 1, 2, 0, 1, 3, 0, 0, 1, 0];
-    for n in 5..nodes.max(5) {
-        words.extend([if n % 2 == 0 { 9 } else { 11 }, n - 1, n % 4]);
+fn heading(columns: &[&str]) {
+    println!("\n| {} |\n|{}", columns.join(" | "), "---|".repeat(columns.len()));
+}
+
+/// A kind of table: so many lookups, each on a bus of its own, of so many tuples of so many elements.
+struct Shape {
+    name: &'static str,
+    columns: u32,
+    nodes: u32,
+    lookups: u32,
+    tuples: u32,
+    width: u32,
+    /// Of each four lookups so many are exclusive.
+    exclusive: u32,
+}
+
+const SHAPES: [Shape; 6] = [
+    Shape { name: "1 lookup, 1 tuple of 2, 6 nodes", columns: 4, nodes: 6, lookups: 1, tuples: 1, width: 2, exclusive: 0 },
+    Shape { name: "4 lookups, 1 tuple of 3, 20 nodes", columns: 4, nodes: 20, lookups: 4, tuples: 1, width: 3, exclusive: 0 },
+    Shape { name: "16 lookups, 1 tuple of 4, 100 nodes", columns: 4, nodes: 100, lookups: 16, tuples: 1, width: 4, exclusive: 0 },
+    Shape { name: "8 lookups, 4 tuples of 4, 60 nodes", columns: 4, nodes: 60, lookups: 8, tuples: 4, width: 4, exclusive: 0 },
+    Shape {
+        name: "8 lookups, half exclusive, 4 tuples of 4, 60 nodes",
+        columns: 4,
+        nodes: 60,
+        lookups: 8,
+        tuples: 4,
+        width: 4,
+        exclusive: 2,
+    },
+    Shape { name: "256 columns, 1 lookup, 1 tuple of 2, 6 nodes", columns: 256, nodes: 6, lookups: 1, tuples: 1, width: 2, exclusive: 0 },
+];
+
+impl Shape {
+    /// Nodes: four columns, the constant 1, sums and products of a column and the node before, then 0.
+    fn table(&self, random: &mut Random, rows: usize) -> Table {
+        let mut nodes: Vec<u32> = (0..4).flat_map(|k| [1, k * (self.columns / 4), 0]).collect();
+        nodes.extend([0, 1, 0]);
+        for n in 5..self.nodes {
+            nodes.extend([if n % 2 == 0 { 9 } else { 11 }, n - 1, n % 4]);
+        }
+        nodes.extend([10, 4, 4]);
+        let node = |i: u32, k: u32, j: u32| (7 * i + 3 * k + j) % self.nodes;
+        let lookup = |i: u32| {
+            let exclusive = i % 4 < self.exclusive;
+            Lookup {
+                bus: Some(format!("bus {i}").into_bytes()),
+                weight: 1,
+                column: i,
+                exclusive,
+                tuples: (0..self.tuples).map(|k| (0..self.width).map(|j| node(i, k, j)).collect()).collect(),
+                multiplicities: vec![4; self.tuples as usize],
+                // The first branch is chosen: node 4 is 1, the last node 0.
+                flags: if exclusive { (0..self.tuples).map(|k| if k == 0 { 4 } else { self.nodes }).collect() } else { vec![] },
+            }
+        };
+        let mut t = Table { main_width: self.columns.into(), height: rows as u64, nodes, ..Table::default() };
+        t.main = (0..self.columns as usize * rows).map(|_| random.below(P.into()) as u32).collect();
+        t.set_records(&(0..self.lookups).map(lookup).collect::<Vec<Lookup>>());
+        t
     }
-    let main = (0..4 * rows).map(|_| random.below(P.into()) as u32).collect();
-    Table { main_width: 4, height: rows, main, nodes: words, ..Table::default() }.with(lookups)
 }
 
-/// So many lookups, each on a bus of its own, of so many tuples of so many elements.
-fn lookups(count: u32, tuples: u32, width: u32, nodes: u32, exclusive: bool) -> Vec<Lookup> {
-    let node = |i: u32, k: u32, j: u32| (7 * i + 3 * k + j) % nodes;
-    let lookup = |i: u32| Lookup {
-        bus: Some(format!("bus {i}").into_bytes()),
-        weight: 1,
-        column: i,
-        exclusive,
-        tuples: (0..tuples).map(|k| (0..width).map(|j| node(i, k, j)).collect()).collect(),
-        multiplicities: vec![4; tuples as usize],
-        // The first branch is chosen: node 4 is 1, and the difference of a node with itself would be 0.
-        flags: if exclusive { (0..tuples).map(|k| if k == 0 { 4 } else { nodes }).collect() } else { vec![] },
-    };
-    (0..count).map(lookup).collect()
+/// What generation gives, by the port.
+fn generated(t: &delmatik::Table, challenges: &[Ext]) -> (Vec<u32>, Option<Ext>) {
+    let g = t.generate(challenges).unwrap();
+    (g.trace, g.terminal.map(|LookupTerminal(e)| e))
 }
 
 fn evaluation(random: &mut Random) {
-    let rows = 1 << 16;
-    let t = table(random, rows, 20, &[Lookup { bus: Some(vec![]), ..Lookup::default() }]);
-    let times = race(
-        || t.generate(&[[1, 0, 0, 0], [0; 4]]).unwrap().trace,
-        || {
-            let mut trace = vec![0; 8 * rows];
-            for (row, out) in t.main.chunks_exact(4).zip(trace.chunks_exact_mut(8)) {
-                let mut values = [0u32; 1024];
-                for (i, node) in t.nodes.chunks_exact(3).enumerate() {
-                    let (a, b) = (node[1] as usize, node[2] as usize);
-                    values[i] = match node[0] {
-                        0 => node[1],
-                        1 => row[a],
-                        9 => plain::add_word(values[a], values[b]),
-                        _ => plain::mul_word(values[a], values[b]),
-                    };
-                }
-                out[4] = std::hint::black_box(values)[1023];
+    let shape = Shape { name: "", columns: 4, nodes: 20, lookups: 1, tuples: 0, width: 0, exclusive: 0 };
+    let t = shape.table(random, ROWS);
+    let port = wrapped(&t);
+    let same_loop = || {
+        let mut trace = vec![0; 8 * ROWS];
+        for (row, out) in t.main.chunks_exact(4).zip(trace.chunks_exact_mut(8)) {
+            let mut values = [0u32; 1024];
+            for (i, node) in t.nodes.chunks_exact(3).enumerate() {
+                let (a, b) = (node[1] as usize, node[2] as usize);
+                values[i] = match node[0] {
+                    0 => node[1],
+                    1 => row[a],
+                    9 => plain::add_word(values[a], values[b]),
+                    10 => plain::sub_word(values[a], values[b]),
+                    _ => plain::mul_word(values[a], values[b]),
+                };
             }
-            trace
-        },
-    );
-    report("row evaluation, 20 nodes, in a table with an empty lookup", rows, times);
+            out[4] = std::hint::black_box(values)[1023];
+        }
+        trace
+    };
+    heading(&["row evaluation", "port", "the same loop in Rust", "ratio"]);
+    let times = race(ROWS, vec![Box::new(|| generated(&port, &[[1, 0, 0, 0], [0; 4]]).0), Box::new(same_loop)]);
+    report("20 nodes, in a table with an empty lookup", &times);
 }
 
 #[cfg(source)]
-fn generation(random: &mut Random) {
-    use harness::oracle;
-    let shapes = [
-        ("1 lookup, 1 tuple of 2, 6 nodes", 1, 1, 2, 6, false),
-        ("4 lookups, 1 tuple of 3, 20 nodes", 4, 1, 3, 20, false),
-        ("16 lookups, 1 tuple of 4, 100 nodes", 16, 1, 4, 100, false),
-        ("8 lookups, 4 tuples of 4, 60 nodes", 8, 4, 4, 60, false),
-        ("8 exclusive lookups, 4 branches of 4, 60 nodes", 8, 4, 4, 60, true),
-    ];
-    let rows = 1 << 16;
-    for (name, count, tuples, width, nodes, exclusive) in shapes {
-        let mut t = table(random, rows, nodes, &lookups(count, tuples, width, nodes, exclusive));
-        // Node `nodes` is 0.
-        t.nodes.extend([10, 4, 4]);
-        let challenges: Vec<Ext> = (0..2 * count).map(|_| random.element()).collect();
-        let plain = harness::table::Table {
-            main_width: 4,
-            height: rows as u64,
-            main: t.main.clone(),
-            nodes: t.nodes.clone(),
-            lookups: t.lookups.clone(),
-            names: t.names.clone(),
-            tuples: t.tuples.clone(),
-            multiplicities: t.multiplicities.clone(),
-            flags: t.flags.clone(),
-            elements: t.elements.clone(),
-            ..harness::table::Table::default()
-        };
+fn crate_generation<'a>(t: &'a Table, words: &'a [u32]) -> Option<Side<'a, (Vec<u32>, Option<Ext>)>> {
+    Some(Box::new(|| harness::oracle::generate(t, words).unwrap()))
+}
+
+#[cfg(not(source))]
+fn crate_generation<'a>(_t: &'a Table, _words: &'a [u32]) -> Option<Side<'a, (Vec<u32>, Option<Ext>)>> {
+    None
+}
+
+fn challenges(random: &mut Random, count: u32) -> Vec<Ext> {
+    (0..2 * count).map(|_| random.element()).collect()
+}
+
+/// The shapes beside the tuned version and the crate; the ratios of each.
+fn generation(random: &mut Random) -> Vec<(&'static str, Vec<f64>)> {
+    heading(&["generation", "port", "tuned Rust", "ratio", "the crate", "ratio"]);
+    let mut ratios = vec![];
+    for shape in &SHAPES {
+        let t = shape.table(random, ROWS);
+        let (port, challenges) = (wrapped(&t), challenges(random, shape.lookups));
         let words = challenges.as_flattened();
-        let times = race(
-            || {
-                let g = t.generate(&challenges).unwrap();
-                (g.trace, g.terminal.map(|LookupTerminal(e)| e))
-            },
-            || oracle::generate(&plain, words).unwrap(),
-        );
-        report(&format!("generation, {name}"), rows, times);
-        let g = t.generate(&challenges).unwrap();
-        let terminal = g.terminal.map(|LookupTerminal(e)| e);
-        let columns = count as usize + 1;
-        let times = race(
-            || t.constraints(&challenges, columns, &g.trace, g.terminal).map_err(|r| (r.details[0] as usize, r.details[1] as usize)),
-            || oracle::constraints(&plain, words, columns as u64, &g.trace, terminal).unwrap().map_or(Ok(()), Err),
-        );
-        report(&format!("constraints, {name}"), rows, times);
+        let mut sides: Vec<Side<'_, _>> = vec![Box::new(|| generated(&port, &challenges)), Box::new(|| tuned::generate(&t, words))];
+        sides.extend(crate_generation(&t, words));
+        let times = race(ROWS, sides);
+        report(shape.name, &times);
+        ratios.push((shape.name, times[1..].iter().map(|other| times[0] / other).collect()));
+    }
+    ratios
+}
+
+#[cfg(source)]
+fn constraints(random: &mut Random) {
+    heading(&["constraints", "port", "the crate", "ratio"]);
+    for shape in &SHAPES {
+        let t = shape.table(random, ROWS);
+        let (port, challenges) = (wrapped(&t), challenges(random, shape.lookups));
+        let words = challenges.as_flattened();
+        let (trace, terminal) = generated(&port, &challenges);
+        let columns = shape.lookups as usize + 1;
+        let wrapped_terminal = terminal.map(LookupTerminal);
+        let by_port = || port.constraints(&challenges, columns, &trace, wrapped_terminal).is_ok();
+        let by_crate = || harness::oracle::constraints(&t, words, columns as u64, &trace, terminal).unwrap().is_none();
+        report(shape.name, &race(ROWS, vec![Box::new(by_port), Box::new(by_crate)]));
     }
 }
 
 #[cfg(not(source))]
-fn generation(_random: &mut Random) {
-    println!("generation and constraints: not run, since the source of p3-lookup 0.8.0 is not at hand");
+fn constraints(_random: &mut Random) {
+    println!("\nthe crate: not run, since the source of p3-lookup 0.8.0 is not at hand");
+}
+
+/// Four lookups at heights from 2^10 to 2^20.
+fn growth(random: &mut Random) {
+    heading(&["generation, 4 lookups", "port", "tuned Rust", "ratio"]);
+    for bits in (10..=20).step_by(2) {
+        let rows = 1 << bits;
+        let t = SHAPES[1].table(random, rows);
+        let (port, challenges) = (wrapped(&t), challenges(random, SHAPES[1].lookups));
+        let words = challenges.as_flattened();
+        let times = race(rows, vec![Box::new(|| generated(&port, &challenges)), Box::new(|| tuned::generate(&t, words))]);
+        report(&format!("2^{bits} rows"), &times);
+    }
+}
+
+#[cfg(source)]
+fn crate_balance(t: &Table) -> Option<Side<'_, bool>> {
+    Some(Box::new(|| harness::oracle::balance(std::slice::from_ref(t)).is_ok()))
+}
+
+#[cfg(not(source))]
+fn crate_balance(_t: &Table) -> Option<Side<'_, bool>> {
+    None
 }
 
 /// A tuple of two sent and received once on every row: all nets are zero.
-fn balance(random: &mut Random, rows: usize) {
-    let side = |multiplicity: u32| Lookup {
-        bus: Some(b"mem".to_vec()),
-        weight: 1,
-        tuples: vec![vec![0, 1]],
-        multiplicities: vec![multiplicity],
-        ..Lookup::default()
-    };
-    let mut t = table(random, rows, 5, &[side(4), side(5)]);
-    t.nodes.extend([12, 4, 0]);
-    let mut workspace = vec![0; 10 * rows];
-    let times = race(
-        || delmatik::balance(&[t.clone()], &mut workspace).is_ok(),
-        || {
+fn balance(random: &mut Random) {
+    heading(&["balance, different tuples", "port", "a hash map", "ratio", "the crate", "ratio"]);
+    for rows in [1_000, 10_000, 100_000] {
+        let side = |multiplicity: u32| Lookup {
+            bus: Some(b"mem".to_vec()),
+            weight: 1,
+            tuples: vec![vec![0, 1]],
+            multiplicities: vec![multiplicity],
+            ..Lookup::default()
+        };
+        let mut t = Shape { name: "", columns: 4, nodes: 5, lookups: 0, tuples: 0, width: 0, exclusive: 0 }.table(random, rows);
+        let minus = t.add_node(12, 4, 0);
+        t.set_records(&[side(4), side(minus)]);
+        let port = [wrapped(&t)];
+        let mut workspace = vec![0; 10 * rows];
+        let by_map = || {
             let mut nets: HashMap<Vec<u32>, u32> = HashMap::new();
             for sign in [1, P - 1] {
                 for row in t.main.chunks_exact(4) {
@@ -164,17 +240,65 @@ fn balance(random: &mut Random, rows: usize) {
                 }
             }
             nets.values().all(|net| *net == 0)
-        },
+        };
+        let mut sides: Vec<Side<'_, bool>> = vec![Box::new(|| delmatik::balance(&port, &mut workspace).is_ok()), Box::new(by_map)];
+        sides.extend(crate_balance(&t));
+        let times = race(rows, sides);
+        report(&rows.to_string(), &times);
+    }
+}
+
+/// Bars of the ratios port ÷ other, with a line at 1.
+fn chart(ratios: &[(&str, Vec<f64>)]) -> String {
+    let (left, scale, step) = (330.0, 240.0, 46.0);
+    let mut svg = String::new();
+    let height = step * ratios.len() as f64 + 70.0;
+    let _ = writeln!(
+        svg,
+        "<svg xmlns=\"http://www.w3.org/2000/svg\" width=\"760\" height=\"{height}\" font-family=\"sans-serif\" font-size=\"12\">"
     );
-    report(&format!("balance, {rows} different tuples, beside a hash map"), rows, times);
+    let _ = writeln!(svg, "<rect width=\"760\" height=\"{height}\" fill=\"white\"/>");
+    let _ = writeln!(
+        svg,
+        "<text x=\"16\" y=\"22\">Generation, 2^16 rows: time of the port ÷ time of the other. Left of the line the port is faster.</text>"
+    );
+    for (x, fill, name) in [(16.0, "#2b6cb0", "tuned Rust"), (130.0, "#dd9b3d", "the crate's own source")] {
+        let _ = writeln!(
+            svg,
+            "<rect x=\"{x}\" y=\"32\" width=\"12\" height=\"12\" fill=\"{fill}\"/><text x=\"{}\" y=\"42\">{name}</text>",
+            x + 18.0
+        );
+    }
+    for (i, (name, bars)) in ratios.iter().enumerate() {
+        let y = 60.0 + step * i as f64;
+        let _ = writeln!(svg, "<text x=\"16\" y=\"{}\">{name}</text>", y + 19.0);
+        for (k, (ratio, fill)) in bars.iter().zip(["#2b6cb0", "#dd9b3d"]).enumerate() {
+            let (top, length) = (y + 16.0 * k as f64, (ratio * scale).min(380.0));
+            let _ = writeln!(svg, "<rect x=\"{left}\" y=\"{top}\" width=\"{length:.0}\" height=\"13\" fill=\"{fill}\"/>");
+            let _ = writeln!(svg, "<text x=\"{:.0}\" y=\"{}\">{ratio:.2}</text>", left + length + 5.0, top + 11.0);
+        }
+    }
+    let one = left + scale;
+    let _ = writeln!(
+        svg,
+        "<line x1=\"{one}\" y1=\"54\" x2=\"{one}\" y2=\"{}\" stroke=\"black\" stroke-dasharray=\"3 3\"/>\n</svg>",
+        height - 12.0
+    );
+    svg
 }
 
 fn main() {
     let mut random = Random(0x9E3779B97F4A7C15);
-    println!("| work | port, a row | Rust, a row | ratio |\n|---|---|---|---|");
+    println!("Times are for a row. Medians of {ROUNDS} rounds.");
     evaluation(&mut random);
-    generation(&mut random);
-    for rows in [1_000, 10_000] {
-        balance(&mut random, rows);
+    let ratios = generation(&mut random);
+    constraints(&mut random);
+    growth(&mut random);
+    balance(&mut random);
+    let arguments: Vec<String> = std::env::args().collect();
+    if let [_, flag, file] = &arguments[..]
+        && flag == "--chart"
+    {
+        std::fs::write(file, chart(&ratios)).expect("the chart is written");
     }
 }

@@ -1,0 +1,266 @@
+//! Calls every door with good, damaged and random words, in memory that notices reads and writes outside what is lent. After each call: the number is
+//! one of the door's, details are zero unless document 01 names them, nothing beside the lists and no input was written, and refusals 1 to 12
+//! left the outputs as they were.
+//!
+//!     cargo run --release --offline --features port --bin fuzz -- --cases 100000 --seed 1
+use std::collections::BTreeMap;
+use std::process::ExitCode;
+use std::time::Instant;
+
+use delmatik::sys;
+use harness::generator::{self, Case};
+use harness::lent::Lender;
+use harness::plain::{P, Random};
+use harness::table::Table;
+
+/// How many details document 01 names for a refusal.
+fn named(number: u32) -> usize {
+    match number {
+        6 | 18 => 3,
+        13..=15 | 17 => 2,
+        19 => 1,
+        _ => 0,
+    }
+}
+
+struct Fuzz {
+    lender: Lender,
+    random: Random,
+    counts: BTreeMap<(&'static str, u32), u64>,
+}
+
+/// A size now and then replaced by an extreme one.
+fn size(random: &mut Random, n: u64) -> usize {
+    let extremes = [0, 1, 65, 1 << 20, (1 << 20) + 1, 1 << 31, 1 << 32, 1 << 61, 1 << 62, 1 << 63, u64::MAX];
+    if random.below(12) == 0 { extremes[random.below(11) as usize] as usize } else { n as usize }
+}
+
+/// A list now and then with extreme words, cut, or grown.
+fn list(random: &mut Random, words: &[u32]) -> Vec<u32> {
+    let mut words = words.to_vec();
+    let extremes = [0, 1, 8, 9, 64, 65, P - 1, P, P + 1, 1 << 31, u32::MAX - 7, u32::MAX];
+    match random.below(24) {
+        0 => words.truncate(random.below(words.len() as u64 + 1) as usize),
+        1 => words.extend((0..random.below(9)).map(|i| extremes[i as usize])),
+        2 => words.iter_mut().for_each(|w| *w = extremes[(*w % 12) as usize]),
+        3..=5 if !words.is_empty() => {
+            let at = random.below(words.len() as u64) as usize;
+            words[at] = extremes[random.below(12) as usize];
+        }
+        6 => words.iter_mut().for_each(|w| *w = random.draw() as u32),
+        _ => (),
+    }
+    words
+}
+
+/// Expands to a call: `[list]` is lent to be read, `[mut list]` to be written, `(out list)` is a pointer to numbers of the answer; the three details come
+/// last.
+macro_rules! call {
+    ($fuzz:ident, $door:ident($($arguments:tt)*)) => {{
+        let high = $fuzz.random.below(2) == 0;
+        $fuzz.lender.start(high);
+        let details = $fuzz.lender.answer(&[7u64; 3]);
+        let number = call!(@ $fuzz $door details () $($arguments)*);
+        $fuzz.judge(stringify!($door), number)
+    }};
+    (@ $fuzz:ident $door:ident $details:ident ($($done:tt)*) [mut $list:expr], $($rest:tt)*) => {{
+        let lent = $fuzz.lender.write($list);
+        call!(@ $fuzz $door $details ($($done)* lent.0, lent.1,) $($rest)*)
+    }};
+    (@ $fuzz:ident $door:ident $details:ident ($($done:tt)*) [$list:expr], $($rest:tt)*) => {{
+        let lent = $fuzz.lender.read($list);
+        call!(@ $fuzz $door $details ($($done)* lent.0, lent.1,) $($rest)*)
+    }};
+    (@ $fuzz:ident $door:ident $details:ident ($($done:tt)*) (out $list:expr), $($rest:tt)*) => {{
+        let lent = $fuzz.lender.answer($list);
+        call!(@ $fuzz $door $details ($($done)* lent.cast(),) $($rest)*)
+    }};
+    (@ $fuzz:ident $door:ident $details:ident ($($done:tt)*) $argument:expr, $($rest:tt)*) => {{
+        let argument = $argument;
+        call!(@ $fuzz $door $details ($($done)* argument,) $($rest)*)
+    }};
+    (@ $fuzz:ident $door:ident $details:ident ($($done:tt)*)) => { unsafe { sys::$door($($done)* $details.cast()) } };
+}
+
+impl Fuzz {
+    fn judge(&mut self, door: &'static str, number: u32) -> Result<(), String> {
+        *self.counts.entry((door, number)).or_default() += 1;
+        if 20 < number {
+            return Err(format!("{door} answers {number}"));
+        }
+        // The details are list 0.
+        let details = self.lender.list(0).as_chunks::<8>().0;
+        if details[named(number)..].iter().any(|d| *d != [0; 8]) {
+            return Err(format!("{door}, {number}: details {details:?}"));
+        }
+        self.lender.check((1..=12).contains(&number)).map_err(|text| format!("{door}, {number}: {text}"))
+    }
+
+    /// The doors of one table.
+    fn table(&mut self, case: &Case) -> Result<(), String> {
+        let t = self.spoiled(&case.tables[0]);
+        let r = &mut self.random;
+        let [width, height, pre_width, pre_height] = [t.main_width, t.height, t.pre_width, t.pre_height].map(|n| size(r, n));
+        let challenges = list(r, &case.challenges);
+        let trace = list(r, &vec![9; case.buffer.min(1 << 14)]);
+        call!(self, delmatik_generate(
+            width, height, pre_width, pre_height, [&t.main], [&t.preprocessed], [&t.public_values], [&t.nodes], [&t.lookups], [&t.names],
+            [&t.tuples], [&t.multiplicities], [&t.flags], [&t.elements], [&challenges], [mut &trace], (out &[7u32; 5]),
+        ))?;
+        let r = &mut self.random;
+        let columns = size(r, (t.lookup_count() as u64 + 1).wrapping_add(case.extra_columns));
+        let [present, c0, c1, c2, c3] = [1, 1, 1, 1, 1].map(|n| size(r, n) as u32);
+        call!(
+            self,
+            delmatik_constraints(
+                width,
+                height,
+                pre_width,
+                pre_height,
+                [&t.main],
+                [&t.preprocessed],
+                [&t.public_values],
+                [&t.nodes],
+                [&t.lookups],
+                [&t.names],
+                [&t.tuples],
+                [&t.multiplicities],
+                [&t.flags],
+                [&t.elements],
+                [&challenges],
+                columns,
+                [&trace],
+                present,
+                c0,
+                c1,
+                c2,
+                c3,
+            )
+        )?;
+        let r = &mut self.random;
+        let (lookup, transition, publics) = (r.below(4) as usize, size(r, case.transition) as u32, size(r, t.public_values.len() as u64));
+        call!(
+            self,
+            delmatik_degree(
+                width,
+                pre_width,
+                publics,
+                [&t.nodes],
+                [&t.lookups],
+                [&t.names],
+                [&t.tuples],
+                [&t.multiplicities],
+                [&t.flags],
+                [&t.elements],
+                lookup,
+                transition,
+                (out & [7u64]),
+            )
+        )?;
+        let r = &mut self.random;
+        let (lookups, tuples, multiplicities) = (list(r, &t.lookups), list(r, &t.tuples), list(r, &t.multiplicities));
+        let (flags, elements) = (list(r, &t.flags), list(r, &t.elements));
+        call!(self, delmatik_pack(
+            case.limit, width, pre_width, publics, [&t.nodes], [&t.lookups], [&t.names], [&t.tuples], [&t.multiplicities], [&t.flags],
+            [&t.elements], [mut &lookups], [mut &t.names], [mut &tuples], [mut &multiplicities], [mut &flags], [mut &elements],
+            (out &[7u64; 6]),
+        ))
+    }
+
+    /// The doors over several tables.
+    fn tables(&mut self, case: &Case) -> Result<(), String> {
+        let all: Vec<Table> = case.tables.iter().map(|t| self.spoiled(t)).collect();
+        let joined = |of: fn(&Table) -> &[u32]| -> Vec<u32> { all.iter().flat_map(of).copied().collect() };
+        let names: Vec<u8> = all.iter().flat_map(|t| &t.names).copied().collect();
+        let (lookups, tuples) = (joined(|t| &t.lookups), joined(|t| &t.tuples));
+        let count = |t: &Table| t.lookup_count() as u32;
+        let three: Vec<u32> = all.iter().flat_map(|t| [count(t), t.names.len() as u32, t.tuples.len() as u32]).collect();
+        let r = &mut self.random;
+        let three = list(r, &three);
+        call!(self, delmatik_widths([&lookups], [&names], [&tuples], [&three], (out & [7u64]),))?;
+        let r = &mut self.random;
+        let counts = list(r, &all.iter().map(count).collect::<Vec<u32>>());
+        let heights = list(r, &case.heights.iter().map(|h| *h as u32).collect::<Vec<u32>>());
+        call!(self, delmatik_height_bound([&lookups], [&counts], [&heights],))?;
+        let sizes = |t: &Table| {
+            let shape = [t.main_width, t.height, t.pre_width, t.pre_height].map(|n| n as u32);
+            let lists = [t.main.len(), t.preprocessed.len(), t.public_values.len(), t.node_count(), t.lookup_count(), t.names.len()];
+            let more = [t.tuples.len(), t.multiplicities.len(), t.flags.len(), t.elements.len()];
+            shape.into_iter().chain(lists.into_iter().chain(more).map(|n| n as u32)).collect::<Vec<u32>>()
+        };
+        let sizes: Vec<u32> = all.iter().flat_map(sizes).collect();
+        let r = &mut self.random;
+        let sizes = list(r, &sizes);
+        let workspace = list(r, &vec![9; case.workspace.min(1 << 14)]);
+        call!(self, delmatik_balance(
+            [&joined(|t| &t.main)], [&joined(|t| &t.preprocessed)], [&joined(|t| &t.public_values)], [&joined(|t| &t.nodes)], [&lookups],
+            [&names], [&tuples], [&joined(|t| &t.multiplicities)], [&joined(|t| &t.flags)], [&joined(|t| &t.elements)], [&sizes],
+            [mut &workspace],
+        ))
+    }
+
+    /// The doors on challenges and terminals.
+    fn words(&mut self, case: &Case) -> Result<(), String> {
+        let r = &mut self.random;
+        let five = |t: &Option<[u32; 4]>| t.map_or([0; 5], |[a, b, c, d]| [1, a, b, c, d]);
+        let terminals = list(r, &case.terminals.iter().flat_map(five).collect::<Vec<u32>>());
+        call!(self, delmatik_terminals([&terminals],))?;
+        let r = &mut self.random;
+        let (alpha, beta) = (list(r, &case.challenge(0)), list(r, &case.challenge(1)));
+        let (width, count) = (size(r, case.prefix_width), size(r, case.prefixes));
+        let out = list(r, &vec![9; 4 * (case.prefixes as usize).min(300)]);
+        call!(self, delmatik_prefixes([&alpha], [&beta], width, count, [mut &out],))
+    }
+
+    /// Each list now and then damaged.
+    fn spoiled(&mut self, t: &Table) -> Table {
+        let r = &mut self.random;
+        let mut t = t.clone();
+        for words in [
+            &mut t.main,
+            &mut t.preprocessed,
+            &mut t.public_values,
+            &mut t.nodes,
+            &mut t.lookups,
+            &mut t.tuples,
+            &mut t.multiplicities,
+            &mut t.flags,
+            &mut t.elements,
+        ] {
+            if r.below(8) == 0 {
+                *words = list(r, words);
+            }
+        }
+        t
+    }
+}
+
+fn argument(name: &str, otherwise: u64) -> u64 {
+    let arguments: Vec<String> = std::env::args().collect();
+    let place = arguments.iter().position(|a| a == name);
+    place.map_or(otherwise, |i| arguments.get(i + 1).and_then(|n| n.parse().ok()).unwrap_or_else(|| panic!("{name} takes a number")))
+}
+
+fn main() -> ExitCode {
+    let (cases, seed) = (argument("--cases", 100_000), argument("--seed", 1));
+    let start = Instant::now();
+    let mut source = Random(seed.wrapping_mul(0x9E3779B97F4A7C15) | 1);
+    let mut fuzz = Fuzz { lender: Lender::new(32), random: Random(source.draw() | 1), counts: BTreeMap::new() };
+    for i in 0..cases {
+        let mut case = generator::case(&mut source);
+        if i % 2 == 0 {
+            generator::damage(&mut source, &mut case);
+        }
+        let result = fuzz.table(&case).and_then(|()| fuzz.tables(&case)).and_then(|()| fuzz.words(&case));
+        if let Err(text) = result {
+            println!("case {i} of seed {seed}: {text}\n{case}");
+            return ExitCode::FAILURE;
+        }
+    }
+    for ((door, number), count) in &fuzz.counts {
+        println!("{door}, {number}: {count}");
+    }
+    let calls: u64 = fuzz.counts.values().sum();
+    println!("{cases} cases of seed {seed}, {calls} calls, nothing outside what was lent, {:.1} s", start.elapsed().as_secs_f64());
+    ExitCode::SUCCESS
+}

@@ -1,0 +1,182 @@
+//! Generation as one would tune it by hand for one thread: nodes decoded once, sums of products reduced once, all denominators of a block of
+//! rows inverted together. It takes only tables that the port accepts, and tests nothing.
+use crate::plain::{self, Ext, P};
+use crate::table::Table;
+
+/// The denominators that are inverted together.
+const BLOCK: usize = 1024;
+
+#[derive(Clone, Copy)]
+enum Node {
+    Constant(u32),
+    Main { next: bool, column: usize },
+    Preprocessed { next: bool, column: usize },
+    Public(usize),
+    First,
+    Last,
+    Transition,
+    Sum(usize, usize),
+    Difference(usize, usize),
+    Product(usize, usize),
+    Negation(usize),
+}
+
+fn node(words: &[u32]) -> Node {
+    let (a, b) = (words[1] as usize, words[2] as usize);
+    match words[0] {
+        0 => Node::Constant(words[1]),
+        kind @ (1 | 2) => Node::Main { next: kind == 2, column: a },
+        kind @ (3 | 4) => Node::Preprocessed { next: kind == 4, column: a },
+        5 => Node::Public(a),
+        6 => Node::First,
+        7 => Node::Last,
+        8 => Node::Transition,
+        9 => Node::Sum(a, b),
+        10 => Node::Difference(a, b),
+        11 => Node::Product(a, b),
+        _ => Node::Negation(a),
+    }
+}
+
+/// A tuple with the powers of beta that its elements go with.
+struct Tuple {
+    elements: Vec<(usize, Ext)>,
+    multiplicity: usize,
+    flag: Option<usize>,
+}
+
+struct Lookup {
+    alpha: Ext,
+    tuples: Vec<Tuple>,
+}
+
+fn lookups(t: &Table, challenges: &[u32]) -> Vec<Lookup> {
+    let element = |i: usize| -> Ext { challenges[4 * i..4 * i + 4].try_into().unwrap() };
+    let lookup = |(i, record): (usize, crate::table::Lookup)| {
+        let beta = element(2 * i + 1);
+        let tuple = |(k, nodes): (usize, &Vec<u32>)| {
+            let power = |j: usize| plain::power(beta, (nodes.len() - 1 - j) as u32);
+            Tuple {
+                elements: nodes.iter().enumerate().map(|(j, n)| (*n as usize, power(j))).collect(),
+                multiplicity: record.multiplicities[k] as usize,
+                flag: record.exclusive.then(|| record.flags[k] as usize),
+            }
+        };
+        Lookup { alpha: element(2 * i), tuples: record.tuples.iter().enumerate().map(tuple).collect() }
+    };
+    t.records().into_iter().enumerate().map(lookup).collect()
+}
+
+/// A sum below 2p, made a word.
+#[inline]
+fn once(sum: u32) -> u32 {
+    if sum < P { sum } else { sum - P }
+}
+
+#[inline]
+fn add(a: Ext, b: Ext) -> Ext {
+    std::array::from_fn(|i| once(a[i] + b[i]))
+}
+
+fn evaluate(t: &Table, nodes: &[Node], r: usize, values: &mut [u32]) {
+    let (height, width, pre_width) = (t.height as usize, t.main_width as usize, t.pre_width as usize);
+    let next_row = if r + 1 == height { 0 } else { r + 1 };
+    for i in 0..nodes.len() {
+        values[i] = match nodes[i] {
+            Node::Constant(word) => word,
+            Node::Main { next, column } => t.main[if next { next_row } else { r } * width + column],
+            Node::Preprocessed { next, column } => t.preprocessed[if next { next_row } else { r } * pre_width + column],
+            Node::Public(at) => t.public_values[at],
+            Node::First => (r == 0).into(),
+            Node::Last => (r + 1 == height).into(),
+            Node::Transition => (r + 1 != height).into(),
+            Node::Sum(a, b) => once(values[a] + values[b]),
+            Node::Difference(a, b) => plain::sub_word(values[a], values[b]),
+            Node::Product(a, b) => plain::mul_word(values[a], values[b]),
+            Node::Negation(a) => plain::neg_word(values[a]),
+        };
+    }
+}
+
+/// Alpha minus the combined value. Four products of words fit 64 bits.
+#[inline]
+fn denominator(alpha: Ext, elements: &[(usize, Ext)], values: &[u32]) -> Ext {
+    let mut combined = [0; 4];
+    for four in elements.chunks(4) {
+        let mut sums = [0u64; 4];
+        for (n, power) in four {
+            let value = u64::from(values[*n]);
+            for (sum, word) in sums.iter_mut().zip(power) {
+                *sum += value * u64::from(*word);
+            }
+        }
+        combined = add(combined, sums.map(|sum| (sum % u64::from(P)) as u32));
+    }
+    plain::sub(alpha, combined)
+}
+
+/// Each denominator's inverse in its place: one inversion for all of them.
+fn invert_all(denominators: &mut [Ext], prefixes: &mut Vec<Ext>) {
+    prefixes.clear();
+    let mut product = [1, 0, 0, 0];
+    for d in denominators.iter() {
+        prefixes.push(product);
+        product = plain::mul(product, *d);
+    }
+    let mut inverse = plain::inverse(product);
+    for (d, prefix) in denominators.iter_mut().zip(prefixes.iter()).rev() {
+        let one = plain::mul(inverse, *prefix);
+        inverse = plain::mul(inverse, *d);
+        *d = one;
+    }
+}
+
+/// The trace and the terminal.
+pub fn generate(t: &Table, challenges: &[u32]) -> (Vec<u32>, Option<Ext>) {
+    let nodes: Vec<Node> = t.nodes.chunks_exact(3).map(node).collect();
+    let lookups = lookups(t, challenges);
+    if lookups.is_empty() {
+        return (vec![], None);
+    }
+    let (height, columns) = (t.height as usize, lookups.len() + 1);
+    // An exclusive lookup has one term at most.
+    let terms: usize = lookups.iter().map(|l| l.tuples.len()).sum();
+    let block = (BLOCK / terms.max(1)).max(1);
+    let mut trace = vec![0; 4 * height * columns];
+    let mut values = vec![0; nodes.len()];
+    let (mut denominators, mut multiplicities, mut ends, mut prefixes) = (vec![], vec![], vec![], vec![]);
+    let mut accumulator = [0; 4];
+    for (b, out) in trace.chunks_mut(4 * columns * block).enumerate() {
+        denominators.clear();
+        multiplicities.clear();
+        ends.clear();
+        for r in b * block..b * block + out.len() / (4 * columns) {
+            evaluate(t, &nodes, r, &mut values);
+            for lookup in &lookups {
+                for tuple in &lookup.tuples {
+                    let m = values[tuple.multiplicity];
+                    if tuple.flag.map_or(m != 0, |f| values[f] == 1) {
+                        denominators.push(denominator(lookup.alpha, &tuple.elements, &values));
+                        multiplicities.push(m);
+                    }
+                }
+                ends.push(denominators.len());
+            }
+        }
+        invert_all(&mut denominators, &mut prefixes);
+        let mut at = 0;
+        for (row, ends) in out.chunks_exact_mut(4 * columns).zip(ends.chunks_exact(lookups.len())) {
+            row[..4].copy_from_slice(&accumulator);
+            for (cell, end) in row[4..].chunks_exact_mut(4).zip(ends) {
+                let mut fraction = [0; 4];
+                while at < *end {
+                    fraction = add(fraction, plain::scale(multiplicities[at], denominators[at]));
+                    at += 1;
+                }
+                cell.copy_from_slice(&fraction);
+                accumulator = add(accumulator, fraction);
+            }
+        }
+    }
+    (trace, Some(accumulator))
+}
