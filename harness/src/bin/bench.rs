@@ -1,6 +1,7 @@
 //! Times the port's doors beside the same work in Rust, interleaved in one run, and compares every result: row evaluation beside the same
 //! loop; generation beside the crate's own source and beside a version tuned by hand (src/tuned.rs); constraints and balance beside the crate's
-//! source, balance beside a hash map as well; and generation at growing heights. Prints tables; `--chart FILE` draws the ratios.
+//! source, balance beside a hash map as well; and generation at growing heights. Measures how much stack the doors take. Prints tables; `--chart FILE` draws the ratios of
+//! generation; `--only PART` runs one part: evaluation, generation, constraints, growth, balance or stack.
 //!
 //!     cargo run --release --offline --features port --bin bench -- --chart ../docs/benchmarks.svg
 use std::collections::HashMap;
@@ -248,6 +249,41 @@ fn balance(random: &mut Random) {
     }
 }
 
+/// How deep the stack grows: the part below this frame is painted first, and looked at afterwards.
+fn stack_of(work: impl FnOnce() + Send) -> usize {
+    const PAINTED: usize = 1 << 20;
+    const PAINT: u8 = 0x5A;
+    let measure = || {
+        let here = 0u8;
+        // The next page is left to this frame and to what paints.
+        let top = (&raw const here as usize - 4096) as *mut u8;
+        (1..=PAINTED).for_each(|i| unsafe { top.wrapping_sub(i).write_volatile(PAINT) });
+        work();
+        let clean = (1..=PAINTED).rev().take_while(|i| unsafe { top.wrapping_sub(*i).read_volatile() } == PAINT).count();
+        PAINTED - clean + 4096
+    };
+    std::thread::scope(|s| std::thread::Builder::new().stack_size(4 * PAINTED).spawn_scoped(s, measure).unwrap().join().unwrap())
+}
+
+/// The largest lists that document 01's limits allow, with a few rows.
+fn stack(random: &mut Random) {
+    let shape = Shape { name: "", columns: 256, nodes: 400, lookups: 64, tuples: 1, width: 8, exclusive: 2 };
+    let mut t = shape.table(random, 8);
+    let mut records = t.records();
+    records.iter_mut().for_each(|l| l.bus = Some(b"mem".to_vec()));
+    t.set_records(&records);
+    let (port, challenges) = (wrapped(&t), challenges(random, shape.lookups));
+    let (trace, terminal) = generated(&port, &challenges);
+    let (mut buffer, mut workspace) = (trace.clone(), vec![0; 10 * 8 * 64]);
+    heading(&["door", "stack"]);
+    let line = |name: &str, bytes: usize| println!("| {name} | {:.0} KiB |", bytes as f64 / 1024.0);
+    line("generation", stack_of(|| assert!(port.generate_into(challenges.as_flattened(), &mut buffer).is_ok())));
+    let columns = shape.lookups as usize + 1;
+    line("constraints", stack_of(|| assert!(port.constraints(&challenges, columns, &trace, terminal.map(LookupTerminal)).is_ok())));
+    line("packing", stack_of(|| assert!(port.pack(3).is_ok())));
+    line("balance, 16 tables", stack_of(|| _ = delmatik::balance(&vec![port.clone(); 16], &mut workspace)));
+}
+
 /// Bars of the ratios port ÷ other, with a line at 1.
 fn chart(ratios: &[(&str, Vec<f64>)]) -> String {
     let (left, scale, step) = (330.0, 240.0, 46.0);
@@ -287,18 +323,35 @@ fn chart(ratios: &[(&str, Vec<f64>)]) -> String {
     svg
 }
 
+/// The word after a flag, if it is there.
+fn argument(name: &str) -> Option<String> {
+    std::env::args().skip_while(|a| a != name).nth(1)
+}
+
 fn main() {
     let mut random = Random(0x9E3779B97F4A7C15);
+    let only = argument("--only");
+    let wanted = |part: &str| only.as_deref().is_none_or(|only| only == part);
     println!("Times are for a row. Medians of {ROUNDS} rounds.");
-    evaluation(&mut random);
-    let ratios = generation(&mut random);
-    constraints(&mut random);
-    growth(&mut random);
-    balance(&mut random);
-    let arguments: Vec<String> = std::env::args().collect();
-    if let [_, flag, file] = &arguments[..]
-        && flag == "--chart"
-    {
-        std::fs::write(file, chart(&ratios)).expect("the chart is written");
+    if wanted("evaluation") {
+        evaluation(&mut random);
+    }
+    if wanted("generation") {
+        let ratios = generation(&mut random);
+        if let Some(file) = argument("--chart") {
+            std::fs::write(file, chart(&ratios)).expect("the chart is written");
+        }
+    }
+    if wanted("constraints") {
+        constraints(&mut random);
+    }
+    if wanted("growth") {
+        growth(&mut random);
+    }
+    if wanted("balance") {
+        balance(&mut random);
+    }
+    if wanted("stack") {
+        stack(&mut random);
     }
 }
