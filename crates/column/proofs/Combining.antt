@@ -6,29 +6,31 @@ use native.Mathlib.Numerals.{add-one}
 use native.Mathlib.Omega.{arith}
 use lib.ListN.{length, getD}
 use Rattle.field.specs.declared.extension.Ext.{Ext}
+use Rattle.delayed.specs.declared.sum.Sum.{Sum}
+use Rattle.delayed.specs.Sum.{residues, Room}
 use Rattle.field.specs.Ext.{ws}
-use Rattle.field.specs.Element.{Word4, zero4, add4, scale4, power4, sum4}
+use Rattle.field.specs.Element.{at, Word4, zero4, add4, scale4, power4, sum4}
 use Rattle.expression.specs.Words.{word}
 use Rattle.logup.specs.Tuple.{exponent, combine}
 use Rattle.column.specs.Powers.{beta-of, Powers}
-use Rattle.column.specs.laws.Powers.{word-zero, power-at, power-word}
+use Rattle.column.specs.laws.Powers.{power-at, power-word}
 
 -- element j with its power
 abbrev term : ℕ → ℕ → List ℕ → List ℕ → ℕ → List ℕ
 term p w beta es j = scale4 p (word es j) (power4 p w beta (exponent (length es) j))
 
-pub record Combining (p w : ℕ) (ps : List (List ℕ)) (vals nodes : List ℕ) (k j : ℕ) (sum : Ext) : Type 0 where
+pub record Combining (p w : ℕ) (ps : List (List ℕ)) (vals nodes : List ℕ) (k j : ℕ) (sum : Sum) : Type 0 where
   pub powers : Powers p w ps
   pub small : k ≤ 8
   pub size : k ≡ length nodes
   pub within : j ≤ k
-  pub word4 : Word4 p (ws sum)
-  pub sum≡ : ws sum ≡ sum4 p (term p w (beta-of ps) (map (word vals) nodes)) j
+  pub room : Room p sum
+  pub sum≡ : residues p sum ≡ sum4 p (term p w (beta-of ps) (map (word vals) nodes)) j
 
-pub combining-begins : {p w : ℕ} {ps : List (List ℕ)} {vals nodes : List ℕ} {k : ℕ} {sum : Ext} → 1 < p → Powers p w ps → k ≤ 8 → k ≡ length nodes → ws sum ≡ zero4
+pub combining-begins : {p w : ℕ} {ps : List (List ℕ)} {vals nodes : List ℕ} {k : ℕ} {sum : Sum} → Powers p w ps → k ≤ 8 → k ≡ length nodes → Room p sum × (residues p sum ≡ zero4)
     → Combining p w ps vals nodes k 0 sum
 unfolding sum4
-combining-begins {p} h pw sm l e = record { powers = pw; small = sm; size = l; within = zero-le; word4 = subst (Word4 p) (sym e) (word-zero p h); sum≡ = e }
+combining-begins pw sm l (r, e) = record { powers = pw; small = sm; size = l; within = zero-le; room = r; sum≡ = e }
 
 map-length : (f : ℕ → ℕ) (l : List ℕ) → length (map f l) ≡ length l
 map-length f [] = refl
@@ -39,18 +41,22 @@ map-at f [] j h = absurd (omega arith)
 map-at f (x ∷ l) zero h = refl
 map-at f (x ∷ l) (suc j) h = map-at f l j (omega arith)
 
-pub combining-turn : {p w : ℕ} {ps : List (List ℕ)} {vals nodes : List ℕ} {k j v : ℕ} {sum next m : Ext} → Combining p w ps vals nodes k j sum → j < k
-    → v ≡ word vals (word nodes j) → ws m ≡ scale4 p v (getD ps (k - 1 - j) []) → Word4 p (ws next) × (ws next ≡ add4 p (ws sum) (ws m))
+-- the four words of a power
+abbrev words : List ℕ → List ℕ
+words l = at l 0 ∷ at l 1 ∷ at l 2 ∷ at l 3 ∷ []
+
+pub combining-turn : {p w : ℕ} {ps : List (List ℕ)} {vals nodes : List ℕ} {k j v : ℕ} {sum next : Sum} {m : List ℕ} → Combining p w ps vals nodes k j sum → j < k
+    → v ≡ word vals (word nodes j) → m ≡ words (getD ps (k - 1 - j) []) → Room p next × (residues p next ≡ add4 p (residues p sum) (scale4 p v m))
     → Combining p w ps vals nodes k (j + 1) next
-unfolding sum4
+unfolding sum4 scale4
 combining-turn {p} {w} {ps} {vals} {nodes} {k} {j} {v} {sum} {next} {m} s h ev em (q, e) =
     record {
       powers = s .powers;
       small = s .small;
       size = s .size;
       within = omega arith;
-      word4 = q;
-      sum≡ = rw (add-one j) (e ∙ ap₂ (add4 p) (s .sum≡) (em ∙ ap₂ (scale4 p) value power));
+      room = q;
+      sum≡ = rw (add-one j) (e ∙ ap₂ (add4 p) (s .sum≡) (ap (scale4 p v) em ∙ ap₂ (scale4 p) value power));
     }
   where
     len : length (map (word vals) nodes) ≡ k
@@ -62,13 +68,16 @@ combining-turn {p} {w} {ps} {vals} {nodes} {k} {j} {v} {sum} {next} {m} s h ev e
     value : v ≡ word (map (word vals) nodes) j
     value = ev ∙ sym (map-at (word vals) nodes j (omega (arith, s .size)))
 
-pub combining-ends : {p w : ℕ} {ps : List (List ℕ)} {vals nodes : List ℕ} {k j : ℕ} {sum : Ext} → Combining p w ps vals nodes k j sum → k ≤ j
-    → Word4 p (ws sum) × (ws sum ≡ combine p w (beta-of ps) (map (word vals) nodes))
+pub combining-ends : {p w : ℕ} {ps : List (List ℕ)} {vals nodes : List ℕ} {k j : ℕ} {sum : Sum} {r : Ext} → Combining p w ps vals nodes k j sum → k ≤ j
+    → Word4 p (ws r) × (ws r ≡ residues p sum) → Word4 p (ws r) × (ws r ≡ combine p w (beta-of ps) (map (word vals) nodes))
 unfolding combine
-combining-ends {p} {w} {ps} {vals} {nodes} {k} {j} s h =
+combining-ends {p} {w} {ps} {vals} {nodes} {k} {j} s h (q, t) =
     let e : j ≡ length nodes = omega (arith, s .within, s .size) in
-    (s .word4, s .sum≡ ∙ ap (sum4 p (term p w (beta-of ps) (map (word vals) nodes))) (e ∙ sym (map-length (word vals) nodes)))
+    (q, t ∙ s .sum≡ ∙ ap (sum4 p (term p w (beta-of ps) (map (word vals) nodes))) (e ∙ sym (map-length (word vals) nodes)))
 
 -- the power that a turn takes
-pub power-taken : {p w : ℕ} {ps : List (List ℕ)} {vals nodes : List ℕ} {k j : ℕ} {sum : Ext} → Combining p w ps vals nodes k j sum → 1 < p → j < k → Word4 p (getD ps (k - 1 - j) [])
-power-taken {p} {w} {ps} {k = k} {j} s big h = power-word p w ps (k - 1 - j) big (s .powers) (omega (arith, s .small))
+pub power-taken : {p w : ℕ} {ps : List (List ℕ)} {vals nodes : List ℕ} {k j : ℕ} {sum : Sum} {m : List ℕ} → Combining p w ps vals nodes k j sum → 1 < p → j < k
+    → m ≡ words (getD ps (k - 1 - j) []) → Word4 p m
+power-taken {p} {w} {ps} {k = k} {j} s big h e =
+    let t : Word4 p (getD ps (k - 1 - j) []) = power-word p w ps (k - 1 - j) big (s .powers) (omega (arith, s .small)) in
+    subst (Word4 p) (sym e) (record { w0 = t .w0; w1 = t .w1; w2 = t .w2; w3 = t .w3 })

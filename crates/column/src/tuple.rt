@@ -1,17 +1,18 @@
 // A tuple: beta's powers, the combined value and the denominator.
 ghost use mathlib.Core.Path.{_≡_};
-ghost use mathlib.Core.List.{map};
+ghost use mathlib.Core.List.{[], _∷_, map};
 ghost use Prim.Native.Nat.{_<_, _≤_, _+_, _*_};
 ghost use lib.ListN.{length};
 ghost use Rattle.lists.specs.Count.{joined};
 ghost use Rattle.lists.specs.Tab.{tab};
 ghost use Rattle.field.specs.Modulus.{Modulus};
-ghost use Rattle.field.specs.Element.{Word4, scale4, power4, element};
+ghost use Rattle.field.specs.Element.{at, Word4, power4, element};
 ghost use Rattle.field.specs.Ext.{ws};
 ghost use Rattle.expression.specs.Words.{word};
 ghost use Rattle.logup.specs.Tuple.{combine, denominator};
 ghost use Rattle.column.specs.Powers.{beta-of, Powers};
 ghost use Rattle.column.specs.Own.{Able};
+use delayed::sum;
 use field::extension;
 use field::extension::Ext;
 
@@ -59,16 +60,15 @@ pub fn load_powers(table: &[u32], i: usize) -> [[u32; 4]; 8]
     powers
 }
 
-// A word times a power.
-fn scaled(p: u32, z: u32, power: [u32; 4]) -> Ext
-    requires { ⌜ Modulus p × (z < p) × Word4 p power ⌝ }
-    ensures { λ r. ⌜ Word4 p (ws r) × (ws r ≡ scale4 p z power) ⌝ }
+// A power as an element.
+fn element(power: [u32; 4]) -> Ext
+    ensures { λ r. ⌜ ws r ≡ at power 0 ∷ at power 1 ∷ at power 2 ∷ at power 3 ∷ [] ⌝ }
 {
     let c0 = power[0];
     let c1 = power[1];
     let c2 = power[2];
     let c3 = power[3];
-    extension::scale(p, z, Ext { c0, c1, c2, c3 })
+    Ext { c0, c1, c2, c3 }
 }
 
 // The combined value of a tuple: `nodes` are its nodes, and element j of k goes with power k - 1 - j.
@@ -77,20 +77,15 @@ pub fn combine(p: u32, w: u32, powers: [[u32; 4]; 8], vals: &[u32], nodes: &[u32
     ensures { λ r. ⌜ Word4 p (ws r) × (ws r ≡ combine p w (beta-of powers) (map (word (now (vals .entry))) (now (nodes .entry)))) ⌝ }
 {
     let k = nodes.len();
-    let mut sum = Ext {
-        c0: 0,
-        c1: 0,
-        c2: 0,
-        c3: 0,
-    };
+    let mut sum = sum::none(p);
     let mut j = 0;
     while j < k {
         let v = value(vals, nodes[j]);
         let power = powers[k - 1 - j];
-        sum = extension::add(p, sum, scaled(p, v, power));
+        sum = sum::more(p, sum, v, element(power));
         j += 1;
     }
-    sum
+    sum::total(p, sum)
 }
 
 // Alpha minus the combined value.

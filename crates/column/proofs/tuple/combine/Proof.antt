@@ -12,8 +12,11 @@ Inv-loop p w vals nodes powers k sum₀ j₀ sum j = Combining p w powers vals n
 abbrev μ-loop : tie.MeasureT-loop
 μ-loop p w vals nodes powers k sum₀ j₀ sum j = k - j
 
+none-requires : tie.Need-none-requires Inv-loop μ-loop
+none-requires c κs = search needs
+
 loop-holds : tie.Need-loop-holds Inv-loop μ-loop
-loop-holds c = combining-begins (omega (arith, c .before .before .pre .0 .modulus .big)) (c .before .before .pre .1) (c .before .before .pre .2) refl refl
+loop-holds c = combining-begins (c .before .before .before .pre .1) (c .before .before .before .pre .2) refl (c .none .ensures)
 
 mul-value : tie.Need-mul-value Inv-loop μ-loop
 mul-value c = search needs
@@ -36,11 +39,16 @@ mul-power c = search needs
 array-copy-out-power : tie.Need-array-copy-out-power Inv-loop μ-loop
 array-copy-out-power c = search needs
 
-scaled-requires : tie.Need-scaled-requires Inv-loop μ-loop
-scaled-requires c κs = (c .before .before .before .before .before .before .before .pre .0 .modulus, subst (λ (n : ℕ). n < c .before .before .before .before .before .before .before .args .p) (sym (c .before .value .ensures)) (c .before .before .before .before .before .before .before .pre .0 .below .each _), power-taken (c .before .before .before .before .loop .inv) (omega (arith, c .before .before .before .before .before .before .before .pre .0 .modulus .big)) (search needs))
+element-requires : tie.Need-element-requires Inv-loop μ-loop
+element-requires c κs = search needs
 
-add-requires : tie.Need-add-requires Inv-loop μ-loop
-add-requires c κs = search needs
+more-requires : tie.Need-more-requires Inv-loop μ-loop
+more-requires c κs = (
+  c .before .before .before .before .before .before .before .before .before .pre .0 .modulus,
+  c .before .before .before .before .before .loop .inv .room,
+  subst (λ (n : ℕ). n < c .before .before .before .before .before .before .before .before .before .args .p) (sym (c .before .before .value .ensures)) (c .before .before .before .before .before .before .before .before .before .pre .0 .below .each _),
+  power-taken (c .before .before .before .before .before .loop .inv) (omega (arith, c .before .before .before .before .before .before .before .before .before .pre .0 .modulus .big)) (search needs) (c .element .ensures),
+)
 
 add-j : tie.Need-add-j Inv-loop μ-loop
 add-j c = search needs
@@ -49,10 +57,13 @@ loop-less : tie.Need-loop-less Inv-loop μ-loop
 loop-less c = search needs
 
 loop-again : tie.Need-loop-again Inv-loop μ-loop
-loop-again c = combining-turn (c .before .before .before .before .before .before .loop .inv) (search needs) (c .before .before .before .value .ensures) (c .before .scaled .ensures .1) (c .add .ensures)
+loop-again c = combining-turn (c .before .before .before .before .before .before .loop .inv) (search needs) (c .before .before .before .value .ensures) (c .before .element .ensures) (c .more .ensures)
+
+total-requires : tie.Need-total-requires Inv-loop μ-loop
+total-requires c κs = search needs
 
 returns : tie.Need-returns Inv-loop μ-loop
-returns c = combining-ends (c .before .loop .inv) (search needs)
+returns c = combining-ends (c .before .before .loop .inv) (search needs) (c .total .ensures)
 
 pub combine-spec : {M : Type 1} → statement M
 combine-spec =
@@ -60,6 +71,7 @@ combine-spec =
     (tie.spec
     Inv-loop
     μ-loop
+    none-requires
     loop-holds
     mul-value
     shared-slice-read-value
@@ -68,9 +80,10 @@ combine-spec =
     sub-power-2
     mul-power
     array-copy-out-power
-    scaled-requires
-    add-requires
+    element-requires
+    more-requires
     add-j
     loop-less
     loop-again
+    total-requires
     returns)
