@@ -25,7 +25,7 @@ use Rattle.logup.specs.Rows.{row-sum, accumulator, row-words, trace, first-faul
 use Rattle.logup.specs.Generation.{Answer, refused, absent, terminal, rows-outcome, entry-refusal, entry-outcome, generation}
 use Rattle.generation.specs.Entry.{rows-answer, cleared}
 use Rattle.prepared.specs.Ready.{lent-values}
-use Rattle.prepared.specs.laws.Table.{joined-length}
+use Rattle.lists.specs.laws.Joined.{joined-length}
 use Rattle.rows.specs.laws.Lengths.{sum-four, fractions-length}
 use Rattle.parts.specs.laws.Unnamed.{unnamed-accumulator, unnamed-trace, unnamed-first-fault}
 

@@ -12,6 +12,7 @@ use borrow.Author.Tests.{not-true, not-false}
 use Rattle.lists.specs.Count.{every, total}
 use Rattle.lists.specs.Fold.{fold}
 use Rattle.lists.specs.laws.Count.{total-in}
+use Rattle.lists.specs.laws.Tab.{flat-append}
 use Rattle.lookup.specs.Lookups.{lookup-count, on-bus, name-length, name-start}
 use Rattle.logup.specs.Ledger.{Entry}
 use Rattle.slots.specs.Work.{Work, work, step}
@@ -22,7 +23,7 @@ use Rattle.balance.specs.Tables.{Lists}
 use Rattle.balance.specs.Entries.{member-entries, entries}
 use Rattle.balance.specs.Members.{member-at}
 use Rattle.balance.specs.Valid.{Whole}
-use Rattle.balance.specs.laws.Lists.{flat-append, flat-one}
+use Rattle.balance.specs.laws.Lists.{flat-one}
 use Rattle.groups.specs.ByNumber.{Named, kept, joins, leads, begins, group-at}
 
 -- a name lies in the list of names

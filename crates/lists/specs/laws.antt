@@ -1,6 +1,8 @@
 pub mod Count
 pub mod Fold
 pub mod Tab
+pub mod Sums
+pub mod Joined
 pub mod Parts
 pub mod Filled
 pub mod Tests

@@ -9,6 +9,7 @@ use lib.Seq.{take-all}
 use borrow.Rule.Slice.PartMut.{putMid}
 use Rattle.lists.specs.laws.Parts.{take-one, take-more}
 use Rattle.lists.specs.laws.Filled.{Filled, filled-none, filled-one, filled-part}
+use Rattle.lists.specs.laws.Tab.{flat-append}
 use Rattle.expression.specs.Words.{word}
 use Rattle.lookup.specs.Lookups.{lookup-count}
 use Rattle.segments.specs.Parts.{start-at, span-at, part-at, parts-of}
@@ -35,19 +36,14 @@ copy-ends {src} {d} {b} {i} s h =
 
 -- the parts of the first t are written
 module _ (f : ℕ → List ℕ) where
-  flat-append : (xs ys : List ℕ) → flatMap f (xs ++ ys) ≡ flatMap f xs ++ flatMap f ys
-  unfolding flatMap
-  flat-append [] ys = refl
-  flat-append (x ∷ xs) ys = ap (λ (l : List ℕ). f x ++ l) (flat-append xs ys) ∙ sym (append-assoc (f x) (flatMap f xs) (flatMap f ys))
-
   flat-one : (order : List ℕ) (t : ℕ) → t < length order → flatMap f (take (t + 1) order) ≡ flatMap f (take t order) ++ f (word order t)
   unfolding flatMap
-  flat-one order t h = ap (flatMap f) (take-one order t 0 h) ∙ flat-append (take t order) (word order t ∷ []) ∙ ap (λ (l : List ℕ). flatMap f (take t order) ++ l) (append-nil (f (word order t)))
+  flat-one order t h = ap (flatMap f) (take-one order t 0 h) ∙ flat-append f (take t order) (word order t ∷ []) ∙ ap (λ (l : List ℕ). flatMap f (take t order) ++ l) (append-nil (f (word order t)))
 
   flat-le : (order : List ℕ) (t : ℕ) → t ≤ length order → length (flatMap f (take t order)) ≤ length (flatMap f order)
   flat-le order t h =
       let e : flatMap f order ≡ flatMap f (take t order) ++ flatMap f (take (length order - t) (drop t order)) =
-      ap (flatMap f) (sym (take-all (length order) order (omega arith)) ∙ take-more order t (length order) h) ∙ flat-append (take t order) (take (length order - t) (drop t order)) in
+      ap (flatMap f) (sym (take-all (length order) order (omega arith)) ∙ take-more order t (length order) h) ∙ flat-append f (take t order) (take (length order - t) (drop t order)) in
       rw (ap length e ∙ length-append (flatMap f (take t order)) (flatMap f (take (length order - t) (drop t order)))) (omega arith)
 
 pub record Writing (f : ℕ → List ℕ) (order d b : List ℕ) (end t : ℕ) : Type 0 where

@@ -8,11 +8,7 @@ use lib.Dec.{eqb, ltb}
 use lib.ListN.{length}
 use borrow.Author.Tests.{eqb-true, ltb-true}
 use Rattle.field.specs.Element.{at, Word4, element}
-use Rattle.field.specs.Modulus.{Modulus, babybear}
 use Rattle.telling.specs.Element.{four-below, element-number, element-after}
-
-pub babybear-modulus : Modulus babybear
-babybear-modulus = record { big = omega arith; small = omega arith }
 
 -- four words below p, and room for four
 pub record Tested (a : List ℕ) (room : ℕ) : Type 0 where

@@ -4,6 +4,7 @@ use Prim.Native.Nat.{ℕ}
 use mathlib.Core.List.{List, [], _∷_, _++_, map}
 use lib.ListN.{length, replicate}
 use Rattle.lists.specs.Count.{joined}
+use Rattle.lists.specs.Cases.{Case}
 use Rattle.field.specs.Element.{lift, mul4}
 use Rattle.field.specs.Modulus.{babybear, babybear-w}
 use Rattle.expression.specs.Limits.{cabinet}
@@ -15,10 +16,6 @@ use Rattle.prefixes.specs.Prefixes.{prefix}
 use Rattle.protocol.specs.Height.{height-refusal}
 use Rattle.logup.specs.Tuple.{combine}
 use Rattle.logup.specs.laws.Cases.{additive, branching, generated, five, plain}
-
-pub record Case : Type 0 where
-  pub computed : List ℕ
-  pub expected : List ℕ
 
 -- one node: a column, of degree 1
 abbrev pub one-node : List ℕ

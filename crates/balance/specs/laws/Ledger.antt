@@ -13,6 +13,8 @@ use Rattle.lists.specs.Fold.{fold}
 use Rattle.lists.specs.Tab.{tab}
 use Rattle.lists.specs.laws.Tab.{tab-length}
 use Rattle.lists.specs.laws.Tests.{passed, both-left, both-right}
+use Rattle.lists.specs.laws.Sums.{total-cong}
+use Rattle.lists.specs.laws.Tab.{map-tab}
 use Rattle.field.specs.Modulus.{Modulus}
 use Rattle.field.specs.Word.{mulM}
 use Rattle.expression.specs.Words.{word}
@@ -28,8 +30,8 @@ use Rattle.widths.specs.Order.{keep}
 use Rattle.widths.specs.laws.Order.{keep-all}
 use Rattle.balance.specs.Groups.{Member, members, local, same-bus, appears, local-group, bus-group, bus-groups, groups}
 use Rattle.balance.specs.Entries.{count-of, entry-of, row-entries, values-of, member-entries, entries}
-use Rattle.balance.specs.laws.Lists.{tab-in, tab-at, tab-same, joined-same, joined-singles, flat-tab, map-tab}
-use Rattle.balance.specs.laws.Sums.{tally, net-tally, tally-joined, total-cong, total-swap}
+use Rattle.balance.specs.laws.Lists.{tab-in, tab-at, tab-same, joined-same, joined-singles, flat-tab}
+use Rattle.balance.specs.laws.Sums.{tally, net-tally, tally-joined, total-swap}
 
 -- a word of a part of a list
 pub part-word : (c s k : ℕ) (l : List ℕ) → k < c → word (take c (drop s l)) k ≡ word l (s + k)

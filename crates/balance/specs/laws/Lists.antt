@@ -11,6 +11,7 @@ use Rattle.lists.specs.Count.{joined}
 use Rattle.lists.specs.Tab.{tab}
 use Rattle.lists.specs.laws.Count.{last-or-below}
 use Rattle.lists.specs.laws.Tab.{tab-length}
+use Rattle.lists.specs.laws.Tab.{flat-append}
 
 module _ {A : Type 0} where
   -- where an element comes from
@@ -59,11 +60,6 @@ module _ {A B : Type 0} where
       go ih (inl n) = (x, List·Memᴰ·head refl, n)
       go ih (inr n) = let r = ih n in (r .0, List·Memᴰ·tail (r .1), r .2)
 
-  pub flat-append : (f : A → List B) (xs ys : List A) → flatMap f (xs ++ ys) ≡ flatMap f xs ++ flatMap f ys
-  unfolding flatMap
-  flat-append f [] ys = refl
-  flat-append f (x ∷ xs) ys = ap (λ (l : List B). f x ++ l) (flat-append f xs ys) ∙ sym (append-assoc (f x) (flatMap f xs) (flatMap f ys))
-
   pub flat-one : (f : A → List B) (x : A) → flatMap f (x ∷ []) ≡ f x
   unfolding flatMap
   flat-one f x = append-nil (f x)
@@ -72,11 +68,3 @@ module _ {A B : Type 0} where
   unfolding tab joined
   flat-tab f g zero = unfold flatMap in refl
   flat-tab f g (suc n) = flat-append f (tab g 0 n) (g (0 + n) ∷ []) ∙ ap₂ (λ (l m : List B). l ++ m) (flat-tab f g n) (flat-one f (g (0 + n)))
-
-  pub map-tab : (f : A → B) (g : ℕ → A) (n : ℕ) → map f (tab g 0 n) ≡ tab (λ i. f (g i)) 0 n
-  unfolding tab
-  map-tab f g zero = refl
-  map-tab f g (suc n) = map-snoc (tab g 0 n) ∙ ap (λ (l : List B). l ++ (f (g (0 + n)) ∷ [])) (map-tab f g n)
-    where
-      map-snoc : (xs : List A) → map f (xs ++ (g (0 + n) ∷ [])) ≡ map f xs ++ (f (g (0 + n)) ∷ [])
-      map-snoc xs = elim xs [ [] ↦ refl | x ∷ (ys → ih) ↦ ap (λ (l : List B). f x ∷ l) ih ]

@@ -14,6 +14,7 @@ use Rattle.lists.specs.Count.{total, joined}
 use Rattle.lists.specs.Tab.{tab}
 use Rattle.lists.specs.laws.Count.{total-le, total-in}
 use Rattle.lists.specs.laws.Tab.{tab-length, tab-add}
+use Rattle.lists.specs.laws.Tab.{map-tab}
 use Rattle.expression.specs.Words.{word}
 use Rattle.lookup.specs.Lookups.{Lookups, Lookup, lookup-count, entry, on-bus, name-length, weight, column, exclusive, tuple-count, multiplicity-count, flag-count, name-start, tuple-start, multiplicity-start, flag-start, element-start, tuple-width, tuple-nodes, lookup-at, lookups-of}
 use Rattle.lookup.specs.Table.{Table}
@@ -22,7 +23,7 @@ use Rattle.lookup.specs.laws.Tested.{placed, tuple-placed}
 use Rattle.balance.specs.Tables.{Lists, table-count, size, size-start, part, lookups-at, table-at, tables-of}
 use Rattle.balance.specs.Groups.{Member, members}
 use Rattle.balance.specs.Members.{table-from, table-of, member-at}
-use Rattle.balance.specs.laws.Lists.{tab-same, joined-same, flat-tab, map-tab}
+use Rattle.balance.specs.laws.Lists.{tab-same, joined-same, flat-tab}
 use Rattle.balance.specs.laws.Ledger.{part-word}
 
 -- The lists of the lookups are those of the tables, and each table's lists fit.

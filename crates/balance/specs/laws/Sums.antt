@@ -7,6 +7,7 @@ use native.Mathlib.Nat.{mod-add-mod, zero-add}
 use native.Mathlib.Omega.{arith}
 use Rattle.lists.specs.Count.{total, joined}
 use Rattle.lists.specs.Fold.{fold}
+use Rattle.lists.specs.laws.Sums.{total-zero, total-add}
 use Rattle.logup.specs.Ledger.{Entry, same-list, post}
 use Rattle.slots.specs.laws.Nets.{net-of}
 
@@ -43,21 +44,6 @@ unfolding joined total tally
 tally-joined f zero l = refl
 tally-joined f (suc n) l =
     tally-append (joined f 0 n) (f (0 + n)) l ∙ ap₂ _+_ (tally-joined f n l) (ap (λ (i : ℕ). tally (f i) l) (zero-add n))
-
-pub total-cong : (f g : ℕ → ℕ) (n : ℕ) → ((i : ℕ) → i < n → f i ≡ g i) → total f n ≡ total g n
-unfolding total
-total-cong f g zero h = refl
-total-cong f g (suc n) h = ap₂ _+_ (total-cong f g n (λ i l. h i (omega arith))) (h n (omega arith))
-
-total-zero : (n : ℕ) → total (λ i. 0) n ≡ 0
-unfolding total
-total-zero zero = refl
-total-zero (suc n) = ap (λ (k : ℕ). k + 0) (total-zero n)
-
-total-add : (f g : ℕ → ℕ) (n : ℕ) → total (λ i. f i + g i) n ≡ total f n + total g n
-unfolding total
-total-add f g zero = refl
-total-add f g (suc n) = omega (arith, total-add f g n)
 
 -- a sum over rows and lookups, in either order
 pub total-swap : (g : ℕ → ℕ → ℕ) (n m : ℕ) → total (λ i. total (g i) m) n ≡ total (λ r. total (λ i. g i r) n) m

@@ -8,7 +8,7 @@ use lib.IntN.{ℤ, pos, negsuc}
 use Rattle.field.specs.Modulus.{babybear}
 use Rattle.expression.specs.Limits.{cabinet}
 use Rattle.expression.specs.Refusal.{answer-number, answer-details}
-use Rattle.expression.specs.laws.Cases.{Case, hold}
+use Rattle.lists.specs.Cases.{Case, hold}
 use Rattle.expression.specs.declared.refusal.Refusal.{Refusal}
 use Rattle.counts.specs.Count.{negative, magnitude, residue, count-refusal, negation-refusal, nodes-after}
 

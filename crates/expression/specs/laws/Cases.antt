@@ -4,6 +4,7 @@ use mathlib.Core.List.{List, [], _∷_}
 use Prim.Native.Nat.{ℕ}
 use lib.Dec.{eqb, T}
 use Rattle.lists.specs.Count.{every}
+use Rattle.lists.specs.Cases.{Case, hold}
 use Rattle.field.specs.Modulus.{babybear}
 use Rattle.expression.specs.Words.{all-below, all-within}
 use Rattle.expression.specs.Limits.{cabinet}
@@ -12,10 +13,6 @@ use Rattle.expression.specs.Window.{Traces, row-of, window}
 use Rattle.expression.specs.Values.{bit, node-value, values, row-values}
 use Rattle.expression.specs.Degree.{node-degree, degrees}
 use Rattle.expression.specs.Tests.{traces-within, traces-below, constants-below, nodes-known, degrees-low}
-
-pub record Case : Type 0 where
-  pub computed : List ℕ
-  pub expected : List ℕ
 
 -- a verdict as a word: 1 where there is no such refusal
 abbrev pub verdict : Bool → List ℕ
@@ -97,16 +94,6 @@ cases =
     ∷ record { computed = row-values babybear operations three-rows 0; expected = 3 ∷ 4 ∷ 7 ∷ 2013265920 ∷ 12 ∷ 2013265918 ∷ [] }
     ∷ record { computed = row-values babybear operations one-row 0; expected = 3 ∷ 3 ∷ 6 ∷ 0 ∷ 9 ∷ 2013265918 ∷ [] }
     ∷ []
-
-abbrev pub same-words : List ℕ → List ℕ → Bool
-same-words [] [] = true
-same-words [] (b ∷ l) = false
-same-words (a ∷ k) [] = false
-same-words (a ∷ k) (b ∷ l) = eqb a b && same-words k l
-
-abbrev pub hold : List Case → Bool
-hold [] = true
-hold (c ∷ cs) = same-words (c .computed) (c .expected) && hold cs
 
 pub cases-hold : T (hold cases)
 unfolding every all-below all-within cabinet decode node row-of window node-value values row-values node-degree degrees traces-within traces-below constants-below nodes-known degrees-low

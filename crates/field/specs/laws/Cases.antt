@@ -3,14 +3,11 @@ use mathlib.Core.Bool.{Bool, true, false, cond, _&&_}
 use mathlib.Core.List.{List, [], _∷_}
 use Prim.Native.Nat.{ℕ}
 use lib.Dec.{eqb, T}
+use Rattle.lists.specs.Cases.{Case, hold}
 use Rattle.algebra.specs.Power.{powM}
 use Rattle.field.specs.Word.{inverse1}
-use Rattle.field.specs.Element.{lift, same4, is-zero, add4, sub4, mul4, conjugate, conjugate2, norm2, norm, inverse4}
+use Rattle.field.specs.Element.{lift, is-zero, add4, sub4, mul4, conjugate, conjugate2, norm2, norm, inverse4}
 use Rattle.field.specs.Modulus.{babybear, babybear-w}
-
-pub record Case : Type 0 where
-  pub computed : List ℕ
-  pub expected : List ℕ
 
 abbrev pub cases : List Case
 cases =
@@ -24,10 +21,6 @@ cases =
     ∷ record { computed = sub4 babybear (lift 3) (lift 3); expected = lift 0 }
     ∷ []
 
-abbrev pub hold : List Case → Bool
-hold [] = true
-hold (c ∷ cs) = same4 (c .computed) (c .expected) && hold cs
-
 pub cases-hold : T (hold cases)
-unfolding powM inverse1 same4 add4 sub4 mul4 conjugate conjugate2 norm2 norm inverse4
+unfolding powM inverse1 add4 sub4 mul4 conjugate conjugate2 norm2 norm inverse4
 cases-hold = tt

@@ -4,7 +4,7 @@ use mathlib.Core.Logic.{_≢_}
 use Prim.Native.Nat.{ℕ, _*_, _-_, _<_, _%_}
 use native.Mathlib.Omega.{arith}
 use native.Mathlib.Nat.{mod-eq-of-lt}
-use lib.Dec.{lit<}
+use lib.Dec.{lit<, lit≤}
 use Rattle.algebra.specs.Ring.{CRing}
 use Rattle.algebra.specs.Field.{Field}
 use Rattle.algebra.specs.Power.{powM}
@@ -12,7 +12,7 @@ use Rattle.algebra.specs.laws.Remainder.{mul-mod-mod, mod-mul-mod}
 use Rattle.algebra.specs.laws.Primality.{by-trial}
 use Rattle.algebra.specs.laws.Power.{no-square}
 use Rattle.algebra.specs.laws.Quartic.{quartic-field}
-use Rattle.field.specs.Modulus.{Certificate, babybear, babybear-w}
+use Rattle.field.specs.Modulus.{Modulus, Certificate, babybear, babybear-w}
 use Rattle.field.specs.laws.Ring.{El, mk, eq, pos, words}
 
 module _ (p w : ℕ) (C : Certificate p w) where
@@ -38,6 +38,10 @@ module _ (p w : ℕ) (C : Certificate p w) where
   -- the extension field
   abbrev pub K : Field
   K = quartic-field F1 W W-nonsquare (mk p h (C .root)) minus-one
+
+-- the modulus in use, and its certificate
+pub babybear-modulus : Modulus babybear
+babybear-modulus = record { big = lit< tt; small = lit≤ tt }
 
 pub babybear-certificate : Certificate babybear babybear-w
 unfolding powM

@@ -11,6 +11,7 @@ use lib.Seq.{getD-append-add, drop-append-add, take-at, drop-at}
 use Rattle.lists.specs.Count.{total}
 use Rattle.lists.specs.Tab.{tab}
 use Rattle.lists.specs.laws.Tab.{tab-none}
+use Rattle.lists.specs.laws.Sums.{total-head}
 use Rattle.expression.specs.Words.{word}
 use Rattle.expression.specs.Values.{bit}
 use Rattle.lookup.specs.Lookups.{Lookups, Lookup, lookup-count, entry, on-bus, name-length, exclusive, tuple-count, multiplicity-count, flag-count, name-start, tuple-start, multiplicity-start, flag-start, element-start, tuple-width, tuple-nodes, lookup-at, lookups-of}
@@ -32,11 +33,6 @@ tab-cons {A} f (suc n) = ap (λ (z : List A). z ++ (f (0 + suc n) ∷ [])) (tab-
 
 tab-same : {A : Type 0} (f g : ℕ → A) (n : ℕ) → ((k : ℕ) → f k ≡ g k) → tab f 0 n ≡ tab g 0 n
 tab-same f g n e = ap (λ (h : ℕ → _). tab h 0 n) (λ j k. e k j)
-
-total-head : (f : ℕ → ℕ) (n : ℕ) → total f (suc n) ≡ f 0 + total (λ k. f (suc k)) n
-unfolding total
-total-head f zero = omega arith
-total-head f (suc n) = omega (arith, total-head f n)
 
 -- a list of sizes with one more in front
 total-shift : (f g : ℕ → ℕ) (a n : ℕ) → f 0 ≡ a → ((k : ℕ) → f (suc k) ≡ g k) → total f (suc n) ≡ a + total g n

@@ -11,6 +11,7 @@ use lib.Seq.{getD-take, getD-drop}
 use Rattle.lists.specs.Count.{joined}
 use Rattle.lists.specs.Tab.{tab}
 use Rattle.lists.specs.laws.Tab.{tab-length}
+use Rattle.lists.specs.laws.Tab.{map-tab, flat-append}
 use Rattle.field.specs.Word.{mulM}
 use Rattle.expression.specs.Words.{word}
 use Rattle.expression.specs.Node.{node-count}
@@ -32,11 +33,6 @@ use Rattle.packing.specs.laws.Columns.{and-both, on-one, order-sum}
 use Rattle.kept.specs.Entries.{record-counts, entered, record-entries, Sound}
 use Rattle.kept.specs.laws.Back.{Each, Unnamed, read-back}
 use mathlib.Core.List.{List·Memᴰ, List·Memᴰ·head, List·Memᴰ·tail}
-
-map-tab : {A B : Type 0} (g : A → B) (f : ℕ → A) (n : ℕ) → map g (tab f 0 n) ≡ tab (λ k. g (f k)) 0 n
-unfolding tab
-map-tab g f zero = refl
-map-tab {B = B} g f (suc n) = map-append g (tab f 0 n) (f (0 + n) ∷ []) ∙ ap (λ (z : List B). z ++ (g (f (0 + n)) ∷ [])) (map-tab g f n)
 
 singles : {A : Type 0} (f : ℕ → A) (n : ℕ) → joined (λ k. f k ∷ []) 0 n ≡ tab f 0 n
 unfolding joined tab
@@ -98,11 +94,6 @@ module _ (p : ℕ) (vals : List ℕ) where
   each-snoc : (xs : List Lookup) (y : Lookup) → Each Sound (xs ++ (y ∷ [])) → Each Sound xs × Sound y
   each-snoc [] y e = (tt, e .0)
   each-snoc (x ∷ xs) y e = let r = each-snoc xs y (e .1) in ((e .0, r .0), r .1)
-
-  flat-append : {A B : Type 0} (g : A → List B) (xs ys : List A) → flatMap g (xs ++ ys) ≡ flatMap g xs ++ flatMap g ys
-  unfolding flatMap
-  flat-append g [] ys = refl
-  flat-append {B = B} g (x ∷ xs) ys = ap (λ (z : List B). g x ++ z) (flat-append g xs ys) ∙ sym (append-assoc (g x) (flatMap g xs) (flatMap g ys))
 
   -- the entries of a row: those of each lookup, in list order
   rows-at : (l : Lookups) (n : ℕ) → Each Sound (tab (lookup-at l) 0 n) → joined (lookup-entries p l vals) 0 n ≡ flatMap (record-entries p vals) (tab (lookup-at l) 0 n)

@@ -13,6 +13,7 @@ use Rattle.lists.specs.Tab.{tab}
 use Rattle.lists.specs.laws.Count.{total-one, total-le}
 use Rattle.lists.specs.laws.Parts.{getD-pad}
 use Rattle.lists.specs.laws.Tab.{tab-length, tab-cong, tab-get}
+use Rattle.lists.specs.laws.Tab.{map-tab, flat-append}
 use Rattle.expression.specs.Words.{word}
 use Rattle.expression.specs.Node.{node-count}
 use Rattle.expression.specs.Degree.{degrees}
@@ -27,7 +28,7 @@ use Rattle.degree.specs.At.{degree-at}
 use Rattle.degree.specs.Formed.{Formed}
 use Rattle.degree.specs.laws.Degree.{sum-tab, part-tab}
 use Rattle.widths.specs.Order.{name-at, alone-at}
-use Rattle.widths.specs.laws.Order.{map-append, arranged-in}
+use Rattle.widths.specs.laws.Order.{arranged-in}
 use Rattle.segments.specs.Parts.{start-at, span-at, part-at, parts-of}
 use Rattle.segments.specs.declared.writing.Part.the-variants.{Names, Tuples, Multiplicities, Flags, Elements}
 use Rattle.plan.specs.Columns.{source, columns-of, ordered, words-from, heads-of, over-of}
@@ -65,16 +66,6 @@ module _ {B : Type 0} (g : Lookup → List B) where
   unfolding flatMap
   flat-map f h [] e = refl
   flat-map f h (i ∷ is) e = ap₂ (λ (x y : List B). x ++ y) (e i (List·Memᴰ·head refl)) (flat-map f h is (λ (j : ℕ) m. e j (List·Memᴰ·tail m)))
-
-flat-append : {A B : Type 0} (g : A → List B) (xs ys : List A) → flatMap g (xs ++ ys) ≡ flatMap g xs ++ flatMap g ys
-unfolding flatMap
-flat-append g [] ys = refl
-flat-append {B = B} g (x ∷ xs) ys = ap (λ (z : List B). g x ++ z) (flat-append g xs ys) ∙ sym (append-assoc (g x) (flatMap g xs) (flatMap g ys))
-
-map-tab : {A : Type 0} (g : A → ℕ) (f : ℕ → A) (n : ℕ) → map g (tab f 0 n) ≡ tab (λ k. g (f k)) 0 n
-unfolding tab
-map-tab g f zero = refl
-map-tab g f (suc n) = map-append g (tab f 0 n) (f (0 + n) ∷ []) ∙ ap (λ (z : List ℕ). z ++ (g (f (0 + n)) ∷ [])) (map-tab g f n)
 
 total-mono : (f g : ℕ → ℕ) (n : ℕ) → ((i : ℕ) → i < n → f i ≤ g i) → total f n ≤ total g n
 unfolding total

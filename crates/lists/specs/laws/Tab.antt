@@ -1,6 +1,6 @@
 -- One value more and a part more of a list that is made by a function, and what stands in it.
 use mathlib.Core.Path.{_≡_, refl, sym, ap, ap₂, _∙_}
-use mathlib.Core.List.{List, [], _∷_, _++_, append-assoc, append-nil}
+use mathlib.Core.List.{List, [], _∷_, _++_, append-assoc, append-nil, map, map-append, flatMap}
 use Prim.Native.Nat.{ℕ, zero, suc, _+_, _-_, _<_, _≤_}
 use native.Mathlib.Nat.{add-zero, add-suc, add-assoc, zero-add}
 use native.Mathlib.Numerals.{add-one}
@@ -47,3 +47,13 @@ tab-get f a (suc n) j l =
     last-or-below (λ j. getD (tab f a n ++ (f (a + n) ∷ [])) j 0 ≡ f (a + j)) n j l
     (getD-at (tab f a n) (f (a + n)) [] 0 n (tab-length f a n))
     (λ l. List·getD-append (tab f a n) (f (a + n) ∷ []) 0 j (rw (tab-length f a n) l) ∙ tab-get f a n j l)
+
+pub map-tab : {A B : Type 0} (g : A → B) (f : ℕ → A) (n : ℕ) → map g (tab f 0 n) ≡ tab (λ k. g (f k)) 0 n
+unfolding tab
+map-tab g f zero = refl
+map-tab {B = B} g f (suc n) = map-append g (tab f 0 n) (f (0 + n) ∷ []) ∙ ap (λ (z : List B). z ++ (g (f (0 + n)) ∷ [])) (map-tab g f n)
+
+pub flat-append : {A B : Type 0} (g : A → List B) (xs ys : List A) → flatMap g (xs ++ ys) ≡ flatMap g xs ++ flatMap g ys
+unfolding flatMap
+flat-append g [] ys = refl
+flat-append {B = B} g (x ∷ xs) ys = ap (λ (z : List B). g x ++ z) (flat-append g xs ys) ∙ sym (append-assoc (g x) (flatMap g xs) (flatMap g ys))

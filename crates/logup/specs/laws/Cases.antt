@@ -10,6 +10,7 @@ use Rattle.algebra.specs.Power.{powM}
 use Rattle.lists.specs.Count.{total, every, some-of, first, joined}
 use Rattle.lists.specs.Fold.{fold}
 use Rattle.lists.specs.Tab.{tab}
+use Rattle.lists.specs.Cases.{Case, hold}
 use Rattle.field.specs.Word.{inverse1}
 use Rattle.field.specs.Element.{lift, add4, sub4, mul4, scale4, power4, sum4, product4, conjugate, conjugate2, norm2, norm, inverse4, is-zero, element}
 use Rattle.field.specs.Modulus.{babybear, babybear-w}
@@ -102,10 +103,6 @@ five = lift 5 ++ lift 0
 -- what is refused by 1 to 12, which leave the buffer as it is
 abbrev pub plain : ℕ → List ℕ → List ℕ
 plain n buffer = n ∷ 0 ∷ 0 ∷ 0 ∷ buffer
-
-pub record Case : Type 0 where
-  pub computed : List ℕ
-  pub expected : List ℕ
 
 abbrev pub cases : List Case
 cases =
@@ -230,10 +227,6 @@ cases =
       expected = 0 ∷ 1 ∷ [];
     }
     ∷ []
-
-abbrev pub hold : List Case → Bool
-hold [] = true
-hold (c ∷ cs) = same-list (c .computed) (c .expected) && hold cs
 
 pub cases-hold : T (hold cases)
 unfolding powM inverse1 add4 sub4 mul4 scale4 power4 sum4 product4 conjugate conjugate2 norm2 norm inverse4 is-zero element fold tab total every some-of first joined cabinet all-below all-within node decode row-of window node-value values row-values node-degree degrees traces-within nodes-within traces-fit nodes-fit traces-below constants-below nodes-known degrees-low name-start tuple-start multiplicity-start flag-start element-start tuple-width multiplicity-node flag-node tuple-nodes lookups-within lookups-fit sizes words-below known lengths-agree nodes-present lists-agree in-position has-lookups preprocessed-enough rows-enough tuple combine denominator quotient4 branches multiplicity flag chosen denom used-denom additive-fraction additive-fault exclusive-fraction exclusive-fault fraction fault fault-refusal place fraction-at row-sum accumulator row-words fault-at row-fault trace first-fault used entry-refusal rows-outcome entry-outcome generation others additive-numerator additive-denominator exclusive-numerator exclusive-denominator numerator common-denominator cell cell-sum lookup-constraint step binding row-verdict rows-verdict constraints-refusal verdict count lookup-entries row-entries entries same-list post ledger listed met tuples-met row-part

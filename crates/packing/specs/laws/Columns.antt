@@ -1,7 +1,7 @@
 -- What the columns of packing keep of the lookups.
 use mathlib.Core.Path.{_≡_, refl, sym, ap, ap₂, _∙_}
 use mathlib.Core.Bool.{Bool, true, false, cond, not, _&&_, _||_}
-use mathlib.Core.List.{List, [], _∷_, _++_, append-nil, append-assoc, map, flatMap, List·Memᴰ, List·Memᴰ·head, List·Memᴰ·tail, List·Memᴰ·cases-cons}
+use mathlib.Core.List.{List, [], _∷_, _++_, append-nil, append-assoc, map, flatMap, List·Memᴰ, List·Memᴰ·head, List·Memᴰ·tail, List·Memᴰ·cases-cons, map-append}
 use mathlib.Core.Logic.{_⊎_, inl, inr}
 use Prim.Native.Nat.{ℕ, zero, suc, _+_, _<_, _≤_}
 use native.Mathlib.Omega.{arith}
@@ -13,7 +13,7 @@ use Rattle.lookup.specs.Lookups.{Lookups, Lookup, lookup-count, lookup-at, look
 use Rattle.degree.specs.Degree.{denominator-degree, numerator-degree, additive-degree, exclusive-degree, lookup-degree}
 use Rattle.widths.specs.Order.{keep, position, by-place, numbers, same, same-bus, place, arranged}
 use Rattle.packing.specs.Packing.{passes, additive-on, on-one-bus, in-order, merged, joins, fill, filled, numbered, renumbered, packed}
-use Rattle.widths.specs.laws.Order.{keep-append, keep-same, keep-none, keep-cong, keep-map, map-append, position-none, sum-append, sum-map, tab-map, numbers-length, arranged-sum, arranged-in, by-place-keep, by-place-front, same-eq}
+use Rattle.widths.specs.laws.Order.{keep-append, keep-same, keep-none, keep-cong, keep-map, position-none, sum-append, sum-map, tab-map, numbers-length, arranged-sum, arranged-in, by-place-keep, by-place-front, same-eq}
 
 pub and-both : (a b : Bool) → (a && b) ≡ true → (a ≡ true) × (b ≡ true)
 and-both true b e = (refl, e)

@@ -10,7 +10,7 @@ use Rattle.field.specs.Element.{add4, mul4, scale4, power4}
 use Rattle.expression.specs.Limits.{cabinet}
 use Rattle.expression.specs.Words.{all-below}
 use Rattle.expression.specs.Refusal.{answer-number, answer-details}
-use Rattle.expression.specs.laws.Cases.{Case, hold}
+use Rattle.lists.specs.Cases.{Case, hold}
 use Rattle.expression.specs.declared.refusal.Refusal.{Refusal}
 use Rattle.prefixes.specs.Prefixes.{prefix-by, prefixes-fit, prefixes-refusal, prefixes-after}
 

@@ -8,27 +8,10 @@ use lib.ListN.{length, length-append, List·getD-append}
 use lib.Seq.{getD-append-add}
 use Rattle.lists.specs.Count.{joined}
 use Rattle.lists.specs.Tab.{tab}
-use Rattle.lists.specs.laws.Count.{last-or-below}
+use Rattle.lists.specs.laws.Joined.{joined-length, joined-at}
 use Rattle.field.specs.Element.{at, mul4, power4, element}
 use Rattle.column.specs.laws.Powers.{power-four}
 use Rattle.prepared.specs.Ready.{Powered}
-
-pub joined-length : (f : ℕ → List ℕ) (m n : ℕ) → ((i : ℕ) → length (f i) ≡ m) → length (joined f 0 n) ≡ m * n
-unfolding joined
-joined-length f m zero h = omega arith
-joined-length f m (suc n) h = simp length-append (omega (arith, joined-length f m n h, h (0 + n), mul-suc m n))
-
--- word c of list i
-pub joined-at : (f : ℕ → List ℕ) (m n i c : ℕ) → ((i : ℕ) → length (f i) ≡ m) → i < n → c < m → at (joined f 0 n) (m * i + c) ≡ at (f i) c
-unfolding joined
-joined-at f m zero i c h l k = absurd (omega arith)
-joined-at f m (suc n) i c h l k =
-    last-or-below (λ (i : ℕ). at (joined f 0 n ++ f (0 + n)) (m * i + c) ≡ at (f i) c) n i l
-    (ap (λ (x : ℕ). at (joined f 0 n ++ f (0 + n)) (x + c)) (sym (joined-length f m n h)) ∙ getD-append-add (joined f 0 n) (f (0 + n)) c 0 ∙ ap (λ (j : ℕ). at (f j) c) (zero-add n))
-    (λ t. List·getD-append (joined f 0 n) (f (0 + n)) 0 (m * i + c) (rw (joined-length f m n h) (below t)) ∙ joined-at f m n i c h t k)
-  where
-    below : i < n → m * i + c < m * n
-    below t = omega (arith, mul-suc m i, mul-le-mul-left m t)
 
 pub element-append : (l k : List ℕ) (i : ℕ) → 4 * i + 4 ≤ length l → element (l ++ k) i ≡ element l i
 unfolding element

@@ -10,7 +10,7 @@ use Rattle.field.specs.Element.{add4, is-zero}
 use Rattle.expression.specs.Limits.{cabinet}
 use Rattle.expression.specs.Words.{all-below, all-within}
 use Rattle.expression.specs.Refusal.{answer-number, answer-details}
-use Rattle.expression.specs.laws.Cases.{Case, hold}
+use Rattle.lists.specs.Cases.{Case, hold}
 use Rattle.expression.specs.declared.refusal.Refusal.{Refusal}
 use Rattle.lookup.specs.Lookups.{tuple-start}
 use Rattle.protocol.specs.Terminals.{present, terminal, terminal-below, with-terminal, terminal-sum, terminals-refusal}

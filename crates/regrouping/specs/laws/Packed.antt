@@ -11,6 +11,7 @@ use lib.ListN.{length, getD, drop, length-append, length-take, length-drop}
 use Rattle.lists.specs.Count.{joined, total}
 use Rattle.lists.specs.Tab.{tab}
 use Rattle.lists.specs.laws.Tab.{tab-none, tab-length}
+use Rattle.lists.specs.laws.Sums.{total-cong, total-zero, total-add}
 use Rattle.field.specs.Word.{mulM}
 use Rattle.expression.specs.Words.{word}
 use Rattle.expression.specs.Node.{node-count}
@@ -29,7 +30,7 @@ use Rattle.packing.specs.laws.Keeps.{packing-keeps}
 use Rattle.balance.specs.Groups.{Member, local}
 use Rattle.balance.specs.Entries.{count-of, entry-of, row-entries, member-entries, entries}
 use Rattle.balance.specs.Balance.{balance}
-use Rattle.balance.specs.laws.Sums.{tally, tally-append, tally-joined, total-cong}
+use Rattle.balance.specs.laws.Sums.{tally, tally-append, tally-joined}
 use Rattle.regrouping.specs.Same.{on, own, Same, AllSame, Roomy, Packs, AllPacked}
 use Rattle.regrouping.specs.laws.Same.{same-accepted}
 
@@ -126,17 +127,6 @@ module _ (p : ℕ) (vals : List ℕ) where
       ap₂ (λ (u v : List Entry). u ++ v) (row-pairs x (a .0 .plain)) (rows-pairs xs (a .1))
       ∙ sym (pairs-append (x .tuples) (flatMap (λ (x : Lookup). x .tuples) xs) (x .multiplicities) (flatMap (λ (x : Lookup). x .multiplicities) xs) (a .0 .aligned))
 
--- sums over rows and lookups in either order
-total-zero : (n : ℕ) → total (λ i. 0) n ≡ 0
-unfolding total
-total-zero zero = refl
-total-zero (suc n) = ap (λ (k : ℕ). k + 0) (total-zero n)
-
-total-add : (f g : ℕ → ℕ) (n : ℕ) → total f n + total g n ≡ total (λ i. f i + g i) n
-unfolding total
-total-add f g zero = refl
-total-add f g (suc n) = omega (arith, total-add f g n)
-
 module _ (p : ℕ) (t : Table) where
   abbrev at : Lookup → Member
   at x = record { table = t; lookup = x }
@@ -156,7 +146,7 @@ module _ (p : ℕ) (t : Table) where
   by-rows (x ∷ xs) l =
       tally-append (enters x) (flatMap enters xs) l
       ∙ ap₂ _+_ (tally-joined (λ r. row-entries p x (vals r)) height l) (by-rows xs l)
-      ∙ total-add (λ r. tally (row-entries p x (vals r)) l) (λ r. tally (flatMap (λ (y : Lookup). row-entries p y (vals r)) xs) l) height
+      ∙ sym (total-add (λ r. tally (row-entries p x (vals r)) l) (λ r. tally (flatMap (λ (y : Lookup). row-entries p y (vals r)) xs) l) height)
       ∙ total-cong (λ r. tally (row-entries p x (vals r)) l + tally (flatMap (λ (y : Lookup). row-entries p y (vals r)) xs) l)
       (λ r. tally (row-entries p x (vals r) ++ flatMap (λ (y : Lookup). row-entries p y (vals r)) xs) l) height
       (λ r h. sym (tally-append (row-entries p x (vals r)) (flatMap (λ (y : Lookup). row-entries p y (vals r)) xs) l))

@@ -2,9 +2,10 @@
 use mathlib.Core.Path.{_≡_, refl, sym, ap, ap₂, _∙_, subst}
 use mathlib.Core.Bool.{Bool, true, false, cond}
 use mathlib.Core.Option.{none}
-use mathlib.Core.List.{List, [], _∷_, _++_, map, flatMap}
+use mathlib.Core.List.{List, [], _∷_, _++_, map, map-append, flatMap}
 use mathlib.Core.Logic.{_↔_}
 use Prim.Native.Nat.{ℕ, _+_, _<_}
+use Rattle.lists.specs.laws.Tab.{flat-append}
 use Rattle.logup.specs.Ledger.{Entry}
 use Rattle.lookup.specs.Lookups.{Lookup, lookups-of}
 use Rattle.lookup.specs.Table.{Table}
@@ -13,7 +14,6 @@ use Rattle.widths.specs.laws.Order.{keep-append}
 use Rattle.balance.specs.Groups.{Member, members, local, groups}
 use Rattle.balance.specs.Entries.{member-entries, entries}
 use Rattle.balance.specs.Balance.{balance}
-use Rattle.balance.specs.laws.Lists.{flat-append}
 use Rattle.balance.specs.laws.Sums.{tally, tally-append}
 use Rattle.balance.specs.laws.Ledger.{net-same}
 use Rattle.balance.specs.laws.Passes.{Fits, Balanced, Passes, AllGroups, balance-passes}
@@ -23,10 +23,6 @@ use Rattle.regrouping.specs.laws.Groups.{AllZeros, Level, balanced-level
 members-next : (t : Table) (ts : List Table) → members (t ∷ ts) ≡ own t ++ members ts
 unfolding members flatMap
 members-next t ts = refl
-
-map-append : {A B : Type 0} (f : A → B) (xs ys : List A) → map f (xs ++ ys) ≡ map f xs ++ map f ys
-map-append f [] ys = refl
-map-append f (x ∷ xs) ys = ap (λ l. f x ∷ l) (map-append f xs ys)
 
 entries-append : (p : ℕ) (xs ys : List Member) → entries p (xs ++ ys) ≡ entries p xs ++ entries p ys
 unfolding entries

@@ -11,7 +11,7 @@ use Rattle.lookup.specs.Lookups.{Lookups, exclusive}
 use Rattle.logup.specs.Tuple.{quotient4}
 use Rattle.logup.specs.Column.{Place, branches, multiplicity, flag, used-denom, chosen, branch-fraction, exclusive-fraction, additive-fraction, fraction}
 use Rattle.logup.specs.Rows.{place, fraction-at}
-use Rattle.prepared.specs.laws.Table.{joined-length}
+use Rattle.lists.specs.laws.Joined.{joined-length}
 
 -- a fraction is four words
 option-four : (p w : ℕ) (c : Place) (o : Option ℕ) → length (branch-fraction p w c o) ≡ 4

@@ -6,6 +6,7 @@ use native.Mathlib.Omega.{arith}
 use lib.ListN.{length, take, drop, length-append, length-take, length-drop}
 use Rattle.lists.specs.Count.{total}
 use Rattle.lists.specs.laws.Count.{total-le}
+use Rattle.lists.specs.laws.Sums.{total-head}
 use Rattle.expression.specs.Words.{word}
 use Rattle.lookup.specs.Lookups.{lookup-count, name-start, tuple-start, multiplicity-start, flag-start, element-start}
 use Rattle.segments.specs.Parts.{start-at, span-at, part-at, parts-of}
@@ -20,11 +21,6 @@ start-le Tuples lookups tuples i j h = total-le _ i j h
 start-le Multiplicities lookups tuples i j h = total-le _ i j h
 start-le Flags lookups tuples i j h = total-le _ i j h
 start-le Elements lookups tuples i j h = total-le _ _ _ (total-le _ i j h)
-
-total-head : (f : ℕ → ℕ) (n : ℕ) → total f (suc n) ≡ f 0 + total (λ k. f (suc k)) n
-unfolding total
-total-head f zero = omega arith
-total-head f (suc n) = omega (arith, total-head f n)
 
 -- all parts lie in src
 module _ (part : Part) (lookups tuples src : List ℕ) (room : start-at part lookups tuples (lookup-count lookups) ≤ length src) where

@@ -9,7 +9,7 @@ use lib.ListN.{length, length-map}
 use Rattle.lists.specs.laws.Count.{and-left, and-right}
 use Rattle.field.specs.Word.{addM}
 use Rattle.field.specs.Modulus.{Modulus, Certificate, babybear, babybear-w}
-use Rattle.field.specs.laws.Extension.{K, babybear-certificate}
+use Rattle.field.specs.laws.Extension.{K, babybear-certificate, babybear-modulus}
 use Rattle.field.specs.laws.Homomorphism.{KEl, el}
 use Rattle.fractions.specs.Distinct.{Distinct}
 use Rattle.fractions.specs.Tables as Tables
@@ -25,7 +25,7 @@ use Rattle.lookup.specs.Valid.{Fitting}
 use Rattle.logup.specs.Generation.{accepts, terminal-words}
 use Rattle.logup.specs.Ledger.{has-ledger, Entry, entries, tuples-met, Element, Listed, at-pair}
 use Rattle.soundness.specs.Demand3.{FullSet, AllWide, answer-at, AtEachPair, Balanced, Demand3}
-use Rattle.soundness.specs.laws.Setting.{N, same-of-el, babybear-modulus}
+use Rattle.soundness.specs.laws.Setting.{N, same-of-el}
 use Rattle.soundness.specs.laws.Values.{fitting-of}
 use Rattle.soundness.specs.laws.Ledgers.{ledger-is, met-is, table-of}
 use Rattle.soundness.specs.laws.Answers.{accepted-of}

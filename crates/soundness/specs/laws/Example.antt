@@ -13,7 +13,7 @@ use Rattle.lists.specs.laws.Tests.{chain, Passed, passed}
 use Rattle.field.specs.Word.{inverse1}
 use Rattle.field.specs.Element.{at, lift, add4, sub4, mul4, scale4, power4, sum4, conjugate, conjugate2, norm2, norm, inverse4, is-zero, element}
 use Rattle.field.specs.Modulus.{babybear, babybear-w}
-use Rattle.field.specs.laws.Extension.{babybear-certificate}
+use Rattle.field.specs.laws.Extension.{babybear-certificate, babybear-modulus}
 use Rattle.fractions.specs.Distinct.{Distinct}
 use Rattle.fractions.specs.Sets.{Pairing}
 use Rattle.expression.specs.Words.{all-below, all-within}
@@ -33,7 +33,6 @@ use Rattle.logup.specs.Generation.{entry-refusal, rows-outcome, entry-outcome, 
 use Rattle.logup.specs.Ledger.{has-ledger, Element, at-pair, count, lookup-entries, row-entries, entries, same-list, listed, met, tuples-met}
 use Rattle.logup.specs.laws.Cases.{additive, no-lookup}
 use Rattle.soundness.specs.Demand3.{FullSet, AllWide, AtEachPair, SameLedger, answer-at}
-use Rattle.soundness.specs.laws.Setting.{babybear-modulus}
 use Rattle.soundness.specs.laws.Elements.{element-lift}
 use Rattle.soundness.specs.laws.Ledgers.{same-list-eq}
 use Rattle.soundness.specs.laws.Demand3.{balanced}

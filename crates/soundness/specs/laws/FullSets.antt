@@ -13,6 +13,7 @@ use lib.ListN.{length, take, length-append, length-map}
 use lib.Seq.{length-take-le}
 use Rattle.lists.specs.Count.{total, joined}
 use Rattle.lists.specs.laws.Count.{and-left, and-right}
+use Rattle.lists.specs.laws.Joined.{joined-length}
 use Rattle.field.specs.Element.{at}
 use Rattle.field.specs.Modulus.{Certificate, babybear, babybear-w}
 use Rattle.field.specs.laws.Extension.{h, babybear-certificate}
@@ -127,11 +128,6 @@ module _ (m : Limits) (p w : ℕ) (C : Certificate p w) (t₁ t₂ : Table) (wid
       )
 
 -- how many entries a table has
-joined-lengths : {A : Type 0} (f : ℕ → List A) (n k : ℕ) → ((i : ℕ) → length (f i) ≡ k) → length (joined f 0 n) ≡ k * n
-unfolding joined
-joined-lengths f zero k each = omega arith
-joined-lengths f (suc n) k each = length-append (joined f 0 n) (f (0 + n)) ∙ omega (arith, joined-lengths f n k each, each (0 + n))
-
 joined-total : {A : Type 0} (f : ℕ → List A) (g : ℕ → ℕ) (n : ℕ) → ((i : ℕ) → length (f i) ≡ g i) → length (joined f 0 n) ≡ total g n
 unfolding joined total
 joined-total f g zero each = refl
@@ -141,11 +137,11 @@ joined-total f g (suc n) each =
 entries-length : (p : ℕ) (t : Table) → length (entries p t) ≡ tuple-start (t .lookups .lookups) (lookup-count (t .lookups .lookups)) * t .traces .shape .height
 unfolding entries row-entries lookup-entries tuple-start
 entries-length p t =
-    joined-lengths (λ r. row-entries p (t .lookups) (row-values p (t .nodes) (t .traces) r)) (t .traces .shape .height)
-    (total (tuple-count (t .lookups .lookups)) (lookup-count (t .lookups .lookups)))
+    joined-length (λ r. row-entries p (t .lookups) (row-values p (t .nodes) (t .traces) r))
+    (total (tuple-count (t .lookups .lookups)) (lookup-count (t .lookups .lookups))) (t .traces .shape .height)
     (λ r.
     joined-total (lookup-entries p (t .lookups) (row-values p (t .nodes) (t .traces) r)) (tuple-count (t .lookups .lookups)) (lookup-count (t .lookups .lookups))
-    (λ i. joined-lengths (λ k. entry p (t .lookups) (row-values p (t .nodes) (t .traces) r) i k ∷ []) (tuple-count (t .lookups .lookups) i) 1 (λ k. refl) ∙ omega arith))
+    (λ i. joined-length (λ k. entry p (t .lookups) (row-values p (t .nodes) (t .traces) r) i k ∷ []) 1 (tuple-count (t .lookups .lookups) i) (λ k. refl) ∙ omega arith))
 
 met-length : (es : List Entry) → length (met es) ≤ length es
 unfolding met

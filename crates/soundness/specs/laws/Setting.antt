@@ -9,16 +9,12 @@ use lib.Dec.{lit<, lit≤}
 use lib.ListN.{length}
 use Rattle.field.specs.Word.{addM}
 use Rattle.field.specs.Element.{at, lift}
-use Rattle.field.specs.Modulus.{Modulus, Certificate, babybear}
+use Rattle.field.specs.Modulus.{Modulus, Certificate}
 use Rattle.field.specs.laws.Extension.{K, h}
 use Rattle.field.specs.laws.Homomorphism.{KEl, el, el-add, el-same, word-same}
 use Rattle.field.specs.laws.Element.{lift-add}
 use Rattle.fractions.specs.Tables.{Entries}
 use Rattle.logup.specs.Ledger.{Entry, Element}
-
--- the modulus of the field in use
-pub babybear-modulus : Modulus babybear
-babybear-modulus = record { big = lit< tt; small = lit≤ tt }
 
 pub as-four : (l : List ℕ) → length l ≡ 4 → l ≡ at l 0 ∷ at l 1 ∷ at l 2 ∷ at l 3 ∷ []
 as-four [] e = absurd (omega arith)

@@ -8,23 +8,9 @@ use lib.ListN.{length, getD, length-append, List·getD-append}
 use lib.Seq.{getD-append-add, ext-getD}
 use Rattle.lists.specs.Count.{joined}
 use Rattle.lists.specs.Tab.{tab}
-use Rattle.lists.specs.laws.Count.{last-or-below}
+use Rattle.lists.specs.laws.Joined.{joined-length, joined-at}
 use Rattle.lists.specs.laws.Tab.{tab-length, tab-get}
 use Rattle.wire.specs.Wire.{word-of, word-at, words-of, word-bytes, bytes-of}
-
-joined-length : (f : ℕ → List ℕ) (m n : ℕ) → ((i : ℕ) → length (f i) ≡ m) → length (joined f 0 n) ≡ m * n
-unfolding joined
-joined-length f m zero h = omega arith
-joined-length f m (suc n) h = simp length-append (omega (arith, joined-length f m n h, h (0 + n), mul-suc m n))
-
--- byte c of word i
-joined-at : (f : ℕ → List ℕ) (n i c : ℕ) → ((i : ℕ) → length (f i) ≡ 4) → i < n → c < 4 → getD (joined f 0 n) (4 * i + c) 0 ≡ getD (f i) c 0
-unfolding joined
-joined-at f zero i c h l k = absurd (omega arith)
-joined-at f (suc n) i c h l k =
-    last-or-below (λ i. getD (joined f 0 n ++ f (0 + n)) (4 * i + c) 0 ≡ getD (f i) c 0) n i l
-    (ap (λ (x : ℕ). getD (joined f 0 n ++ f (0 + n)) (x + c) 0) (sym (joined-length f 4 n h)) ∙ getD-append-add (joined f 0 n) (f (0 + n)) c 0 ∙ ap (λ (j : ℕ). getD (f j) c 0) (zero-add n))
-    (λ t. List·getD-append (joined f 0 n) (f (0 + n)) 0 (4 * i + c) (rw (joined-length f 4 n h) (omega arith)) ∙ joined-at f n i c h t k)
 
 four : (x : ℕ) → length (word-bytes x) ≡ 4
 unfolding word-bytes
@@ -54,7 +40,7 @@ word-back : (ws : List ℕ) (i : ℕ) → i < length ws → getD ws i 0 < 429496
 unfolding word-at bytes-of word-bytes
 word-back ws i l b =
     let f : ℕ → List ℕ = λ j. word-bytes (getD ws j 0) in
-    let at : (c : ℕ) → c < 4 → getD (joined f 0 (length ws)) (4 * i + c) 0 ≡ getD (f i) c 0 = λ c k. joined-at f (length ws) i c (λ j. four (getD ws j 0)) l k in
+    let at : (c : ℕ) → c < 4 → getD (joined f 0 (length ws)) (4 * i + c) 0 ≡ getD (f i) c 0 = λ c k. joined-at f 4 (length ws) i c (λ j. four (getD ws j 0)) l k in
     let z : 4 * i + 0 ≡ 4 * i = omega arith in
     ap₂ (λ (x y : ℕ). word-of x y (getD (joined f 0 (length ws)) (4 * i + 2) 0) (getD (joined f 0 (length ws)) (4 * i + 3) 0))
     (ap (λ (k : ℕ). getD (joined f 0 (length ws)) k 0) (sym z) ∙ at 0 (omega arith)) (at 1 (omega arith))

@@ -18,6 +18,7 @@ use Rattle.field.specs.Word.{inverse1}
 use Rattle.lists.specs.Count.{total, every, some-of, first, joined}
 use Rattle.lists.specs.Fold.{fold}
 use Rattle.lists.specs.Tab.{tab}
+use Rattle.lists.specs.Cases.{hold}
 use Rattle.logup.specs.Column.{branches, multiplicity, flag, chosen, denom, used-denom, additive-fraction, additive-fault, exclusive-fraction, exclusive-fault, fraction, fault}
 use Rattle.logup.specs.Constraints.{others, additive-numerator, additive-denominator, exclusive-numerator, exclusive-denominator, numerator, common-denominator, cell, cell-sum, lookup-constraint, step, binding, row-verdict, rows-verdict, constraints-refusal, verdict}
 use Rattle.logup.specs.Generation.{entry-refusal, rows-outcome, entry-outcome, generation}
@@ -37,11 +38,7 @@ use Rattle.protocol.specs.Terminals.{present, terminal, terminal-below, with-te
 use Rattle.widths.specs.Door.{size-start, table-at, tables-of, lists-fit, table-fits, all-fit, widths-answer}
 use Rattle.widths.specs.Order.{keep, position, by-place, numbers, same, name-at, alone-at, same-bus, place as packing-place, arranged}
 use Rattle.widths.specs.Widths.{width-in-lookup, width-in-table, expected, by-bus, lookup-refusal, table-refusal, widths-refusal, widest-in-lookup, widest-in-table, widest}
-use Rattle.worked.specs.Table.{Case, cases}
-
-abbrev pub hold : List Case → Bool
-hold [] = true
-hold (c ∷ cs) = same-list (c .computed) (c .expected) && hold cs
+use Rattle.worked.specs.Table.{cases}
 
 pub cases-hold : T (hold cases)
 unfolding powM inverse1 add4 sub4 mul4 scale4 power4 sum4 product4 conjugate conjugate2 norm2 norm inverse4 is-zero element fold tab total every some-of first joined cabinet all-below all-within node decode row-of window node-value values row-values node-degree degrees traces-within nodes-within traces-fit nodes-fit traces-below constants-below nodes-known degrees-low name-start tuple-start multiplicity-start flag-start element-start tuple-width multiplicity-node flag-node tuple-nodes lookups-within lookups-fit sizes words-below known lengths-agree nodes-present lists-agree in-position has-lookups preprocessed-enough rows-enough tuple combine denominator quotient4 branches multiplicity flag chosen denom used-denom additive-fraction additive-fault exclusive-fraction exclusive-fault fraction fault fault-refusal place fraction-at row-sum accumulator row-words fault-at row-fault trace first-fault used entry-refusal rows-outcome entry-outcome generation others additive-numerator additive-denominator exclusive-numerator exclusive-denominator numerator common-denominator cell cell-sum lookup-constraint step binding row-verdict rows-verdict constraints-refusal verdict count lookup-entries row-entries entries same-list post ledger listed met tuples-met row-part flatMap zipWith lookup-at lookups-of sum-of largest-of greatest tuple-degree denominator-degree numerator-degree additive-degree exclusive-degree lookup-degree columns-within form-sizes nodes-refusal lists-refusal form-refusal shape-of degree-refusal degree-answer keep position by-place numbers same name-at alone-at same-bus packing-place arranged width-in-lookup width-in-table expected by-bus lookup-refusal table-refusal widths-refusal widest-in-lookup widest-in-table widest size-start table-at tables-of lists-fit table-fits all-fit widths-answer in-order fill filled renumbered packed overweight lookup-words words-of holds columns packing-refusal packing prefix-by prefixes-fit prefixes-refusal present terminal terminal-below with-terminal terminal-sum terminals-refusal table-start table-lookups weight-sum table-weight height-sum lookups-small tables-within tables-fit height-refusal

@@ -1,10 +1,10 @@
-use Rattle.field.specs.laws.Extension.{babybear-certificate}
+use Rattle.field.specs.laws.Extension.{babybear-certificate, babybear-modulus}
 use Rattle.field.specs.Element.{inverse4}
 use Rattle.field.specs.Modulus.{babybear, babybear-w}
 use native.Mathlib.Omega.{arith}
 use mathlib.Core.List.{List}
 use mathlib.Core.Path.{_≡_, sym, ap, _∙_}
-use Rattle.telling.proofs.Tested.{Tested, tested, loaded, loaded-words, untouched, babybear-modulus}
+use Rattle.telling.proofs.Tested.{Tested, tested, loaded, loaded-words, untouched}
 use borrow.Author.Needs.{needs}
 use Rattle.telling.proofs.element.inverse.Statement.{statement}
 use Rattle.telling.proofs.element.inverse.Tie as tie

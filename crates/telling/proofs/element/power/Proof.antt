@@ -1,10 +1,11 @@
 use Prim.Native.Nat.{ℕ}
 use Rattle.field.specs.Element.{power4}
 use Rattle.field.specs.Modulus.{babybear, babybear-w}
+use Rattle.field.specs.laws.Extension.{babybear-modulus}
 use native.Mathlib.Omega.{arith}
 use mathlib.Core.List.{List}
 use mathlib.Core.Path.{_≡_, sym, ap, _∙_}
-use Rattle.telling.proofs.Tested.{Tested, tested, loaded, loaded-words, untouched, babybear-modulus}
+use Rattle.telling.proofs.Tested.{Tested, tested, loaded, loaded-words, untouched}
 use borrow.Author.Needs.{needs}
 use Rattle.telling.proofs.element.power.Statement.{statement}
 use Rattle.telling.proofs.element.power.Tie as tie
