@@ -69,6 +69,16 @@ uint32_t delmatik_pack(uint64_t limit, size_t main_width, size_t pre_width, size
     uint32_t *flags_out, size_t flags_out_len, uint32_t *elements_out, size_t elements_out_len,
     uint64_t used[6], uint64_t details[3]);
 
+/* from_interactions: the words of the lookups into the front of lookups_out, eight each, in column order; used says how many were written.
+ * interactions has two words for each, locals first, then globals, then exclusives: the length of its name and the number of its tuples, one
+ * for a global. weights has one for each tuple. The other lists are those that the lookups will have. */
+uint32_t delmatik_build(size_t main_width, size_t pre_width, size_t public_values, const uint32_t *nodes, size_t nodes_len,
+    size_t locals, size_t globals, size_t exclusives, const uint32_t *interactions, size_t interactions_len,
+    const uint32_t *weights, size_t weights_len, const uint8_t *names, size_t names_len,
+    const uint32_t *tuples, size_t tuples_len, const uint32_t *multiplicities, size_t multiplicities_len,
+    const uint32_t *flags, size_t flags_len, const uint32_t *elements, size_t elements_len,
+    uint32_t *lookups_out, size_t lookups_out_len, uint64_t used[1], uint64_t details[3]);
+
 /* check_bus_widths over several tables, their lists one after the other; sizes has three for each table: lookups, bytes of names, tuples. */
 uint32_t delmatik_widths(const uint32_t *lookups, size_t lookups_len, const uint8_t *names, size_t names_len,
     const uint32_t *tuples, size_t tuples_len, const uint32_t *sizes, size_t sizes_len, uint64_t widest[1], uint64_t details[3]);

@@ -267,7 +267,7 @@ mod against_crate {
 
     pub fn building(case: &Case) -> (Answer, Checked) {
         let t = &case.tables[0];
-        let (answer, built) = model::build(&case.interactions);
+        let (answer, built) = model::build(t, &case.interactions);
         if !oracle::takes(t) || case.interactions.iter().any(|i| !nodes_of(i).iter().all(|n| (*n as usize) < t.node_count())) {
             return (answer, Ok(Compared::Untaken));
         }
@@ -275,7 +275,8 @@ mod against_crate {
         let run = || oracle::build(t, &case.interactions);
         let checked = match answer.number {
             0 => answers(run(), built),
-            _ => panics(run(), &format!("local lookup: tuple widths {expected} and {actual} differ")),
+            6 => panics(run(), &format!("local lookup: tuple widths {expected} and {actual} differ")),
+            _ => Ok(Compared::Limit),
         };
         (answer, checked)
     }
@@ -407,6 +408,8 @@ fn check_port(case: &Case, port: &dyn Port, tally: &mut Tally) -> Result<(), Dis
     }
     let answer = model::pack(t, case.limit);
     run("packing", port.pack(t, case.limit).map(|ported| equal("answer", &answer, &ported)))?;
+    let answer = model::build(t, &case.interactions);
+    run("building", port.build(t, &case.interactions).map(|ported| equal("answer", &answer, &ported)))?;
     let answer = model::widths(&case.tables);
     run("widths", port.widths(&case.tables).map(|ported| equal("answer", &answer, &ported)))?;
     let answer = model::height_bound(&case.tables, &case.heights);

@@ -516,8 +516,26 @@ pub fn pack(t: &Table, limit: u64) -> (Answer, Vec<Lookup>) {
     (ACCEPTED, columns)
 }
 
-/// Building, over nodes that are there.
-pub fn build(interactions: &[Interaction]) -> (Answer, Vec<Lookup>) {
+/// Building for a table: what is built is tested by 1 to 5 as the table's own lookups are, then its locals by 6.
+pub fn build(t: &Table, interactions: &[Interaction]) -> (Answer, Vec<Lookup>) {
+    let built = lookups_of(interactions);
+    let mut table = t.clone();
+    table.set_records(&built);
+    let number = plan_refusal(&table);
+    if number != 0 {
+        return (refused(number), vec![]);
+    }
+    for (i, local) in built.iter().enumerate().filter(|(_, l)| l.bus.is_none()) {
+        let widths: Vec<usize> = local.tuples.iter().map(Vec::len).collect();
+        if let Some(other) = widths.iter().find(|w| **w != widths[0]) {
+            return (with_details(6, [i, widths[0], *other]), vec![]);
+        }
+    }
+    (ACCEPTED, built)
+}
+
+/// The lookups of locals, then globals, then exclusives.
+fn lookups_of(interactions: &[Interaction]) -> Vec<Lookup> {
     let locals = interactions.iter().filter(|i| matches!(i, Interaction::Local(_)));
     let globals = interactions.iter().filter(|i| matches!(i, Interaction::Global(..)));
     let exclusives = interactions.iter().filter(|i| matches!(i, Interaction::Exclusive(..)));
@@ -533,12 +551,6 @@ pub fn build(interactions: &[Interaction]) -> (Answer, Vec<Lookup>) {
         let weights = parts.iter().map(|part| u64::from(part.weight));
         let exclusive = matches!(interaction, Interaction::Exclusive(..));
         let weight = if exclusive { weights.max().unwrap_or(0) } else { weights.sum() };
-        if let (None, Some(first)) = (bus, parts.first()) {
-            let expected = first.elements.len();
-            if let Some(other) = parts.iter().find(|part| part.elements.len() != expected) {
-                return (with_details(6, [column, expected, other.elements.len()]), vec![]);
-            }
-        }
         built.push(Lookup {
             bus: bus.cloned(),
             weight: weight.min(u32::MAX.into()) as u32,
@@ -549,7 +561,7 @@ pub fn build(interactions: &[Interaction]) -> (Answer, Vec<Lookup>) {
             flags,
         });
     }
-    (ACCEPTED, built)
+    built
 }
 
 /// The word of a count's constant node, and its weight.

@@ -3,7 +3,7 @@
 use crate::model::ACCEPTED;
 use crate::model::Answer;
 use crate::plain::Ext;
-use crate::table::{Lookup, Table};
+use crate::table::{Interaction, Lookup, Table};
 
 /// A door that the port does not export yet gives `None`.
 pub trait Port {
@@ -16,6 +16,10 @@ pub trait Port {
     }
 
     fn pack(&self, _t: &Table, _limit: u64) -> Option<(Answer, Vec<Lookup>)> {
+        None
+    }
+
+    fn build(&self, _t: &Table, _interactions: &[Interaction]) -> Option<(Answer, Vec<Lookup>)> {
         None
     }
 
@@ -76,6 +80,24 @@ mod exported {
     use delmatik::{LookupTerminal, Refusal};
 
     use super::*;
+    use crate::table::Part;
+
+    fn interaction(i: &Interaction) -> delmatik::Interaction {
+        let part = |p: &Part| delmatik::Part { elements: p.elements.clone(), multiplicity: p.multiplicity, weight: p.weight };
+        match i {
+            Interaction::Local(parts) => delmatik::Interaction::Local(parts.iter().map(part).collect()),
+            Interaction::Global(bus, p) => delmatik::Interaction::Global(bus.clone(), part(p)),
+            Interaction::Exclusive(bus, branches) => {
+                delmatik::Interaction::Exclusive(bus.clone(), branches.iter().map(|(flag, p)| (*flag, part(p))).collect())
+            }
+        }
+    }
+
+    /// The lookups of a table as records.
+    fn records(t: delmatik::Table) -> Vec<Lookup> {
+        let delmatik::Table { lookups, names, tuples, multiplicities, flags, elements, .. } = t;
+        Table { lookups, names, tuples, multiplicities, flags, elements, ..Table::default() }.records()
+    }
 
     fn tables(tables: &[Table]) -> Vec<delmatik::Table> {
         tables.iter().map(wrapped).collect()
@@ -106,8 +128,13 @@ mod exported {
 
         fn pack(&self, t: &Table, limit: u64) -> Option<(Answer, Vec<Lookup>)> {
             let (answer, packed) = answer(wrapped(t).pack(limit));
-            let delmatik::Table { lookups, names, tuples, multiplicities, flags, elements, .. } = packed;
-            Some((answer, Table { lookups, names, tuples, multiplicities, flags, elements, ..Table::default() }.records()))
+            Some((answer, records(packed)))
+        }
+
+        fn build(&self, t: &Table, interactions: &[Interaction]) -> Option<(Answer, Vec<Lookup>)> {
+            let interactions: Vec<delmatik::Interaction> = interactions.iter().map(interaction).collect();
+            let (answer, built) = answer(wrapped(t).build(&interactions));
+            Some((answer, records(built)))
         }
 
         fn widths(&self, all: &[Table]) -> Option<(Answer, u64)> {

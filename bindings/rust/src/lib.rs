@@ -49,6 +49,22 @@ pub struct Lookup {
     pub flags: Vec<u32>,
 }
 
+/// A tuple before its lookup is built: its nodes, its multiplicity's node and its weight.
+#[derive(Clone, Debug, Default, PartialEq, Eq)]
+pub struct Part {
+    pub elements: Vec<u32>,
+    pub multiplicity: u32,
+    pub weight: u32,
+}
+
+/// What lookups are built from. A branch of an exclusive has a flag's node beside its tuple.
+#[derive(Clone, Debug, PartialEq, Eq)]
+pub enum Interaction {
+    Local(Vec<Part>),
+    Global(Vec<u8>, Part),
+    Exclusive(Vec<u8>, Vec<(u32, Part)>),
+}
+
 /// A table in flat words, as the doors take it.
 #[derive(Clone, Debug, Default, PartialEq, Eq)]
 pub struct Table {
@@ -95,6 +111,39 @@ macro_rules! call {
         call!(@ $door $details ($($done)* $argument,) $($rest)*)
     };
     (@ $door:ident $details:ident ($($done:tt)*)) => { unsafe { sys::$door($($done)* &mut $details) } };
+}
+
+impl Interaction {
+    /// Its place in the order of building.
+    fn kind(&self) -> usize {
+        match self {
+            Interaction::Local(_) => 0,
+            Interaction::Global(..) => 1,
+            Interaction::Exclusive(..) => 2,
+        }
+    }
+
+    fn name(&self) -> &[u8] {
+        match self {
+            Interaction::Local(_) => &[],
+            Interaction::Global(name, _) | Interaction::Exclusive(name, _) => name,
+        }
+    }
+
+    fn parts(&self) -> Vec<&Part> {
+        match self {
+            Interaction::Local(parts) => parts.iter().collect(),
+            Interaction::Global(_, part) => vec![part],
+            Interaction::Exclusive(_, branches) => branches.iter().map(|(_, part)| part).collect(),
+        }
+    }
+
+    fn flags(&self) -> Vec<u32> {
+        match self {
+            Interaction::Exclusive(_, branches) => branches.iter().map(|(flag, _)| *flag).collect(),
+            _ => vec![],
+        }
+    }
 }
 
 impl Table {
@@ -191,6 +240,34 @@ impl Table {
         flags.truncate(f);
         elements.truncate(e);
         Ok(packed)
+    }
+
+    /// `from_interactions`: the table with lookups of these interactions, locals first, then globals, then exclusives.
+    pub fn build(&self, interactions: &[Interaction]) -> Result<Table, Refusal> {
+        let mut built = self.clone().with(&[]);
+        let (mut kinds, mut words, mut weights) = ([0; 3], vec![], vec![]);
+        let mut sorted: Vec<&Interaction> = interactions.iter().collect();
+        sorted.sort_by_key(|i| i.kind());
+        for i in sorted {
+            kinds[i.kind()] += 1;
+            let (name, parts) = (i.name(), i.parts());
+            words.extend([word(name.len()), word(parts.len())]);
+            weights.extend(parts.iter().map(|part| part.weight));
+            built.names.extend(name);
+            built.tuples.extend(parts.iter().map(|part| word(part.elements.len())));
+            built.multiplicities.extend(parts.iter().map(|part| part.multiplicity));
+            built.flags.extend(i.flags());
+            built.elements.extend(parts.iter().flat_map(|part| &part.elements));
+        }
+        built.lookups = vec![0; 8 * interactions.len()];
+        let Table { lookups, names, tuples, multiplicities, flags, elements, .. } = &mut built;
+        let ([locals, globals, exclusives], mut used) = (kinds, 0);
+        call!(delmatik_build(
+            self.main_width, self.pre_width, self.public_values.len(), [self.nodes], locals, globals, exclusives, [words], [weights],
+            [names], [tuples], [multiplicities], [flags], [elements], [mut lookups], &mut used,
+        ))?;
+        lookups.truncate(used as usize);
+        Ok(built)
     }
 
     /// The 14 sizes that a door over several tables takes.

@@ -39,6 +39,11 @@ door!(delmatik_pack(
     [multiplicities: u32], [flags: u32], [elements: u32], [lookups_out: mut u32], [names_out: mut u8], [tuples_out: mut u32],
     [multiplicities_out: mut u32], [flags_out: mut u32], [elements_out: mut u32], used: *mut [u64; 6], details: *mut [u64; 3],
 ));
+door!(delmatik_build(
+    main_width: usize, pre_width: usize, public_values: usize, [nodes: u32], locals: usize, globals: usize, exclusives: usize,
+    [interactions: u32], [weights: u32], [names: u8], [tuples: u32], [multiplicities: u32], [flags: u32], [elements: u32],
+    [lookups_out: mut u32], used: *mut u64, details: *mut [u64; 3],
+));
 door!(delmatik_widths([lookups: u32], [names: u8], [tuples: u32], [sizes: u32], widest: *mut u64, details: *mut [u64; 3],));
 door!(delmatik_height_bound([lookups: u32], [counts: u32], [heights: u32], details: *mut [u64; 3],));
 door!(delmatik_terminals([terminals: u32], details: *mut [u64; 3],));

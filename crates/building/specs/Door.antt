@@ -28,28 +28,34 @@ pub record Given : Type 0 where
   pub flags : List ℕ
   pub elements : List ℕ
 
--- row 1: the sizes of the interactions, before their lookups are tested; a global has one tuple
-unfoldable pub building-fits : Limits → Kinds → Given → ℕ → Bool
-building-fits m k g room =
-    leb (k .locals) (m .lookups)
-    && leb (k .globals) (m .lookups)
-    && leb (k .exclusives) (m .lookups)
-    && leb (interaction-count k) (m .lookups)
-    && eqb (length (g .interactions)) (2 * interaction-count k)
-    && leb (length (g .tuples)) (m .tuples)
-    && eqb (length (g .tuples)) (first-tuple (g .interactions) (interaction-count k))
-    && eqb (length (g .weights)) (length (g .tuples))
-    && every (λ j. eqb (tuple-number (g .interactions) (k .locals + j)) 1) (k .globals)
+-- the words from the lists that are lent
+abbrev pub lent-given : List ℕ → List ℕ → List ℕ → List ℕ → List ℕ → List ℕ → List ℕ → Given
+lent-given interactions weights names tuples multiplicities flags elements =
+    record { interactions = interactions; weights = weights; names = names; tuples = tuples; multiplicities = multiplicities; flags = flags; elements = elements }
+
+-- row 1, "size over a limit, at odds with a slice", of the interactions: two words each, a weight for each tuple, one tuple of each global, and
+-- room for eight words of each lookup
+unfoldable pub building-fits : Limits → Kinds → List ℕ → List ℕ → List ℕ → ℕ → Bool
+building-fits m k interactions weights tuples room =
+    leb (interaction-count k) (m .lookups)
+    && eqb (length interactions) (2 * interaction-count k)
+    && leb (length tuples) (m .tuples)
+    && eqb (length tuples) (first-tuple interactions (interaction-count k))
+    && eqb (length weights) (length tuples)
+    && every (λ j. eqb (tuple-number interactions (k .locals + j)) 1) (k .globals)
     && leb (8 * interaction-count k) room
 
 -- the lookups that are built
 abbrev pub lookups-built : Kinds → Given → Lookups
 lookups-built k g = lent-lookups (built k (g .interactions) (g .weights)) (g .names) (g .tuples) (g .multiplicities) (g .flags) (g .elements)
 
+-- lookups of which the first are locals: 1 to 5 as of every table, then 6
+unfoldable pub built-refusal : Limits → ℕ → Columns → List ℕ → ℕ → Lookups → Option Refusal
+built-refusal m p c nodes locals l = or-else (form-refusal m p c nodes l) (locals-refusal locals (l .lookups) (l .tuples))
+
 unfoldable pub building-refusal : Limits → ℕ → Columns → List ℕ → Kinds → Given → ℕ → Option Refusal
 building-refusal m p c nodes k g room =
-    unless (building-fits m k g room) SizeAtOdds
-    (or-else (form-refusal m p c nodes (lookups-built k g)) (locals-refusal (k .locals) (built k (g .interactions) (g .weights)) (g .tuples)))
+    unless (building-fits m k (g .interactions) (g .weights) (g .tuples) room) SizeAtOdds (built-refusal m p c nodes (k .locals) (lookups-built k g))
 
 pub record Outcome : Type 0 where
   pub answer : BuildingAnswer

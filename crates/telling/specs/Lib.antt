@@ -1,3 +1,4 @@
+pub mod Building
 pub mod Element
 pub mod Generation
 pub mod Constraints

@@ -16,7 +16,7 @@ use Rattle.lookup.specs.Tests.{lookups-within, lookups-fit, lengths-agree, node
 use Rattle.lookup.specs.declared.entry.Columns.{Columns}
 use Rattle.degree.specs.Sums.{greatest}
 use Rattle.building.specs.Building.{first-tuple, weight-sum, weight-top, built-weight, built-words, built, local-refusal, locals-refusal}
-use Rattle.building.specs.Door.{Given, Outcome, building-fits, building-refusal, building}
+use Rattle.building.specs.Door.{Given, Outcome, building-fits, built-refusal, building-refusal, building}
 use Rattle.building.specs.declared.door.Kinds.{Kinds}
 use Rattle.building.specs.declared.door.BuildingAnswer.the-variants.{Built, Refused}
 
@@ -27,7 +27,7 @@ one-column = record { main = 1; preprocessed = 0; «public_values» = 0 }
 abbrev one-node : List ℕ
 one-node = 1 ∷ 0 ∷ 0 ∷ []
 
--- a local of two tuples, a global on "b", an exclusive of two branches on "b"; tuples of one element
+-- a local of two tuples, a global on "b", an exclusive of two branches on "b"
 abbrev three : List ℕ → List ℕ → List ℕ → Given
 three interactions weights tuples =
     record {
@@ -37,7 +37,7 @@ three interactions weights tuples =
       tuples = tuples;
       multiplicities = replicate 5 0;
       flags = 0 ∷ 0 ∷ [];
-      elements = replicate 5 0;
+      elements = replicate (element-start tuples 5) 0;
     }
 
 abbrev one-each : Kinds
@@ -58,10 +58,12 @@ pub cases :
     })
     -- a sum below the stop
     × (building-of (three sized (2 ∷ 1 ∷ 5 ∷ 3 ∷ 7 ∷ []) (replicate 5 1)) .answer ≡ Built 24)
-    -- 6: the local's tuples have widths 0 and 1; those of a bus are not compared here
-    × (building-of (three sized (2 ∷ 1 ∷ 5 ∷ 3 ∷ 7 ∷ []) (0 ∷ 1 ∷ 1 ∷ 1 ∷ 2 ∷ [])) ≡ record { answer = Refused (WidthsDiffer 0 0 1); lookups = replicate 25 9 })
+    -- 6: the local's tuples have widths 2 and 3
+    × (building-of (three sized (2 ∷ 1 ∷ 5 ∷ 3 ∷ 7 ∷ []) (2 ∷ 3 ∷ 1 ∷ 1 ∷ 1 ∷ [])) ≡ record { answer = Refused (WidthsDiffer 0 2 3); lookups = replicate 25 9 })
+    -- the widths of a bus are not compared here
+    × (building-of (three sized (2 ∷ 1 ∷ 5 ∷ 3 ∷ 7 ∷ []) (2 ∷ 2 ∷ 1 ∷ 1 ∷ 2 ∷ [])) .answer ≡ Built 24)
     -- 1: a global of two tuples, and a weight short
     × (building-of (three (0 ∷ 1 ∷ 1 ∷ 2 ∷ 1 ∷ 2 ∷ []) (2 ∷ 1 ∷ 5 ∷ 3 ∷ 7 ∷ []) (replicate 5 1)) .answer ≡ Refused SizeAtOdds)
     × (building-of (three sized (2 ∷ 1 ∷ 5 ∷ 3 ∷ []) (replicate 5 1)) .answer ≡ Refused SizeAtOdds)
-unfolding total every first joined all-below all-within cabinet decode node node-degree degrees nodes-within nodes-fit constants-below nodes-known degrees-low name-start tuple-start multiplicity-start flag-start element-start tuple-width columns-within form-sizes nodes-refusal lists-refusal form-refusal shape-of lookups-within lookups-fit lengths-agree nodes-present lists-agree greatest first-tuple weight-sum weight-top built-weight built-words built local-refusal locals-refusal building-fits building-refusal building
-cases = (refl, refl, refl, refl, refl)
+unfolding total every first joined all-below all-within cabinet decode node node-degree degrees nodes-within nodes-fit constants-below nodes-known degrees-low name-start tuple-start multiplicity-start flag-start element-start tuple-width columns-within form-sizes nodes-refusal lists-refusal form-refusal shape-of lookups-within lookups-fit lengths-agree nodes-present lists-agree greatest first-tuple weight-sum weight-top built-weight built-words built local-refusal locals-refusal building-fits built-refusal building-refusal building
+cases = (refl, refl, refl, refl, refl, refl)

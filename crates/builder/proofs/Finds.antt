@@ -1,0 +1,56 @@
+-- The first refusal of the locals.
+use mathlib.Core.Path.{_≡_, refl, sym, ap, ap₂, _∙_}
+use mathlib.Core.Bool.{true, false, not}
+use mathlib.Core.Option.{Option, none, some}
+use mathlib.Core.List.{List}
+use Prim.Native.Nat.{ℕ, _+_, _<_, _≤_, zero-le}
+use native.Mathlib.Omega.{arith}
+use native.Mathlib.Nat.{add-zero}
+use lib.Dec.{ltb}
+use lib.ListN.{length}
+use borrow.Author.Tests.{ltb-true, ltb-false, not-true, not-false}
+use Rattle.lists.specs.Count.{first, or-else}
+use Rattle.lists.specs.laws.Count.{first-one, total-in}
+use Rattle.expression.specs.Words.{word}
+use Rattle.expression.specs.declared.refusal.Refusal.{Refusal}
+use Rattle.lookup.specs.Lookups.{lookup-count, tuple-count, tuple-start, tuple-width}
+use Rattle.widths.specs.Widths.{tuple-refusal}
+use Rattle.building.specs.Building.{local-refusal}
+
+-- o is the first that is there of the first i
+pub record Finding {A : Type 0} (f : ℕ → Option A) (n i : ℕ) (o : Option A) : Type 0 where
+  pub within : i ≤ n
+  pub is : o ≡ first f i
+
+module _ {A : Type 0} where
+  pub find-begins : {f : ℕ → Option A} {n : ℕ} → Finding f n 0 none
+  unfolding first
+  find-begins = record { within = zero-le; is = refl }
+
+  pub find-turn : {f : ℕ → Option A} {n i : ℕ} {o o′ : Option A} (x : Option A) → Finding f n i o → i < n → o′ ≡ or-else o x → x ≡ f i → Finding f n (i + 1) o′
+  find-turn {f} {n} {i} {o} {o′} x s h e g = record { within = omega arith; is = e ∙ ap₂ or-else (s .is) g ∙ sym (first-one f i) }
+
+  pub find-ends : {f : ℕ → Option A} {n i : ℕ} {o : Option A} → Finding f n i o → n ≤ i → o ≡ first f n
+  find-ends {f} {n} {i} {o} s h = let e : i ≡ n = omega (arith, s .within) in s .is ∙ ap (first f) e
+
+-- the tuples of lookup i lie in the list
+pub tuples-in : (l t : List ℕ) (i : ℕ) → i < lookup-count l → tuple-start l (lookup-count l) ≤ length t → tuple-start l i + tuple-count l i ≤ length t
+unfolding tuple-start
+tuples-in l t i h e = omega (arith, e, total-in (tuple-count l) i (lookup-count l) h)
+
+pub first-in : {n s : ℕ} (l t : List ℕ) (i : ℕ) → i < lookup-count l → tuple-start l (lookup-count l) ≤ length t → n ≡ tuple-count l i → not (ltb 0 n) ≡ false → s ≡ tuple-start l i → s < length t
+first-in {n} {s} l t i h e f g q =
+    let a : 0 < n = ltb-true 0 n (not-false (ltb 0 n) g) in
+    omega (arith, tuples-in l t i h e)
+
+-- `local_verdict`: no tuples, or the first is expected
+pub local-none : {n : ℕ} (l t : List ℕ) (i : ℕ) → n ≡ tuple-count l i → not (ltb 0 n) ≡ true → none ≡ local-refusal l t i
+unfolding local-refusal first
+local-none {n} l t i e g =
+    let a : n ≤ 0 = ltb-false 0 n (not-true (ltb 0 n) g) in
+    let z : n ≡ 0 = omega arith in
+    rw (sym e ∙ z) refl
+
+pub local-some : {s : ℕ} {r : Option Refusal} (l t : List ℕ) (i : ℕ) → s ≡ tuple-start l i → r ≡ first (λ k. tuple-refusal i (some (word t s)) (tuple-width l t i k)) (tuple-count l i) → r ≡ local-refusal l t i
+unfolding local-refusal tuple-width
+local-some {s} {r} l t i e g = g ∙ ap (λ (a : ℕ). first (λ k. tuple-refusal i (some (word t a)) (tuple-width l t i k)) (tuple-count l i)) (e ∙ sym (add-zero (tuple-start l i)))

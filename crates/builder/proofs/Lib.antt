@@ -1,0 +1,4 @@
+pub mod Answers
+pub mod Built
+pub mod Finds
+pub mod Sizes
