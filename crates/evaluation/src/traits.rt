@@ -4,13 +4,16 @@ use expression::node::node_at;
 use expression::sizes::Shape;
 use expression::words::index;
 use field::word;
+use window::pair::cell;
+use window::pair::next_row;
+use window::pair::row_of;
 ghost use mathlib.Core.Path.{_≡_};
 ghost use mathlib.Core.List.{_++_};
-ghost use Prim.Native.Nat.{_+_, _*_, _-_, _<_, _≤_, _%_};
-ghost use lib.ListN.{length, replicate};
+ghost use Prim.Native.Nat.{_-_, _<_, _≤_};
+ghost use lib.ListN.{replicate};
 ghost use Rattle.expression.specs.Words.{word};
 ghost use Rattle.expression.specs.Node.{node-count};
-ghost use Rattle.expression.specs.Window.{row-of, two, lent-traces, lent-window};
+ghost use Rattle.expression.specs.Window.{lent-traces, lent-window};
 ghost use Rattle.expression.specs.Values.{bit, node-value, values, row-values};
 ghost use Rattle.expression.specs.Valid.{Slots, Evaluable, Readable, Rows, Ready};
 
@@ -18,18 +21,6 @@ fn bit(b: bool) -> u32
     ensures { λ r. ⌜ (r ≤ 1) × (r ≡ bit b) ⌝ }
 {
     if b { 1 } else { 0 }
-}
-
-// Word a of the row at an offset.
-fn at_offset(current: &[u32], next: &[u32], o: u32, a: u32) -> u32
-    requires { ⌜ (a < length (now current)) × (a < length (now next)) ⌝ }
-    ensures { λ r. ⌜ r ≡ word (two (now (current .entry)) (now (next .entry)) o) a ⌝ }
-{
-    if o == 0 {
-        current[index(a)]
-    } else {
-        next[index(a)]
-    }
 }
 
 // The value of a lower node.
@@ -41,13 +32,13 @@ fn value(vals: &[u32; 1024], a: u32) -> u32
 }
 
 // The value of a node over the two rows and the values of the lower nodes.
-fn node_value(
+fn node_value<'a, 'b>(
     p: u32,
     n: Node,
-    main0: &[u32],
-    main1: &[u32],
-    pre0: &[u32],
-    pre1: &[u32],
+    main0: &'a [u32],
+    main1: &'a [u32],
+    pre0: &'b [u32],
+    pre1: &'b [u32],
     public_values: &[u32],
     row: usize,
     height: usize,
@@ -58,8 +49,8 @@ fn node_value(
 {
     match n {
         Node::Constant(a) => a,
-        Node::Main(o, a) => at_offset(main0, main1, o, a),
-        Node::Preprocessed(o, a) => at_offset(pre0, pre1, o, a),
+        Node::Main(o, a) => cell(main0, main1, o, a),
+        Node::Preprocessed(o, a) => cell(pre0, pre1, o, a),
         Node::PublicValue(a) => public_values[index(a)],
         Node::FirstRow => bit(row == 0),
         Node::LastRow => bit(row + 1 == height),
@@ -73,14 +64,14 @@ fn node_value(
 }
 
 // The values of the first n nodes, in node order, into zeros: operands are already computed.
-pub fn evaluate(
+pub fn evaluate<'a, 'b>(
     p: u32,
     nodes: &[u32],
     n: usize,
-    main0: &[u32],
-    main1: &[u32],
-    pre0: &[u32],
-    pre1: &[u32],
+    main0: &'a [u32],
+    main1: &'a [u32],
+    pre0: &'b [u32],
+    pre1: &'b [u32],
     public_values: &[u32],
     row: usize,
     height: usize,
@@ -108,23 +99,6 @@ pub fn evaluate(
     }
 }
 
-// Row r of a trace, as the part of it that is lent.
-pub fn row_of(s: &[u32], width: usize, height: usize, r: usize) -> &[u32]
-    requires { ⌜ (r < height) × (width * height ≤ length (now s)) ⌝ }
-    ensures { λ t. ⌜ now t ≡ row-of (now (s .entry)) width r ⌝ }
-{
-    let start = r * width;
-    &s[start..start + width]
-}
-
-// The row after row r: row 0 after the last.
-pub fn next_row(r: usize, height: usize) -> usize
-    requires { ⌜ r < height ⌝ }
-    ensures { λ s. ⌜ (s < height) × (s ≡ (r + 1) % height) ⌝ }
-{
-    if r + 1 < height { r + 1 } else { 0 }
-}
-
 // The values of a table's nodes on row r, into zeros. Both traces wrap at main's height.
 pub fn row_values(
     p: u32,
@@ -142,11 +116,12 @@ pub fn row_values(
     let height = shape.height;
     let main_width = shape.main_width;
     let pre_width = shape.pre_width;
-    let next = next_row(r, height);
+    let main_next = next_row(r, height);
+    let pre_next = next_row(r, height);
     let main0 = row_of(main, main_width, height, r);
-    let main1 = row_of(main, main_width, height, next);
+    let main1 = row_of(main, main_width, height, main_next);
     let pre0 = row_of(preprocessed, pre_width, height, r);
-    let pre1 = row_of(preprocessed, pre_width, height, next);
+    let pre1 = row_of(preprocessed, pre_width, height, pre_next);
     evaluate(
         p,
         nodes,

@@ -13,14 +13,14 @@ enum-known-n c = search needs
 enum-known-n-2 : tie.Need-enum-known-n-2
 enum-known-n-2 c = search needs
 
-at-offset-requires : tie.Need-at-offset-requires
-at-offset-requires c κs = rw (c .before .n2 .given .1) at (c .before .before .before .before .before .before .before .before .pre .1)
+cell-requires : tie.Need-cell-requires
+cell-requires c κs = rw (c .before .n2 .given .1) at (c .before .before .before .before .before .before .before .before .pre .1)
 
 enum-known-n-3 : tie.Need-enum-known-n-3
 enum-known-n-3 c = search needs
 
-at-offset-requires-2 : tie.Need-at-offset-requires-2
-at-offset-requires-2 c κs = rw (c .before .n3 .given .1) at (c .before .before .before .before .before .before .before .before .pre .1)
+cell-requires-2 : tie.Need-cell-requires-2
+cell-requires-2 c κs = rw (c .before .n3 .given .1) at (c .before .before .before .before .before .before .before .before .pre .1)
 
 enum-known-n-4 : tie.Need-enum-known-n-4
 enum-known-n-4 c = search needs
@@ -112,11 +112,11 @@ returns c = (rw (c .before .n .given .1) at (c .before .before .before .before .
 
 returns-2 : tie.Need-returns-2
 unfolding node-value
-returns-2 c = (rw (c .at-offset .ensures) (below-two (c .before .before .before .before .before .before .before .before .before .pre .0 .main0-below) (c .before .before .before .before .before .before .before .before .before .pre .0 .main1-below) (c .before .before .n2 .given .0 .0) (c .before .before .n2 .given .0 .1 .0)), rw (c .before .before .n2 .given .1) (c .at-offset .ensures))
+returns-2 c = (rw (c .cell .ensures) (below-two (c .before .before .before .before .before .before .before .before .before .pre .0 .main0-below) (c .before .before .before .before .before .before .before .before .before .pre .0 .main1-below) (c .before .before .n2 .given .0 .0) (c .before .before .n2 .given .0 .1 .0)), rw (c .before .before .n2 .given .1) (c .cell .ensures))
 
 returns-3 : tie.Need-returns-3
 unfolding node-value
-returns-3 c = (rw (c .at-offset2 .ensures) (below-two (c .before .before .before .before .before .before .before .before .before .pre .0 .pre0-below) (c .before .before .before .before .before .before .before .before .before .pre .0 .pre1-below) (c .before .before .n3 .given .0 .0) (c .before .before .n3 .given .0 .1 .0)), rw (c .before .before .n3 .given .1) (c .at-offset2 .ensures))
+returns-3 c = (rw (c .cell2 .ensures) (below-two (c .before .before .before .before .before .before .before .before .before .pre .0 .pre0-below) (c .before .before .before .before .before .before .before .before .before .pre .0 .pre1-below) (c .before .before .n3 .given .0 .0) (c .before .before .n3 .given .0 .1 .0)), rw (c .before .before .n3 .given .1) (c .cell2 .ensures))
 
 returns-4 : tie.Need-returns-4
 unfolding node-value
@@ -160,9 +160,9 @@ node-value-spec =
     (tie.spec
     enum-known-n
     enum-known-n-2
-    at-offset-requires
+    cell-requires
     enum-known-n-3
-    at-offset-requires-2
+    cell-requires-2
     enum-known-n-4
     index-requires
     mul-result

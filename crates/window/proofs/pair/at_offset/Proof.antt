@@ -1,7 +1,7 @@
 use borrow.Author.Tests.{eq-eqb, ne-eqb}
 use borrow.Author.Needs.{needs}
-use Rattle.evaluation.proofs.traits.at_offset.Statement.{statement}
-use Rattle.evaluation.proofs.traits.at_offset.Tie as tie
+use Rattle.window.proofs.pair.at_offset.Statement.{statement}
+use Rattle.window.proofs.pair.at_offset.Tie as tie
 
 index-requires : tie.Need-index-requires
 index-requires c κs = search needs

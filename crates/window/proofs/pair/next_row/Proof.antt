@@ -2,8 +2,8 @@ use Rattle.expression.specs.laws.Window.{wraps}
 use native.Mathlib.Nat.{mod-eq-of-lt}
 use mathlib.Core.Path.{sym}
 use borrow.Author.Needs.{needs}
-use Rattle.evaluation.proofs.traits.next_row.Statement.{statement}
-use Rattle.evaluation.proofs.traits.next_row.Tie as tie
+use Rattle.window.proofs.pair.next_row.Statement.{statement}
+use Rattle.window.proofs.pair.next_row.Tie as tie
 
 add-if1 : tie.Need-add-if1
 add-if1 c = search needs

@@ -4,8 +4,8 @@ use lib.ListN.{length}
 use native.Mathlib.Omega.{arith}
 use native.Mathlib.Nat.{add-sub-cancel-left}
 use borrow.Author.Needs.{needs}
-use Rattle.evaluation.proofs.traits.row_of.Statement.{statement}
-use Rattle.evaluation.proofs.traits.row_of.Tie as tie
+use Rattle.window.proofs.pair.row_of.Statement.{statement}
+use Rattle.window.proofs.pair.row_of.Tie as tie
 
 mul-start : tie.Need-mul-start
 mul-start c = record { fits = omega (arith, row-fits (c .args .width) (c .args .height) (c .args .r) (length (c .args .s .now)) (c .pre .0) (c .pre .1)) }

@@ -1,0 +1,2 @@
+// The two-row window on a trace.
+pub mod pair;
