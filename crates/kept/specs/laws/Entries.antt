@@ -1,7 +1,7 @@
 -- The packed table has the same entries on every row.
 use mathlib.Core.Path.{_≡_, refl, sym, ap, ap₂, _∙_}
 use mathlib.Core.Bool.{Bool, true, false, cond, not, _&&_, _||_}
-use mathlib.Core.List.{List, [], _∷_, _++_, append-assoc, append-nil, map, flatMap, zipWith}
+use mathlib.Core.List.{List, [], _∷_, _++_, append-assoc, append-nil, map, flatMap, zipWith, map-append}
 use Prim.Native.Nat.{ℕ, zero, suc, _+_, _<_, _≤_}
 use native.Mathlib.Nat.{zero-add}
 use native.Mathlib.Omega.{arith}
@@ -23,7 +23,7 @@ use Rattle.degree.specs.Degree.{node-degrees, lookup-degree}
 use Rattle.degree.specs.Formed.{Formed}
 use Rattle.degree.specs.laws.Degree.{zip-tab, part-tab}
 use Rattle.widths.specs.Order.{keep, same, arranged}
-use Rattle.widths.specs.laws.Order.{map-append, sum-append, arranged-in}
+use Rattle.widths.specs.laws.Order.{sum-append, arranged-in}
 use Rattle.logup.specs.Tuple.{tuple}
 use Rattle.logup.specs.Ledger.{Entry, entry, count, lookup-entries, row-entries}
 use Rattle.packing.specs.Packing.{passes, on-one-bus, in-order, merged, joins, fill, filled, numbered, renumbered, packed}
