@@ -541,6 +541,24 @@ fn on_bus(column: u32, tuple: Vec<u32>, multiplicity: u32) -> Lookup {
     Lookup { bus: Some(b"mem".to_vec()), weight: 1, column, tuples: vec![tuple], multiplicities: vec![multiplicity], ..Lookup::default() }
 }
 
+/// Interactions at building's limits, or one over, for a table of three nodes.
+fn to_build(over: usize) -> Vec<(String, Vec<Interaction>)> {
+    let part = |width: usize, weight: u32| Part { elements: vec![0; width], multiplicity: 1, weight };
+    let global = |bytes: usize, part: Part| Interaction::Global(vec![b'x'; bytes], part);
+    let (lookups, tuples) = (model::LOOKUPS + over, model::TUPLES + over);
+    let (words, bytes) = (model::TUPLE_WORDS as usize + over, model::NAME_BYTES as usize + over);
+    let (weight, node) = (u32::MAX - 1 + over as u32, 2 + over as u32);
+    vec![
+        (format!("{lookups} globals to build"), vec![global(0, part(1, 1)); lookups]),
+        (format!("a local of {tuples} tuples to build"), vec![Interaction::Local(vec![part(1, u32::MAX); tuples])]),
+        (format!("{words} words a tuple to build"), vec![global(1, part(words, 1))]),
+        (format!("{bytes} bytes a name to build"), vec![global(bytes, part(1, 1))]),
+        (format!("weights {weight} and 1 in a local to build"), vec![Interaction::Local(vec![part(1, weight), part(1, 1)])]),
+        (format!("widths 2 and {} in a local to build", 2 + over), vec![Interaction::Local(vec![part(2, 1), part(2 + over, 1)])]),
+        (format!("node {node} to build"), vec![Interaction::Exclusive(vec![], vec![(node, part(1, 1))])]),
+    ]
+}
+
 /// The limits of document 01, each met and passed by one, with a name.
 pub fn boundaries() -> Vec<(String, Case)> {
     let mut random = Random(7);
@@ -670,6 +688,9 @@ pub fn boundaries() -> Vec<(String, Case)> {
             }),
             &|c| c.limit = 9,
         );
+        for (name, interactions) in to_build(over) {
+            add(name, table(&|_| ()), &|c| c.interactions = interactions.clone());
+        }
         let sum = P - 1 + over as u32;
         add(
             format!("height sum {sum}"),

@@ -1,6 +1,6 @@
 //! Makes a failing case small: tries smaller cases, keeps each that still fails in the same way, until none does.
 use crate::generator::{Case, shorten};
-use crate::table::{Lookup, NODE_WORDS, Table};
+use crate::table::{Interaction, Lookup, NODE_WORDS, Part, Table};
 
 const MOST_TRIALS: usize = 20_000;
 
@@ -54,6 +54,7 @@ fn smaller_cases(case: &Case) -> Vec<Case> {
     }
     with(&|c| c.interactions.clear());
     with(&|c| shorten(&mut c.interactions));
+    with(&|c| c.interactions.iter_mut().for_each(of_node_0));
     with(&|c| c.changes.clear());
     with(&|c| shorten(&mut c.changes));
     with(&|c| shorten(&mut c.terminals));
@@ -68,6 +69,22 @@ fn smaller_cases(case: &Case) -> Vec<Case> {
         with(&|c| c.challenges[i] = 0);
     }
     cases
+}
+
+/// The interaction with node 0 in place of each of its nodes.
+fn of_node_0(interaction: &mut Interaction) {
+    let part = |part: &mut Part| {
+        part.elements.fill(0);
+        part.multiplicity = 0;
+    };
+    match interaction {
+        Interaction::Local(parts) => parts.iter_mut().for_each(part),
+        Interaction::Global(_, p) => part(p),
+        Interaction::Exclusive(_, branches) => branches.iter_mut().for_each(|(flag, p)| {
+            *flag = 0;
+            part(p);
+        }),
+    }
 }
 
 /// Smaller tables, each with the lookup that it lost, if any.

@@ -4,7 +4,7 @@ use harness::generator;
 use harness::model::{self, Answer};
 use harness::oracle;
 use harness::plain::{P, lift};
-use harness::table::{Lookup, Table};
+use harness::table::{Interaction, Lookup, Part, Table};
 
 fn refused(number: u32, details: [u64; 3]) -> Answer {
     Answer { number, details }
@@ -143,6 +143,12 @@ fn panics_of_the_other_doors() {
     says(oracle::pack(&t, 9), "count_weight overflow");
     assert_eq!(model::height_bound(std::slice::from_ref(&t), &[]).number, 1);
     says(oracle::height_bound(&[t], &[]), "aligned per AIR");
+    let part = |width| Part { elements: vec![0; width], multiplicity: 2, weight: u32::MAX };
+    let local = |widths: [usize; 2]| [Interaction::Local(widths.map(part).to_vec())];
+    let t = table(&[3], &[]);
+    assert_eq!(model::build(&t, &local([2, 3])).0, refused(6, [0, 2, 3]));
+    says(oracle::build(&t, &local([2, 3])), "local lookup: tuple widths 2 and 3 differ");
+    assert_eq!(oracle::build(&t, &local([2, 2])), Ok(model::build(&t, &local([2, 2])).1));
     assert_eq!(model::prefixes(lift(1), lift(2), 0, 1).0.number, 12);
     says(oracle::prefixes(lift(1), lift(2), 0, 1), "max_message_width must be non-zero");
 }

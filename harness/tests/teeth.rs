@@ -5,7 +5,7 @@ use harness::model::{self, Answer};
 use harness::plain::{self, Ext, Random};
 use harness::port::Port;
 use harness::shrink::shrink;
-use harness::table::{Lookup, Table};
+use harness::table::{Interaction, Lookup, Table};
 
 /// A port that answers as the model does, but for one mistake.
 #[derive(Clone, Copy, Debug, PartialEq)]
@@ -25,11 +25,13 @@ enum Mistake {
     WidestOfLocalsToo,
     PacksNothing,
     LosesATuple,
+    SumsBranches,
+    WrapsAWeight,
 }
 
 use Mistake::*;
 
-const MISTAKES: [Mistake; 14] = [
+const MISTAKES: [Mistake; 16] = [
     FirstElementBetaZero,
     InclusiveAccumulator,
     TerminalZero,
@@ -44,6 +46,8 @@ const MISTAKES: [Mistake; 14] = [
     WidestOfLocalsToo,
     PacksNothing,
     LosesATuple,
+    SumsBranches,
+    WrapsAWeight,
 ];
 
 impl Port for Mistake {
@@ -88,6 +92,26 @@ impl Port for Mistake {
             last.tuples.pop();
         }
         Some((answer, packed))
+    }
+
+    fn build(&self, t: &Table, interactions: &[Interaction]) -> Option<(Answer, Vec<Lookup>)> {
+        let (answer, mut built) = model::build(t, interactions);
+        let sums = |exclusive: bool| {
+            interactions.iter().filter_map(move |i| match i {
+                Interaction::Local(parts) if !exclusive => Some(parts.iter().map(|part| part.weight).fold(0, u32::wrapping_add)),
+                Interaction::Exclusive(_, branches) if exclusive => {
+                    Some(branches.iter().map(|(_, part)| part.weight).fold(0, u32::saturating_add))
+                }
+                _ => Option::None,
+            })
+        };
+        if *self == SumsBranches {
+            built.iter_mut().filter(|l| l.exclusive).zip(sums(true)).for_each(|(l, sum)| l.weight = sum);
+        }
+        if *self == WrapsAWeight {
+            built.iter_mut().filter(|l| l.bus.is_none()).zip(sums(false)).for_each(|(l, sum)| l.weight = sum);
+        }
+        Some((answer, built))
     }
 
     fn widths(&self, tables: &[Table]) -> Option<(Answer, u64)> {

@@ -243,6 +243,19 @@ impl Table {
     }
 
     /// `from_interactions`: the table with lookups of these interactions, locals first, then globals, then exclusives.
+    ///
+    /// ```
+    /// use delmatik::{Interaction, Part, Refusal, Table};
+    ///
+    /// let table = Table { main_width: 1, nodes: vec![1, 0, 0], ..Table::default() };
+    /// let part = |width, weight| Part { elements: vec![0; width], multiplicity: 0, weight };
+    /// // A sum of weights is held at 2^32 - 1.
+    /// let built = table.build(&[Interaction::Local(vec![part(2, u32::MAX), part(2, 1)])]).unwrap();
+    /// assert_eq!(built.lookups, [0, 0, u32::MAX, 0, 0, 2, 2, 0]);
+    /// // The tuples of a local are of one width.
+    /// let refused = table.build(&[Interaction::Local(vec![part(2, 1), part(3, 1)])]);
+    /// assert_eq!(refused, Err(Refusal { number: 6, details: [0, 2, 3] }));
+    /// ```
     pub fn build(&self, interactions: &[Interaction]) -> Result<Table, Refusal> {
         let mut built = self.clone().with(&[]);
         let (mut kinds, mut words, mut weights) = ([0; 3], vec![], vec![]);
