@@ -2,11 +2,11 @@
 use mathlib.Core.Path.{_≡_, refl, sym, ap, ap₂, _∙_}
 use mathlib.Core.Bool.{Bool, true, false, cond}
 use mathlib.Core.List.{List, [], _∷_, _++_, map}
-use Prim.Native.Nat.{ℕ, zero, suc, _+_, _*_, _-_, _<_, _≤_, zero-le}
-use native.Mathlib.Nat.{zero-add, add-zero, add-assoc}
+use Prim.Native.Nat.{ℕ, suc, _+_, _*_, _-_, _<_, _≤_, zero-le}
+use native.Mathlib.Nat.{zero-add, add-zero}
 use native.Mathlib.Numerals.{add-one}
 use native.Mathlib.Omega.{arith}
-use lib.ListN.{length, take, drop, getD, set, replicate, length-take}
+use lib.ListN.{length, take, drop, set, replicate, length-take}
 use lib.Seq.{take-all, take-at}
 use Rattle.lists.specs.Count.{total, joined}
 use Rattle.lists.specs.Fold.{fold}
@@ -25,7 +25,10 @@ use Rattle.lookup.specs.Lookups.{entry, exclusive, tuple-start, multiplicity-st
 use Rattle.logup.specs.Ledger.{Entry}
 use Rattle.slots.specs.declared.enter.Use.{Use}
 use Rattle.slots.specs.Work.{Work, work, step}
-use Rattle.slots.specs.laws.Room.{Roomy, step-roomy, fold-roomy, fold-full, fold-snoc, fold-more}
+use Rattle.slots.specs.laws.Room.{fold-full, fold-snoc, fold-more}
+use Rattle.chains.specs.declared.enter.Entered.{Entered}
+use Rattle.chains.specs.Chain.{Chained, plain, plain-work, Ready}
+use Rattle.chains.specs.laws.Plain.{plain-length}
 use Rattle.entries.specs.declared.place.Place.{Place}
 use Rattle.entries.specs.Placed.{place-at, Parted, placed-count, placed-nodes, placed-entry, placed-entries, rows-entries}
 
@@ -93,31 +96,32 @@ pub tuple-ends : {pl : Place} {tuples mults flags elements : List ℕ} {k : ℕ}
 tuple-ends {pl} {tuples} {mults} {flags} {elements} {k} r h =
     omega (arith, r .elements-in, element-next tuples (pl .tuples + k), element-le tuples (pl .tuples + k + 1) (pl .tuples + pl .count) (omega arith))
 
--- the tuples of a row: w is the work before them
-pub record Tupling (p : ℕ) (pl : Place) (tuples mults flags elements vals : List ℕ) (w : Work) (k at : ℕ) (ws : List ℕ) (v : Use) : Type 0 where
-  pub is : work ws v ≡ fold (step p) w (joined (λ k. placed-entry p pl tuples mults flags elements vals k ∷ []) 0 k)
+-- the tuples of a row: h₀, ws₀ and w are the heads, the workspace and the work before them
+pub record Tupling (p : ℕ) (pl : Place) (tuples mults flags elements vals h₀ ws₀ : List ℕ) (w : Work) (k at : ℕ) (heads ws : List ℕ) (v : Entered) : Type 0 where
+  pub is : plain-work ws v ≡ fold (step p) w (joined (λ k. placed-entry p pl tuples mults flags elements vals k ∷ []) 0 k)
   pub here : at ≡ element-start tuples (pl .tuples + k)
   pub within : k ≤ pl .count
-  pub long : length ws ≡ length (w .words)
-  pub room : 10 * v .used ≤ length ws
+  pub few : pl .count < 18446744073709551615
+  pub ready : Ready heads ws v
+  pub wide : length heads ≡ length h₀
+  pub long : length ws ≡ length ws₀
 
 module _ {p : ℕ} {pl : Place} {tuples mults flags elements vals : List ℕ} where
-  pub tupling-begins : {ws : List ℕ} {u : Use} → Parted pl tuples mults flags elements → 10 * u .used ≤ length ws → Tupling p pl tuples mults flags elements vals (work ws u) 0 (pl .elements) ws u
+  pub tupling-begins : {heads ws : List ℕ} {u : Entered} → Parted pl tuples mults flags elements → Ready heads ws u → pl .count < 18446744073709551615 → Tupling p pl tuples mults flags elements vals heads ws (plain-work ws u) 0 (pl .elements) heads ws u
   unfolding fold joined
-  tupling-begins r h =
-      record { is = refl; here = r .first ∙ ap (element-start tuples) (sym (add-zero (pl .tuples))); within = zero-le; long = refl; room = h }
+  tupling-begins r h f =
+      record { is = refl; here = r .first ∙ ap (element-start tuples) (sym (add-zero (pl .tuples))); within = zero-le; few = f; ready = h; wide = refl; long = refl }
 
-  pub tupling-turn : {w : Work} {k at n c : ℕ} {ws ws′ : List ℕ} {v v′ : Use} → Tupling p pl tuples mults flags elements vals w k at ws v → k < pl .count
+  pub tupling-turn : {h₀ ws₀ heads heads′ ws ws′ : List ℕ} {w : Work} {k at n c : ℕ} {v v′ : Entered} → Tupling p pl tuples mults flags elements vals h₀ ws₀ w k at heads ws v → k < pl .count
       → n ≡ word tuples (pl .tuples + k) → c ≡ placed-count p pl mults flags vals k
-      → work ws′ v′ ≡ step p (work ws v) (record { tuple = map (word vals) (take ((at + n) - at) (drop at elements)); count = c })
-      → Tupling p pl tuples mults flags elements vals w (k + 1) (at + n) ws′ v′
+      → (plain-work ws′ v′ ≡ step p (plain-work ws v) (record { tuple = map (word vals) (take ((at + n) - at) (drop at elements)); count = c })) × Ready heads′ ws′ v′
+      → length heads′ ≡ length heads → length ws′ ≡ length ws → Tupling p pl tuples mults flags elements vals h₀ ws₀ w (k + 1) (at + n) heads′ ws′ v′
   unfolding placed-nodes
-  tupling-turn {w} {k} {at} {n} {c} {ws} {ws′} {v} {v′} r h en ec e =
+  tupling-turn {h₀} {ws₀} {heads} {heads′} {ws} {ws′} {w} {k} {at} {n} {c} {v} {v′} r h en ec (e, y) eh el =
       let z : (at + n) - at ≡ n = omega arith in
-      let q : work ws′ v′ ≡ step p (work ws v) (placed-entry p pl tuples mults flags elements vals k) =
-      e ∙ ap₂ (λ (t : List ℕ) (x : ℕ). step p (work ws v) (record { tuple = map (word vals) t; count = x }))
+      let q : plain-work ws′ v′ ≡ step p (plain-work ws v) (placed-entry p pl tuples mults flags elements vals k) =
+      e ∙ ap₂ (λ (t : List ℕ) (x : ℕ). step p (plain-work ws v) (record { tuple = map (word vals) t; count = x }))
       (ap₂ (λ (i j : ℕ). take i (drop j elements)) (z ∙ en) (r .here)) ec in
-      let g : Roomy (length (w .words)) (work ws′ v′) = rw q (step-roomy (length (w .words)) p (work ws v) (placed-entry p pl tuples mults flags elements vals k) (record { long = r .long; room = rw (sym (r .long)) (r .room) })) in
       record {
         is =
             q ∙ ap (λ (x : Work). step p x (placed-entry p pl tuples mults flags elements vals k)) (r .is)
@@ -125,38 +129,42 @@ module _ {p : ℕ} {pl : Place} {tuples mults flags elements vals : List ℕ} wh
             ∙ ap (fold (step p) w) (ap (λ (i : ℕ). joined (λ k. placed-entry p pl tuples mults flags elements vals k ∷ []) 0 k ++ (placed-entry p pl tuples mults flags elements vals i ∷ [])) (sym (zero-add k)) ∙ sym (joined-one (λ k. placed-entry p pl tuples mults flags elements vals k ∷ []) 0 k));
         here = ap₂ _+_ (r .here) en ∙ sym (element-next tuples (pl .tuples + k)) ∙ ap (element-start tuples) (let a : pl .tuples + k + 1 ≡ pl .tuples + (k + 1) = omega arith in a);
         within = omega arith;
-        long = g .long;
-        room = omega (arith, g .room, g .long);
+        few = r .few;
+        ready = y;
+        wide = eh ∙ r .wide;
+        long = el ∙ r .long;
       }
 
-  pub tupling-ends : {w : Work} {k at : ℕ} {ws : List ℕ} {v : Use} → Tupling p pl tuples mults flags elements vals w k at ws v → pl .count ≤ k
-      → work ws v ≡ fold (step p) w (placed-entries p pl tuples mults flags elements vals)
+  pub tupling-ends : {h₀ ws₀ heads ws : List ℕ} {w : Work} {k at : ℕ} {v : Entered} → Tupling p pl tuples mults flags elements vals h₀ ws₀ w k at heads ws v → pl .count ≤ k
+      → (plain-work ws v ≡ fold (step p) w (placed-entries p pl tuples mults flags elements vals)) × Ready heads ws v
   unfolding placed-entries
-  tupling-ends {w} {k} r h = let e : k ≡ pl .count = omega (arith, r .within) in r .is ∙ ap (λ (n : ℕ). fold (step p) w (joined (λ k. placed-entry p pl tuples mults flags elements vals k ∷ []) 0 n)) e
+  tupling-ends {h₀} {ws₀} {heads} {ws} {w} {k} r h =
+      let e : k ≡ pl .count = omega (arith, r .within) in
+      (r .is ∙ ap (λ (n : ℕ). fold (step p) w (joined (λ k. placed-entry p pl tuples mults flags elements vals k ∷ []) 0 n)) e, r .ready)
 
 -- a row that is skipped, since a slot was missing
-pub row-skipped : (p : ℕ) (ws : List ℕ) (u : Use) (es : List Entry) → u .full ≡ true → work ws u ≡ fold (step p) (work ws u) es
-row-skipped p ws u es f = sym (fold-full p es (work ws u) f)
+pub row-skipped : {heads ws : List ℕ} {u : Entered} (p : ℕ) (es : List Entry) → Ready heads ws u → u .full ≡ true → (plain-work ws u ≡ fold (step p) (plain-work ws u) es) × Ready heads ws u
+row-skipped {heads} {ws} {u} p es r f = (sym (fold-full p es (plain-work ws u) f), r)
 
--- the rows
-pub record Rowing (p : ℕ) (pl : Place) (tuples mults flags elements : List ℕ) (t : Traces) (nodes : List ℕ) (w : Work) (r : ℕ) (ws : List ℕ) (v : Use) : Type 0 where
-  pub is : work ws v ≡ fold (step p) w (rows-entries p pl tuples mults flags elements t nodes r)
+-- the rows: h₀, ws₀ and w are the heads, the workspace and the work before them
+pub record Rowing (p : ℕ) (pl : Place) (tuples mults flags elements : List ℕ) (t : Traces) (nodes h₀ ws₀ : List ℕ) (w : Work) (r : ℕ) (heads ws : List ℕ) (v : Entered) : Type 0 where
+  pub is : plain-work ws v ≡ fold (step p) w (rows-entries p pl tuples mults flags elements t nodes r)
   pub within : r ≤ t .shape .height
-  pub long : length ws ≡ length (w .words)
-  pub room : 10 * v .used ≤ length ws
+  pub ready : Ready heads ws v
+  pub wide : length heads ≡ length h₀
+  pub long : length ws ≡ length ws₀
 
 module _ {p : ℕ} {pl : Place} {tuples mults flags elements : List ℕ} {t : Traces} {nodes : List ℕ} where
-  pub rowing-begins : {ws : List ℕ} {u : Use} → 10 * u .used ≤ length ws → Rowing p pl tuples mults flags elements t nodes (work ws u) 0 ws u
+  pub rowing-begins : {heads ws : List ℕ} {u : Entered} → Ready heads ws u → Rowing p pl tuples mults flags elements t nodes heads ws (plain-work ws u) 0 heads ws u
   unfolding fold joined rows-entries
-  rowing-begins h = record { is = refl; within = zero-le; long = refl; room = h }
+  rowing-begins h = record { is = refl; within = zero-le; ready = h; wide = refl; long = refl }
 
-  pub rowing-turn : {w : Work} {r : ℕ} {ws ws′ : List ℕ} {v v′ : Use} → Rowing p pl tuples mults flags elements t nodes w r ws v → r < t .shape .height
-      → work ws′ v′ ≡ fold (step p) (work ws v) (placed-entries p pl tuples mults flags elements (row-values p nodes t r))
-      → Rowing p pl tuples mults flags elements t nodes w (r + 1) ws′ v′
+  pub rowing-turn : {h₀ ws₀ heads heads′ ws ws′ : List ℕ} {w : Work} {r : ℕ} {v v′ : Entered} → Rowing p pl tuples mults flags elements t nodes h₀ ws₀ w r heads ws v → r < t .shape .height
+      → (plain-work ws′ v′ ≡ fold (step p) (plain-work ws v) (placed-entries p pl tuples mults flags elements (row-values p nodes t r))) × Ready heads′ ws′ v′
+      → length heads′ ≡ length heads → length ws′ ≡ length ws → Rowing p pl tuples mults flags elements t nodes h₀ ws₀ w (r + 1) heads′ ws′ v′
   unfolding rows-entries
-  rowing-turn {w} {r} {ws} {ws′} {v} {v′} i h e =
+  rowing-turn {h₀} {ws₀} {heads} {heads′} {ws} {ws′} {w} {r} {v} {v′} i h (e, y) eh el =
       let es : List Entry = placed-entries p pl tuples mults flags elements (row-values p nodes t r) in
-      let g : Roomy (length (w .words)) (work ws′ v′) = rw e (fold-roomy (length (w .words)) p es (work ws v) (record { long = i .long; room = rw (sym (i .long)) (i .room) })) in
       record {
         is =
             e ∙ ap (λ (x : Work). fold (step p) x es) (i .is)
@@ -165,13 +173,29 @@ module _ {p : ℕ} {pl : Place} {tuples mults flags elements : List ℕ} {t : Tr
             (ap (λ (n : ℕ). joined (λ r. placed-entries p pl tuples mults flags elements (row-values p nodes t r)) 0 r ++ placed-entries p pl tuples mults flags elements (row-values p nodes t n)) (sym (zero-add r))
             ∙ sym (joined-one (λ r. placed-entries p pl tuples mults flags elements (row-values p nodes t r)) 0 r));
         within = omega arith;
-        long = g .long;
-        room = omega (arith, g .room, g .long);
+        ready = y;
+        wide = eh ∙ i .wide;
+        long = el ∙ i .long;
       }
 
-  pub rowing-ends : {w : Work} {r : ℕ} {ws : List ℕ} {v : Use} → Rowing p pl tuples mults flags elements t nodes w r ws v → t .shape .height ≤ r
-      → work ws v ≡ fold (step p) w (rows-entries p pl tuples mults flags elements t nodes (t .shape .height))
-  rowing-ends {w} {r} i h = let e : r ≡ t .shape .height = omega (arith, i .within) in i .is ∙ ap (λ (n : ℕ). fold (step p) w (rows-entries p pl tuples mults flags elements t nodes n)) e
+  pub rowing-ends : {h₀ ws₀ heads ws : List ℕ} {w : Work} {r : ℕ} {v : Entered} → Rowing p pl tuples mults flags elements t nodes h₀ ws₀ w r heads ws v → t .shape .height ≤ r
+      → (plain-work ws v ≡ fold (step p) w (rows-entries p pl tuples mults flags elements t nodes (t .shape .height))) × Ready heads ws v
+  rowing-ends {h₀} {ws₀} {heads} {ws} {w} {r} i h =
+      let e : r ≡ t .shape .height = omega (arith, i .within) in
+      (i .is ∙ ap (λ (n : ℕ). fold (step p) w (rows-entries p pl tuples mults flags elements t nodes n)) e, i .ready)
+
+-- the slots in use are linked, and unlinked at the end
+abbrev linked-use : Use → ℕ → Entered
+linked-use u l = record { used = u .used; full = u .full; linked = l }
+
+pub linked-ready : {heads d ws : List ℕ} {l : ℕ} (u : Use) → 10 * u .used ≤ length d → Chained heads ws l × (plain ws l ≡ d) × (l ≤ u .used) → Ready heads ws (linked-use u l)
+linked-ready {heads} {d} {ws} {l} u r (c, e, i) = record { chained = c; inside = i; room = rw (sym (plain-length ws l), e) r }
+
+pub unlinked : {heads hs d ws vs b : List ℕ} {l : ℕ} {v : Entered} (p : ℕ) (u : Use) (es : List Entry) → Chained heads ws l × (plain ws l ≡ d) × (l ≤ u .used)
+    → (plain-work vs v ≡ fold (step p) (plain-work ws (linked-use u l)) es) × Ready hs vs v → b ≡ plain vs (v .linked)
+    → work b (record { used = v .used; full = v .full }) ≡ fold (step p) (work d u) es
+unlinked {heads} {hs} {d} {ws} {vs} {b} {l} {v} p u es (c, e, i) (q, r) eb =
+    ap (λ (x : List ℕ). work x (record { used = v .used; full = v .full })) eb ∙ q ∙ ap (λ (x : List ℕ). fold (step p) (work x u) es) e
 
 -- the place of a lookup
 pub place-is : {x : Bool} {n t m f e c : ℕ} (lookups tuples : List ℕ) (i : ℕ) → t ≡ total (λ j. entry lookups j 5) i → m ≡ total (λ j. entry lookups j 6) i → f ≡ total (λ j. entry lookups j 7) i
@@ -181,9 +205,10 @@ unfolding place-at tuple-start multiplicity-start flag-start
 place-is {x} {n} {t} {m} {f} {e} {c} lookups tuples i et em ef ee ex ec en = rw (ex, en ∙ ec, ee, et, em, ef)
 
 -- one tuple is entered
-pub tuple-entered : {t : List ℕ} {w : Work} (p : ℕ) (v : Work) (count : ℕ) (vals nodes : List ℕ) → t ≡ map (word vals) nodes ++ replicate (8 - length nodes) 0
-    → w ≡ step p v (record { tuple = take (length nodes - 0) (drop 0 t); count = count }) → w ≡ step p v (record { tuple = map (word vals) nodes; count = count })
-tuple-entered p v count vals nodes e q = q ∙ ap (λ (l : List ℕ). step p v (record { tuple = l; count = count })) (tuple-front vals nodes e)
+pub tuple-entered : {t heads ws : List ℕ} {u : Entered} (p : ℕ) (v : Work) (count : ℕ) (vals nodes : List ℕ) → t ≡ map (word vals) nodes ++ replicate (8 - length nodes) 0
+    → (plain-work ws u ≡ step p v (record { tuple = take (length nodes - 0) (drop 0 t); count = count })) × Ready heads ws u
+    → (plain-work ws u ≡ step p v (record { tuple = map (word vals) nodes; count = count })) × Ready heads ws u
+tuple-entered p v count vals nodes e (q, r) = (q ∙ ap (λ (l : List ℕ). step p v (record { tuple = l; count = count })) (tuple-front vals nodes e), r)
 
 -- a tuple has at most eight words
 pub part-narrow : {n m : ℕ} (at : ℕ) (elements : List ℕ) → n ≡ m → m ≤ 8 → length (take ((at + n) - at) (drop at elements)) ≤ 8
@@ -204,8 +229,9 @@ values-front {b} p nodes t r e =
 pub front-below : {b : List ℕ} (p : ℕ) (nodes : List ℕ) (t : Traces) (r : ℕ) → Evaluable p t nodes → b ≡ row-values p nodes t r ++ replicate (1024 - node-count nodes) 0 → Below p (take (node-count nodes - 0) (drop 0 b))
 front-below p nodes t r v e = rw (values-front p nodes t r e) (row-values-below r v)
 
-pub row-entered : {b : List ℕ} {w : Work} (p : ℕ) (pl : Place) (tuples mults flags elements nodes : List ℕ) (t : Traces) (r : ℕ) (v : Work)
+pub row-entered : {b heads ws : List ℕ} {u : Entered} (p : ℕ) (pl : Place) (tuples mults flags elements nodes : List ℕ) (t : Traces) (r : ℕ) (v : Work)
     → b ≡ row-values p nodes t r ++ replicate (1024 - node-count nodes) 0
-    → w ≡ fold (step p) v (placed-entries p pl tuples mults flags elements (take (node-count nodes - 0) (drop 0 b)))
-    → w ≡ fold (step p) v (placed-entries p pl tuples mults flags elements (row-values p nodes t r))
-row-entered p pl tuples mults flags elements nodes t r v e q = q ∙ ap (λ (x : List ℕ). fold (step p) v (placed-entries p pl tuples mults flags elements x)) (values-front p nodes t r e)
+    → (plain-work ws u ≡ fold (step p) v (placed-entries p pl tuples mults flags elements (take (node-count nodes - 0) (drop 0 b)))) × Ready heads ws u
+    → (plain-work ws u ≡ fold (step p) v (placed-entries p pl tuples mults flags elements (row-values p nodes t r))) × Ready heads ws u
+row-entered p pl tuples mults flags elements nodes t r v e (q, y) =
+    (q ∙ ap (λ (x : List ℕ). fold (step p) v (placed-entries p pl tuples mults flags elements x)) (values-front p nodes t r e), y)

@@ -1,7 +1,7 @@
 -- A lookup by its place in the lists: where its parts begin, and the entries that it has on a row and on all rows.
 use Prim.Native.Nat.{ℕ, _+_, _≤_}
 use mathlib.Core.Path.{_≡_}
-use mathlib.Core.Bool.{Bool, true, cond}
+use mathlib.Core.Bool.{true, cond}
 use mathlib.Core.List.{List, [], _∷_, map}
 use lib.ListN.{length, take, drop}
 use Rattle.lists.specs.Count.{joined}
@@ -9,7 +9,7 @@ use Rattle.field.specs.Word.{mulM}
 use Rattle.expression.specs.Words.{word}
 use Rattle.expression.specs.Window.{Traces}
 use Rattle.expression.specs.Values.{row-values}
-use Rattle.lookup.specs.Lookups.{Lookups, exclusive, tuple-count, tuple-start, multiplicity-start, flag-start, element-start}
+use Rattle.lookup.specs.Lookups.{exclusive, tuple-count, tuple-start, multiplicity-start, flag-start, element-start}
 use Rattle.logup.specs.Ledger.{Entry}
 use Rattle.entries.specs.declared.place.Place.{Place}
 

@@ -1,11 +1,14 @@
 // What a lookup enters on one row, and on all rows.
 use crate::place::Place;
+use chains::enter::Entered;
+use chains::enter::meet;
+use chains::link::link_slots;
+use chains::link::unlink_slots;
 use evaluation::traits::row_values;
 use expression::sizes::Shape;
 use expression::words::index;
 use field::word;
 use slots::enter::Use;
-use slots::enter::meet;
 use slots::enter::word_or_zero;
 ghost use mathlib.Core.Path.{_≡_};
 ghost use mathlib.Core.Bool.{true};
@@ -19,6 +22,7 @@ ghost use Rattle.expression.specs.Window.{lent-traces};
 ghost use Rattle.expression.specs.Values.{row-values};
 ghost use Rattle.expression.specs.Valid.{Below, Evaluable};
 ghost use Rattle.slots.specs.Work.{work, step};
+ghost use Rattle.chains.specs.Chain.{plain-work, Ready};
 ghost use Rattle.entries.specs.Placed.{Parted, placed-count, placed-entries, rows-entries};
 
 // The words of a tuple, and zeros.
@@ -37,13 +41,21 @@ fn tuple_values(vals: &[u32], nodes: &[u32]) -> [u32; 8]
 }
 
 // The entry of one tuple.
-fn enter_tuple(p: u32, ws: &mut [u32], u: Use, vals: &[u32], nodes: &[u32], count: u32) -> Use
-    requires { ⌜ Modulus p × (length (now nodes) ≤ 8) × (10 * u .used ≤ length (now ws)) ⌝ }
-    ensures { λ r. ⌜ work (now (ws .exit)) r ≡ step p (work (now (ws .entry)) u) (record { tuple = map (word (now (vals .entry))) (now (nodes .entry)); count = count }) ⌝ }
+fn enter_tuple(
+    p: u32,
+    heads: &mut [u32],
+    ws: &mut [u32],
+    u: Entered,
+    vals: &[u32],
+    nodes: &[u32],
+    count: u32,
+) -> Entered
+    requires { ⌜ Modulus p × (length (now nodes) ≤ 8) × Ready (now heads) (now ws) u ⌝ }
+    ensures { λ r. ⌜ (plain-work (now (ws .exit)) r ≡ step p (plain-work (now (ws .entry)) u) (record { tuple = map (word (now (vals .entry))) (now (nodes .entry)); count = count })) × Ready (now (heads .exit)) (now (ws .exit)) r ⌝ }
 {
     let t = tuple_values(vals, nodes);
     let n = nodes.len();
-    meet(p, ws, u, &t[0..n], count)
+    meet(p, heads, ws, u, &t[0..n], count)
 }
 
 // How often tuple k counts: multiplicity × flag.
@@ -62,17 +74,18 @@ fn count(p: u32, pl: Place, vals: &[u32], multiplicities: &[u32], flags: &[u32],
 // The lookup on one row, from the values of the nodes there.
 fn enter_row(
     p: u32,
+    heads: &mut [u32],
     ws: &mut [u32],
-    u: Use,
+    u: Entered,
     vals: &[u32],
     pl: Place,
     tuples: &[u32],
     multiplicities: &[u32],
     flags: &[u32],
     elements: &[u32],
-) -> Use
-    requires { ⌜ Modulus p × Below p (now vals) × (10 * u .used ≤ length (now ws)) × Parted pl (now tuples) (now multiplicities) (now flags) (now elements) ⌝ }
-    ensures { λ r. ⌜ work (now (ws .exit)) r ≡ fold (step p) (work (now (ws .entry)) u) (placed-entries p pl (now (tuples .entry)) (now (multiplicities .entry)) (now (flags .entry)) (now (elements .entry)) (now (vals .entry))) ⌝ }
+) -> Entered
+    requires { ⌜ Modulus p × Below p (now vals) × Ready (now heads) (now ws) u × Parted pl (now tuples) (now multiplicities) (now flags) (now elements) ⌝ }
+    ensures { λ r. ⌜ (plain-work (now (ws .exit)) r ≡ fold (step p) (plain-work (now (ws .entry)) u) (placed-entries p pl (now (tuples .entry)) (now (multiplicities .entry)) (now (flags .entry)) (now (elements .entry)) (now (vals .entry)))) × Ready (now (heads .exit)) (now (ws .exit)) r ⌝ }
 {
     let n = pl.count;
     let start = pl.tuples;
@@ -82,7 +95,7 @@ fn enter_row(
     while k < n {
         let end = at + index(tuples[start + k]);
         let c = count(p, pl, vals, multiplicities, flags, k);
-        let next = enter_tuple(p, ws, v, vals, &elements[at..end], c);
+        let next = enter_tuple(p, heads, ws, v, vals, &elements[at..end], c);
         v = next;
         at = end;
         k += 1;
@@ -104,11 +117,12 @@ fn on_row(
     multiplicities: &[u32],
     flags: &[u32],
     elements: &[u32],
+    heads: &mut [u32],
     ws: &mut [u32],
-    u: Use,
-) -> Use
-    requires { ⌜ Evaluable p (lent-traces shape (now main) (now preprocessed) (now «public_values»)) (now nodes) × (r < shape .height) × (10 * u .used ≤ length (now ws)) × Parted pl (now tuples) (now multiplicities) (now flags) (now elements) ⌝ }
-    ensures { λ v. ⌜ work (now (ws .exit)) v ≡ fold (step p) (work (now (ws .entry)) u) (placed-entries p pl (now (tuples .entry)) (now (multiplicities .entry)) (now (flags .entry)) (now (elements .entry)) (row-values p (now (nodes .entry)) (lent-traces shape (now (main .entry)) (now (preprocessed .entry)) (now («public_values» .entry))) r)) ⌝ }
+    u: Entered,
+) -> Entered
+    requires { ⌜ Evaluable p (lent-traces shape (now main) (now preprocessed) (now «public_values»)) (now nodes) × (r < shape .height) × Ready (now heads) (now ws) u × Parted pl (now tuples) (now multiplicities) (now flags) (now elements) ⌝ }
+    ensures { λ v. ⌜ (plain-work (now (ws .exit)) v ≡ fold (step p) (plain-work (now (ws .entry)) u) (placed-entries p pl (now (tuples .entry)) (now (multiplicities .entry)) (now (flags .entry)) (now (elements .entry)) (row-values p (now (nodes .entry)) (lent-traces shape (now (main .entry)) (now (preprocessed .entry)) (now («public_values» .entry))) r))) × Ready (now (heads .exit)) (now (ws .exit)) v ⌝ }
 {
     if u.full {
         return u;
@@ -127,6 +141,7 @@ fn on_row(
     let n = nodes.len() / 3;
     enter_row(
         p,
+        heads,
         ws,
         u,
         &vals[0..n],
@@ -138,8 +153,8 @@ fn on_row(
     )
 }
 
-// The lookup on all rows.
-pub fn enter_rows(
+// The lookup on each row, into linked slots.
+fn each_row(
     p: u32,
     shape: Shape,
     main: &[u32],
@@ -151,11 +166,12 @@ pub fn enter_rows(
     multiplicities: &[u32],
     flags: &[u32],
     elements: &[u32],
+    heads: &mut [u32],
     ws: &mut [u32],
-    u: Use,
-) -> Use
-    requires { ⌜ Evaluable p (lent-traces shape (now main) (now preprocessed) (now «public_values»)) (now nodes) × (shape .height ≤ 1048576) × (10 * u .used ≤ length (now ws)) × Parted pl (now tuples) (now multiplicities) (now flags) (now elements) ⌝ }
-    ensures { λ v. ⌜ work (now (ws .exit)) v ≡ fold (step p) (work (now (ws .entry)) u) (rows-entries p pl (now (tuples .entry)) (now (multiplicities .entry)) (now (flags .entry)) (now (elements .entry)) (lent-traces shape (now (main .entry)) (now (preprocessed .entry)) (now («public_values» .entry))) (now (nodes .entry)) (shape .height)) ⌝ }
+    u: Entered,
+) -> Entered
+    requires { ⌜ Evaluable p (lent-traces shape (now main) (now preprocessed) (now «public_values»)) (now nodes) × (shape .height ≤ 1048576) × Ready (now heads) (now ws) u × Parted pl (now tuples) (now multiplicities) (now flags) (now elements) ⌝ }
+    ensures { λ v. ⌜ (plain-work (now (ws .exit)) v ≡ fold (step p) (plain-work (now (ws .entry)) u) (rows-entries p pl (now (tuples .entry)) (now (multiplicities .entry)) (now (flags .entry)) (now (elements .entry)) (lent-traces shape (now (main .entry)) (now (preprocessed .entry)) (now («public_values» .entry))) (now (nodes .entry)) (shape .height))) × Ready (now (heads .exit)) (now (ws .exit)) v ⌝ }
 {
     let height = shape.height;
     let mut v = u;
@@ -174,6 +190,7 @@ pub fn enter_rows(
             multiplicities,
             flags,
             elements,
+            heads,
             ws,
             v,
         );
@@ -181,4 +198,53 @@ pub fn enter_rows(
         r += 1;
     }
     v
+}
+
+// The lookup on all rows. The slots in use are linked for the search, and unlinked at the end.
+pub fn enter_rows(
+    p: u32,
+    shape: Shape,
+    main: &[u32],
+    preprocessed: &[u32],
+    public_values: &[u32],
+    nodes: &[u32],
+    pl: Place,
+    tuples: &[u32],
+    multiplicities: &[u32],
+    flags: &[u32],
+    elements: &[u32],
+    ws: &mut [u32],
+    u: Use,
+) -> Use
+    requires { ⌜ Evaluable p (lent-traces shape (now main) (now preprocessed) (now «public_values»)) (now nodes) × (shape .height ≤ 1048576) × (10 * u .used ≤ length (now ws)) × Parted pl (now tuples) (now multiplicities) (now flags) (now elements) ⌝ }
+    ensures { λ v. ⌜ work (now (ws .exit)) v ≡ fold (step p) (work (now (ws .entry)) u) (rows-entries p pl (now (tuples .entry)) (now (multiplicities .entry)) (now (flags .entry)) (now (elements .entry)) (lent-traces shape (now (main .entry)) (now (preprocessed .entry)) (now («public_values» .entry))) (now (nodes .entry)) (shape .height)) ⌝ }
+{
+    let mut heads = [0u32; 16384];
+    let linked = link_slots(&mut heads, ws, u.used);
+    let before = Entered {
+        used: u.used,
+        full: u.full,
+        linked: linked,
+    };
+    let v = each_row(
+        p,
+        shape,
+        main,
+        preprocessed,
+        public_values,
+        nodes,
+        pl,
+        tuples,
+        multiplicities,
+        flags,
+        elements,
+        &mut heads,
+        ws,
+        before,
+    );
+    unlink_slots(ws, v.linked);
+    Use {
+        used: v.used,
+        full: v.full,
+    }
 }

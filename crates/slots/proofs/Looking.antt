@@ -2,16 +2,15 @@
 use mathlib.Core.Path.{_≡_, refl, sym, ap, ap₂, _∙_}
 use mathlib.Core.Bool.{Bool, true, false, cond}
 use mathlib.Core.List.{List}
-use Prim.Native.Nat.{ℕ, zero, suc, _+_, _*_, _-_, _<_, _≤_, zero-le}
+use Prim.Native.Nat.{ℕ, _+_, _*_, _-_, _<_, _≤_, zero-le}
 use native.Mathlib.Numerals.{add-one}
 use native.Mathlib.Omega.{arith}
-use lib.Dec.{eqb}
-use lib.ListN.{length, getD, take, drop}
+use lib.ListN.{getD, take, drop}
 use borrow.Author.Tests.{eq-eqb, ne-eqb}
 use Rattle.expression.specs.Words.{word}
 use Rattle.texts.specs.Text.{tuple-less}
 use Rattle.slots.specs.declared.least.Best.{Best}
-use mathlib.Core.Option.{Option, none, some}
+use mathlib.Core.Option.{none, some}
 use Rattle.expression.specs.declared.refusal.Refusal.the-variants.{WorkspaceFull, NetNotZero}
 use Rattle.slots.specs.declared.enter.Use.{Use}
 use Rattle.slots.specs.Work.{work, net-at, tuple-at, best, better-at, least-to, named, judged}

@@ -1,14 +1,14 @@
--- The turns of finding and entering, over plain lists and numbers.
+-- The turns of finding a slot and of writing its words, over plain lists and numbers.
 use mathlib.Core.Path.{_≡_, refl, sym, ap, ap₂, _∙_}
 use mathlib.Core.Bool.{Bool, true, false, cond, _&&_}
-use mathlib.Core.List.{List, [], _∷_, _++_, append-assoc}
+use mathlib.Core.List.{List, [], _∷_, _++_}
 use Prim.Native.Nat.{ℕ, zero, suc, _+_, _*_, _-_, _%_, _<_, _≤_, zero-le}
 use native.Mathlib.Numerals.{add-one}
 use native.Mathlib.Omega.{arith}
-use lib.Dec.{eqb, leb, ltb, lit≤}
+use lib.Dec.{eqb}
 use lib.ListN.{length, take, drop, getD, set, replicate, drop-of-length-le}
 use lib.Seq.{drop-cons}
-use borrow.Author.Tests.{eq-eqb, ne-eqb, lt-ltb, le-ltb, le-leb, lt-leb}
+use borrow.Author.Tests.{eq-eqb, ne-eqb}
 use borrow.Rule.Slice.PartMut.{putMid}
 use Rattle.lists.specs.laws.Parts.{part-length}
 use Rattle.lists.specs.laws.Filled.{Filled, filled-none, filled-one, filled-whole, put-mid}
@@ -16,9 +16,7 @@ use Rattle.lists.specs.Tab.{tab}
 use Rattle.lists.specs.laws.Tab.{tab-none, tab-one}
 use Rattle.expression.specs.Words.{word}
 use Rattle.logup.specs.Ledger.{same-list}
-use Rattle.slots.specs.declared.enter.Use.{Use}
-use Rattle.slots.specs.laws.Entering.{same-lengths, made}
-use Rattle.slots.specs.Work.{Work, work, match-at, find-slot, added-at, new-words, new-at, enter-at, step}
+use Rattle.slots.specs.Work.{match-at, find-slot, added-at, new-words, new-at}
 
 -- two lists agree in their first i words
 pub record SameSoFar (x y : List ℕ) (i : ℕ) : Type 0 where
@@ -60,13 +58,13 @@ match-yes {w} {r} ws t k e z er =
     let a : (10 * k + 1 + length t) - (10 * k + 1) ≡ length t = omega arith in
     rw (eq-eqb (word ws (10 * k)) (length t) (sym e ∙ z)) (er ∙ ap (λ (n : ℕ). same-list (take n (drop (10 * k + 1) ws)) t) a)
 
--- a search: no slot before k holds t
-pub record Searching (ws t : List ℕ) (n k : ℕ) : Type 0 where
-  pub rest : find-slot ws t k (n - k) ≡ find-slot ws t 0 n
+-- a search from slot f on: no slot before k holds t
+pub record Searching (ws t : List ℕ) (f n k : ℕ) : Type 0 where
+  pub rest : find-slot ws t k (n - k) ≡ find-slot ws t f (n - f)
   pub within : k ≤ n
 
-pub search-begins : {ws t : List ℕ} {n : ℕ} → Searching ws t n 0
-search-begins {ws} {t} {n} = record { rest = ap (find-slot ws t 0) (let e : n - 0 ≡ n = omega arith in e); within = zero-le }
+pub search-begins : {ws t : List ℕ} {f n : ℕ} → f ≤ n → Searching ws t f n f
+search-begins h = record { rest = refl; within = h }
 
 search-step : (ws t : List ℕ) (n k : ℕ) → k < n → find-slot ws t k (n - k) ≡ cond (match-at ws t k) k (find-slot ws t (k + 1) (n - (k + 1)))
 unfolding find-slot
@@ -74,20 +72,20 @@ search-step ws t n k h =
     let e : n - k ≡ suc (n - (k + 1)) = omega arith in
     ap (find-slot ws t k) e ∙ ap (λ (j : ℕ). cond (match-at ws t k) k (find-slot ws t j (n - (k + 1)))) (sym (add-one k))
 
-pub search-turn : {ws t : List ℕ} {n k : ℕ} {b : Bool} → Searching ws t n k → k < n → b ≡ match-at ws t k → b ≡ false → Searching ws t n (k + 1)
-search-turn {ws} {t} {n} {k} {b} s h e z =
+pub search-turn : {ws t : List ℕ} {f n k : ℕ} {b : Bool} → Searching ws t f n k → k < n → b ≡ match-at ws t k → b ≡ false → Searching ws t f n (k + 1)
+search-turn {ws} {t} {f} {n} {k} {b} s h e z =
     record {
       rest = ap (λ (c : Bool). cond c k (find-slot ws t (k + 1) (n - (k + 1)))) (sym z ∙ e) ∙ sym (search-step ws t n k h) ∙ s .rest;
       within = omega arith;
     }
 
-pub search-hits : {ws t : List ℕ} {n k : ℕ} {b : Bool} → Searching ws t n k → k < n → b ≡ match-at ws t k → b ≡ true → k ≡ find-slot ws t 0 n
-search-hits {ws} {t} {n} {k} {b} s h e z =
+pub search-hits : {ws t : List ℕ} {f n k : ℕ} {b : Bool} → Searching ws t f n k → k < n → b ≡ match-at ws t k → b ≡ true → k ≡ find-slot ws t f (n - f)
+search-hits {ws} {t} {f} {n} {k} {b} s h e z =
     ap (λ (c : Bool). cond c k (find-slot ws t (k + 1) (n - (k + 1)))) (sym z ∙ e) ∙ sym (search-step ws t n k h) ∙ s .rest
 
-pub search-ends : {ws t : List ℕ} {n k : ℕ} → Searching ws t n k → n ≤ k → n ≡ find-slot ws t 0 n
+pub search-ends : {ws t : List ℕ} {f n k : ℕ} → Searching ws t f n k → n ≤ k → n ≡ find-slot ws t f (n - f)
 unfolding find-slot
-search-ends {ws} {t} {n} {k} s h =
+search-ends {ws} {t} {f} {n} {k} s h =
     let e : k ≡ n = omega (arith, s .within) in
     let z : n - k ≡ 0 = omega arith in
     sym e ∙ ap (find-slot ws t k) (sym z) ∙ s .rest
@@ -163,43 +161,3 @@ new-is ws t n count e = put-mid ws (10 * n) (10 * n + 10) e (omega arith)
 
 pub new-part : (ws : List ℕ) (n : ℕ) → 10 * n + 10 ≤ length ws → length (take ((10 * n + 10) - 10 * n) (drop (10 * n) ws)) ≡ 10
 new-part ws n h = part-length ws (10 * n) (10 * n + 10) (omega arith) h ∙ (let e : (10 * n + 10) - 10 * n ≡ 10 = omega arith in e)
-
--- the three ways of an entry
-pub enter-found : {k : ℕ} {b : List ℕ} (p : ℕ) (ws t : List ℕ) (u : Use) (count : ℕ) → k ≡ find-slot ws t 0 (u .used) → k < u .used → b ≡ added-at p ws k count
-    → made b (u .used) false ≡ enter-at p (work ws u) t count
-unfolding enter-at
-enter-found {k} {b} p ws t u count e h eb =
-    let l : ltb (find-slot ws t 0 (u .used)) (u .used) ≡ true = rw (sym e) (lt-ltb k (u .used) h) in
-    rw l (ap (λ (x : List ℕ). made x (u .used) false) (eb ∙ ap (λ (x : ℕ). added-at p ws x count) e))
-
-pub enter-full : {k : ℕ} {b : List ℕ} (p : ℕ) (ws t : List ℕ) (u : Use) (count : ℕ) → k ≡ find-slot ws t 0 (u .used) → u .used ≤ k → 10 * u .used ≤ length ws → length ws - 10 * u .used < 10
-    → b ≡ replicate (length ws) 0 → made b 0 true ≡ enter-at p (work ws u) t count
-unfolding enter-at
-enter-full {k} {b} p ws t u count e h g f eb =
-    let l : ltb (find-slot ws t 0 (u .used)) (u .used) ≡ false = rw (sym e) (le-ltb k (u .used) h) in
-    let m : leb (10 * u .used + 10) (length ws) ≡ false = lt-leb (10 * u .used + 10) (length ws) (omega arith) in
-    rw (l, m) (ap (λ (x : List ℕ). made x 0 true) eb)
-
-pub enter-new : {k : ℕ} {b : List ℕ} (p : ℕ) (ws t : List ℕ) (u : Use) (count : ℕ) → k ≡ find-slot ws t 0 (u .used) → u .used ≤ k → 10 * u .used ≤ length ws → 10 ≤ length ws - 10 * u .used
-    → b ≡ new-at ws (u .used) t count → made b (u .used + 1) false ≡ enter-at p (work ws u) t count
-unfolding enter-at
-enter-new {k} {b} p ws t u count e h g f eb =
-    let l : ltb (find-slot ws t 0 (u .used)) (u .used) ≡ false = rw (sym e) (le-ltb k (u .used) h) in
-    let m : leb (10 * u .used + 10) (length ws) ≡ true = le-leb (10 * u .used + 10) (length ws) (omega arith) in
-    rw (l, m) (ap (λ (x : List ℕ). made x (u .used + 1) false) eb)
-
--- the three ways of a step
-pub step-full : (p : ℕ) (ws t : List ℕ) (u : Use) (count : ℕ) → u .full ≡ true → work ws u ≡ step p (work ws u) (record { tuple = t; count = count })
-unfolding step
-step-full p ws t u count e = sym (ap (λ (b : Bool). cond b (work ws u) (cond (eqb count 0) (work ws u) (enter-at p (work ws u) t count))) e)
-
-pub step-skip : (p : ℕ) (ws t : List ℕ) (u : Use) (count : ℕ) → u .full ≡ false → count ≡ 0 → work ws u ≡ step p (work ws u) (record { tuple = t; count = count })
-unfolding step
-step-skip p ws t u count e z =
-    sym (ap₂ (λ (b d : Bool). cond b (work ws u) (cond d (work ws u) (enter-at p (work ws u) t count))) e (eq-eqb count 0 z))
-
-pub step-enter : {w : Work} (p : ℕ) (ws t : List ℕ) (u : Use) (count : ℕ) → u .full ≡ false → (count ≡ 0 → ⊥) → w ≡ enter-at p (work ws u) t count
-    → w ≡ step p (work ws u) (record { tuple = t; count = count })
-unfolding step
-step-enter p ws t u count e n q =
-    q ∙ sym (ap₂ (λ (b d : Bool). cond b (work ws u) (cond d (work ws u) (enter-at p (work ws u) t count))) e (ne-eqb count 0 n))

@@ -1,7 +1,7 @@
 -- The slots of a group. Document 01, Balance: "Workspace slots, in order of first meeting: tuple width, eight words (zeros past the
 -- width), net."
 use Prim.Native.Nat.{ℕ}
-use mathlib.Core.Bool.{cond, not}
+use mathlib.Core.Bool.{cond}
 use mathlib.Core.List.{List, [], _∷_}
 use lib.Dec.{eqb}
 use Rattle.lists.specs.Fold.{fold}

@@ -1,10 +1,10 @@
 -- The workspace as words, and what the code makes of it: slot k is the ten words from 10 k on.
-use Prim.Native.Nat.{ℕ, zero, suc, _+_, _*_, _-_}
+use Prim.Native.Nat.{ℕ, zero, suc, _+_, _*_}
 use mathlib.Core.Bool.{Bool, true, false, cond, _&&_}
 use mathlib.Core.Option.{Option, none, some}
-use mathlib.Core.List.{List, [], _∷_, _++_, flatMap}
+use mathlib.Core.List.{List, [], _∷_, _++_}
 use lib.Dec.{eqb, leb, ltb}
-use lib.ListN.{length, getD, take, drop, set, replicate}
+use lib.ListN.{length, take, drop, set, replicate}
 use Rattle.lists.specs.Tab.{tab}
 use Rattle.field.specs.Word.{addM}
 use Rattle.expression.specs.Words.{word}
@@ -13,7 +13,7 @@ use Rattle.expression.specs.declared.refusal.Refusal.the-variants.{WorkspaceFul
 use Rattle.logup.specs.Ledger.{Entry, same-list}
 use Rattle.texts.specs.Text.{tuple-less}
 use Rattle.slots.specs.Slots.{Slot}
-use Rattle.slots.specs.Workspace.{slot-words, full, workspace}
+use Rattle.slots.specs.Workspace.{full, workspace}
 use Rattle.slots.specs.declared.enter.Use.{Use}
 use Rattle.slots.specs.declared.least.Best.{Best}
 

@@ -1,14 +1,12 @@
-// An entry in the workspace.
-use crate::find::find_slot;
+// The words of a slot: a count is added, a new slot is made, all is cleared.
 use expression::words::wide;
 use field::word;
 ghost use mathlib.Core.Path.{_≡_};
-ghost use Prim.Native.Nat.{_+_, _*_, _≤_, _<_};
+ghost use Prim.Native.Nat.{_+_, _*_, _≤_};
 ghost use lib.ListN.{length, replicate};
 ghost use Rattle.field.specs.Modulus.{Modulus};
 ghost use Rattle.expression.specs.Words.{word};
-ghost use Rattle.logup.specs.Ledger.{Entry};
-ghost use Rattle.slots.specs.Work.{added-at, new-words, new-at, work, enter-at, step};
+ghost use Rattle.slots.specs.Work.{added-at, new-words, new-at};
 
 // How many slots are in use, and whether one was missing.
 pub struct Use {
@@ -35,7 +33,7 @@ pub fn clear(ws: &mut [u32])
 }
 
 // A count is added to slot k's net.
-fn add_count(p: u32, ws: &mut [u32], k: usize, count: u32)
+pub fn add_count(p: u32, ws: &mut [u32], k: usize, count: u32)
     requires { ⌜ Modulus p × (10 * k + 10 ≤ length (now ws)) ⌝ }
     ensures { λ _. ⌜ now (ws .exit) ≡ added-at p (now (ws .entry)) k count ⌝ }
 {
@@ -60,53 +58,11 @@ fn put_slot(out: &mut [u32], t: &[u32], count: u32)
 }
 
 // A new slot after the first n.
-fn new_slot(ws: &mut [u32], n: usize, t: &[u32], count: u32)
+pub fn new_slot(ws: &mut [u32], n: usize, t: &[u32], count: u32)
     requires { ⌜ (length (now t) ≤ 8) × (10 * n + 10 ≤ length (now ws)) ⌝ }
     ensures { λ _. ⌜ now (ws .exit) ≡ new-at (now (ws .entry)) n (now (t .entry)) count ⌝ }
 {
     let a = 10 * n;
     let e = a + 10;
     put_slot(&mut ws[a..e], t, count);
-}
-
-// An entry goes to its tuple's slot, or to a new one; without room all is zero.
-fn enter(p: u32, ws: &mut [u32], u: Use, t: &[u32], count: u32) -> Use
-    requires { ⌜ Modulus p × (length (now t) ≤ 8) × (10 * u .used ≤ length (now ws)) ⌝ }
-    ensures { λ r. ⌜ work (now (ws .exit)) r ≡ enter-at p (work (now (ws .entry)) u) (now (t .entry)) count ⌝ }
-{
-    let n = u.used;
-    let k = find_slot(ws, n, t);
-    if k < n {
-        add_count(p, ws, k, count);
-        return Use {
-            used: n,
-            full: false,
-        };
-    }
-    if ws.len() - 10 * n < 10 {
-        clear(ws);
-        return Use {
-            used: 0,
-            full: true,
-        };
-    }
-    new_slot(ws, n, t, count);
-    Use {
-        used: n + 1,
-        full: false,
-    }
-}
-
-// A count of 0 is skipped, and nothing is entered after a slot was missing.
-pub fn meet(p: u32, ws: &mut [u32], u: Use, t: &[u32], count: u32) -> Use
-    requires { ⌜ Modulus p × (length (now t) ≤ 8) × (10 * u .used ≤ length (now ws)) ⌝ }
-    ensures { λ r. ⌜ work (now (ws .exit)) r ≡ step p (work (now (ws .entry)) u) (record { tuple = now (t .entry); count = count }) ⌝ }
-{
-    if u.full {
-        return u;
-    }
-    if count == 0 {
-        return u;
-    }
-    enter(p, ws, u, t, count)
 }

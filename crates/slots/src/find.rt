@@ -1,7 +1,7 @@
 // The slot of a tuple.
 use expression::words::index;
 ghost use mathlib.Core.Path.{_≡_};
-ghost use Prim.Native.Nat.{_+_, _*_, _≤_};
+ghost use Prim.Native.Nat.{_+_, _*_, _-_, _≤_};
 ghost use lib.ListN.{length};
 ghost use Rattle.logup.specs.Ledger.{same-list};
 ghost use Rattle.slots.specs.Work.{match-at, find-slot};
@@ -37,12 +37,12 @@ fn slot_matches(ws: &[u32], t: &[u32], k: usize) -> bool
     same_words(&ws[s..e], t)
 }
 
-// The slot of t among the first n, or n.
-pub fn find_slot(ws: &[u32], n: usize, t: &[u32]) -> usize
-    requires { ⌜ (length (now t) ≤ 8) × (10 * n ≤ length (now ws)) ⌝ }
-    ensures { λ r. ⌜ r ≡ find-slot (now (ws .entry)) (now (t .entry)) 0 n ⌝ }
+// The slot of t among those from slot `first` on and before slot n, or n.
+pub fn find_slot(ws: &[u32], first: usize, n: usize, t: &[u32]) -> usize
+    requires { ⌜ (length (now t) ≤ 8) × (first ≤ n) × (10 * n ≤ length (now ws)) ⌝ }
+    ensures { λ r. ⌜ r ≡ find-slot (now (ws .entry)) (now (t .entry)) first (n - first) ⌝ }
 {
-    let mut k = 0;
+    let mut k = first;
     while k < n {
         if slot_matches(ws, t, k) {
             return k;

@@ -1,24 +1,23 @@
 -- The slot that the search finds is the one that the definition names.
 use mathlib.Core.Path.{_≡_, refl, sym, ap, ap₂, _∙_, subst}
 use mathlib.Core.Bool.{Bool, true, false, cond}
-use mathlib.Core.Option.{Option, none, some}
+use mathlib.Core.Option.{some}
 use mathlib.Core.List.{List, [], _∷_, _++_, append-nil, append-assoc, flatMap}
 use Prim.Native.Nat.{ℕ, zero, suc, _+_, _*_, _-_, _<_, _≤_}
 use native.Mathlib.Omega.{arith}
 use lib.Dec.{eqb}
-use lib.ListN.{length, length-append, take, drop, getD, replicate}
+use lib.ListN.{length, take, drop, getD, replicate}
 use lib.Seq.{take-suc, take-all, length-take-le, getD-at, getD-append-add, drop-append-add, take-at}
 use borrow.Author.Tests.{eq-eqb, ne-eqb, eqb-true, eqb-false}
 use Rattle.lists.specs.Fold.{fold}
 use Rattle.lists.specs.laws.Fold.{fold-append}
 use Rattle.expression.specs.Words.{word}
-use Rattle.expression.specs.declared.refusal.Refusal.{Refusal}
 use Rattle.expression.specs.declared.refusal.Refusal.the-variants.{WorkspaceFull, NetNotZero}
 use Rattle.texts.specs.Text.{tuple-less}
 use Rattle.slots.specs.Slots.{Slot}
 use Rattle.slots.specs.Workspace.{slot-words, full, workspace}
 use Rattle.slots.specs.Named.{Numbered, unbalanced, earlier, names-first, group-refusal}
-use Rattle.slots.specs.Work.{Work, work-of, net-at, tuple-at, best, better-at, least-to, named, judged}
+use Rattle.slots.specs.Work.{work-of, net-at, tuple-at, best, better-at, least-to, named, judged}
 use Rattle.slots.specs.laws.Entering.{Fit, front, front-long, slot-is, slot-long}
 use Rattle.slots.specs.declared.least.Best.{Best}
 

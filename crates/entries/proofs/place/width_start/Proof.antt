@@ -5,9 +5,6 @@ use Prim.Native.Nat.{_-_}
 use borrow.Author.Needs.{needs}
 use Rattle.entries.proofs.place.width_start.Statement.{statement}
 use Rattle.entries.proofs.place.width_start.Tie as tie
-use Rattle.entries.proofs.place.width_start.Reads as reads
-use Rattle.entries.proofs.place.width_start.Lts as lts
-use Rattle.expression.proofs.words.index.Reads as index-reads
 
 abbrev Inv-loop : tie.InvT-loop
 Inv-loop tuples j sum₀ i₀ sum i = Summing (word tuples) 4294967295 j i sum
@@ -15,39 +12,30 @@ Inv-loop tuples j sum₀ i₀ sum i = Summing (word tuples) 4294967295 j i sum
 abbrev μ-loop : tie.MeasureT-loop
 μ-loop tuples j sum₀ i₀ sum i = j - i
 
--- src/place.rt:44:5
 loop-holds : tie.Need-loop-holds Inv-loop μ-loop
 loop-holds c = sum-begins
 
--- src/place.rt:45:23
 mul-index : tie.Need-mul-index Inv-loop μ-loop
 mul-index c = search needs
 
--- src/place.rt:45:23
 shared-slice-read-index : tie.Need-shared-slice-read-index Inv-loop μ-loop
 shared-slice-read-index c = search needs
 
--- src/place.rt:45:13
 index-requires : tie.Need-index-requires Inv-loop μ-loop
 index-requires c κs = search needs
 
--- src/place.rt:46:15
 add-sum : tie.Need-add-sum Inv-loop μ-loop
 add-sum c = search needs
 
--- src/place.rt:47:9
 add-i : tie.Need-add-i Inv-loop μ-loop
 add-i c = search needs
 
--- src/place.rt:44:5
 loop-less : tie.Need-loop-less Inv-loop μ-loop
 loop-less c = search needs
 
--- src/place.rt:44:5
 loop-again : tie.Need-loop-again Inv-loop μ-loop
 loop-again c = sum-turn _ (c .before .before .before .loop .inv) (search needs) (c .index .ensures .1) (c .index .ensures .0)
 
--- src/place.rt:38:1
 returns : tie.Need-returns Inv-loop μ-loop
 unfolding element-start
 returns c = sum-ends (c .before .loop .inv) (search needs)

@@ -1,65 +1,45 @@
 use Rattle.entries.proofs.Turns.{count-exclusive, count-additive}
-use Rattle.expression.specs.Words.{word}
-use mathlib.Core.Path.{_∙_, ap}
 use native.Mathlib.Omega.{arith}
 use borrow.Author.Needs.{needs}
 use Rattle.entries.proofs.rows.count.Statement.{statement}
 use Rattle.entries.proofs.rows.count.Tie as tie
-use Rattle.entries.proofs.rows.count.Reads as reads
-use Rattle.entries.proofs.rows.count.Lts as lts
-use Rattle.expression.proofs.words.index.Reads as index-reads
-use Rattle.field.proofs.word.mul.Reads as mul-reads
-use Rattle.slots.proofs.enter.word_or_zero.Reads as word-or-zero-reads
 
--- src/rows.rt:54:53
 add-index : tie.Need-add-index
 add-index c = search needs
 
--- src/rows.rt:54:38
 mul-index : tie.Need-mul-index
 mul-index c = search needs
 
--- src/rows.rt:54:38
 shared-slice-read-index : tie.Need-shared-slice-read-index
 shared-slice-read-index c = search needs
 
--- src/rows.rt:54:32
 index-requires : tie.Need-index-requires
 index-requires c κs = search needs
 
--- src/rows.rt:54:9
 word-or-zero-requires : tie.Need-word-or-zero-requires
 word-or-zero-requires c κs = search needs
 
--- src/rows.rt:56:48
 add-index-2 : tie.Need-add-index-2
 add-index-2 c = omega (arith, c .before .before .before .before .before .before .before .before .before .pre .3 (c .before .if1 .taken))
 
--- src/rows.rt:56:42
 mul-index-2 : tie.Need-mul-index-2
 mul-index-2 c = omega (arith, c .before .before .before .before .before .before .before .before .before .pre .3 (c .before .if1 .taken))
 
--- src/rows.rt:56:42
 shared-slice-read-index-2 : tie.Need-shared-slice-read-index-2
 shared-slice-read-index-2 c = c .before .before .before .before .before .before .before .before .before .before .pre .3 (c .before .before .if1 .taken)
 
--- src/rows.rt:56:36
 index-requires-2 : tie.Need-index-requires-2
 index-requires-2 c κs = search needs
 
--- src/rows.rt:56:13
 word-or-zero-requires-2 : tie.Need-word-or-zero-requires-2
 word-or-zero-requires-2 c κs = search needs
 
--- src/rows.rt:57:9
 mul-requires : tie.Need-mul-requires
 mul-requires c κs = (c .before .before .before .before .before .before .before .before .before .before .before .before .pre .0, rw (c .before .before .before .before .before .word-or-zero .ensures) (c .before .before .before .before .before .before .before .before .before .before .before .before .pre .1 .each _), rw (c .word-or-zero2 .ensures) (c .before .before .before .before .before .before .before .before .before .before .before .before .pre .1 .each _))
 
--- src/rows.rt:57:9
 returns : tie.Need-returns
 returns c = count-exclusive _ _ _ _ _ _ (c .before .before .before .before .before .if1 .taken) (c .before .before .before .before .before .before .word-or-zero .ensures) (c .before .before .before .before .before .before .before .index .ensures .0) (c .before .word-or-zero2 .ensures) (c .before .before .index2 .ensures .0) (c .mul .ensures .1)
 
--- src/rows.rt:50:1
 returns-2 : tie.Need-returns-2
 returns-2 c = count-additive _ _ _ _ _ _ (c .if1 .left) (c .before .word-or-zero .ensures) (c .before .before .index .ensures .0)
 

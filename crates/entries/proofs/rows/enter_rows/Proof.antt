@@ -1,58 +1,37 @@
-use Rattle.entries.proofs.Turns.{Rowing, rowing-begins, rowing-turn, rowing-ends}
-use Rattle.slots.specs.Work.{work}
-use Rattle.expression.specs.Window.{lent-traces}
-use Prim.Native.Nat.{_-_}
+use Rattle.entries.proofs.Turns.{linked-ready, unlinked}
 use borrow.Author.Needs.{needs}
 use Rattle.entries.proofs.rows.enter_rows.Statement.{statement}
 use Rattle.entries.proofs.rows.enter_rows.Tie as tie
-use Rattle.entries.proofs.rows.enter_rows.Reads as reads
-use Rattle.entries.proofs.rows.enter_rows.Lts as lts
-use Rattle.entries.proofs.rows.on_row.Reads as on-row-reads
 
-abbrev Inv-loop : tie.InvT-loop
-Inv-loop p shape main preprocessed public-values nodes pl tuples multiplicities flags elements ws₀ height v₀ r₀ ws v r = Rowing p pl tuples multiplicities flags elements (lent-traces shape main preprocessed public-values) nodes (work ws₀ v₀) r ws v
+slice-aggregate-link-slots : tie.Need-slice-aggregate-link-slots
+slice-aggregate-link-slots c = search needs
 
-abbrev μ-loop : tie.MeasureT-loop
-μ-loop p shape main preprocessed public-values nodes pl tuples multiplicities flags elements ws₀ height v₀ r₀ ws v r = shape .height - r
+link-slots-requires : tie.Need-link-slots-requires
+link-slots-requires c κs = search needs
 
--- src/rows.rt:144:5
-loop-holds : tie.Need-loop-holds Inv-loop μ-loop
-loop-holds c = rowing-begins (search needs)
+slice-aggregate-each-row : tie.Need-slice-aggregate-each-row
+slice-aggregate-each-row c = search needs
 
--- src/rows.rt:145:13
-on-row-requires : tie.Need-on-row-requires Inv-loop μ-loop
-on-row-requires c κs = (c .before .before .before .before .before .before .before .before .before .before .before .before .pre .0, c .before .loop-test .taken, search needs, c .before .before .before .before .before .before .before .before .before .before .before .before .pre .3)
+each-row-requires : tie.Need-each-row-requires
+each-row-requires c κs = (c .before .before .before .before .before .before .before .before .before .before .before .before .before .before .before .before .before .pre .0, c .before .before .before .before .before .before .before .before .before .before .before .before .before .before .before .before .before .pre .1, linked-ready _ (c .before .before .before .before .before .before .before .before .before .before .before .before .before .before .before .before .before .pre .2) (c .before .before .before .before .before .link-slots .ensures), c .before .before .before .before .before .before .before .before .before .before .before .before .before .before .before .before .before .pre .3)
 
--- src/rows.rt:162:9
-add-r : tie.Need-add-r Inv-loop μ-loop
-add-r c = search needs
+unlink-slots-requires : tie.Need-unlink-slots-requires
+unlink-slots-requires c κs = search needs
 
--- src/rows.rt:144:5
-loop-less : tie.Need-loop-less Inv-loop μ-loop
-loop-less c = search needs
-
--- src/rows.rt:144:5
-loop-again : tie.Need-loop-again Inv-loop μ-loop
-loop-again c = rowing-turn (c .before .before .before .before .before .loop .inv) (c .before .before .before .before .loop-test .taken) (c .before .before .on-row .ensures)
-
--- src/rows.rt:123:1
-same-length : tie.Need-same-length Inv-loop μ-loop
+same-length : tie.Need-same-length
 same-length c = search needs
 
--- src/rows.rt:123:1
-returns : tie.Need-returns Inv-loop μ-loop
-returns c = rowing-ends (c .before .loop .inv) (c .loop-test .left)
+returns : tie.Need-returns
+returns c = unlinked _ _ _ (c .before .before .before .before .before .before .before .before .before .before .before .before .before .link-slots .ensures) (c .before .before .before .before .before .before .before .each-row .ensures) (c .before .before .unlink-slots .ensures)
 
 pub enter-rows-spec : {M : Type 1} → statement M
 enter-rows-spec =
     tie.close
     (tie.spec
-    Inv-loop
-    μ-loop
-    loop-holds
-    on-row-requires
-    add-r
-    loop-less
-    loop-again
+    slice-aggregate-link-slots
+    link-slots-requires
+    slice-aggregate-each-row
+    each-row-requires
+    unlink-slots-requires
     same-length
     returns)

@@ -1,15 +1,9 @@
 use Rattle.entries.proofs.Turns.{Valuing, value-begins, value-turn, value-ends}
-use Rattle.expression.specs.Words.{word}
-use mathlib.Core.Path.{_∙_, ap}
 use lib.ListN.{length}
 use Prim.Native.Nat.{_-_}
 use borrow.Author.Needs.{needs}
 use Rattle.entries.proofs.rows.tuple_values.Statement.{statement}
 use Rattle.entries.proofs.rows.tuple_values.Tie as tie
-use Rattle.entries.proofs.rows.tuple_values.Reads as reads
-use Rattle.entries.proofs.rows.tuple_values.Lts as lts
-use Rattle.expression.proofs.words.index.Reads as index-reads
-use Rattle.slots.proofs.enter.word_or_zero.Reads as word-or-zero-reads
 
 abbrev Inv-loop : tie.InvT-loop
 Inv-loop vals nodes out₀ j₀ out j = Valuing vals nodes j out
@@ -17,47 +11,36 @@ Inv-loop vals nodes out₀ j₀ out j = Valuing vals nodes j out
 abbrev μ-loop : tie.MeasureT-loop
 μ-loop vals nodes out₀ j₀ out j = length nodes - j
 
--- src/rows.rt:31:5
 loop-holds : tie.Need-loop-holds Inv-loop μ-loop
 loop-holds c = value-begins (search needs)
 
--- src/rows.rt:32:42
 mul-index : tie.Need-mul-index Inv-loop μ-loop
 mul-index c = search needs
 
--- src/rows.rt:32:42
 shared-slice-read-index : tie.Need-shared-slice-read-index Inv-loop μ-loop
 shared-slice-read-index c = search needs
 
--- src/rows.rt:32:36
 index-requires : tie.Need-index-requires Inv-loop μ-loop
 index-requires c κs = search needs
 
--- src/rows.rt:32:13
 word-or-zero-requires : tie.Need-word-or-zero-requires Inv-loop μ-loop
 word-or-zero-requires c κs = search needs
 
--- src/rows.rt:33:9
 mul-out : tie.Need-mul-out Inv-loop μ-loop
 mul-out c = search needs
 
--- src/rows.rt:33:9
 array-write-out : tie.Need-array-write-out Inv-loop μ-loop
 array-write-out c = search needs
 
--- src/rows.rt:34:9
 add-j : tie.Need-add-j Inv-loop μ-loop
 add-j c = search needs
 
--- src/rows.rt:31:5
 loop-less : tie.Need-loop-less Inv-loop μ-loop
 loop-less c = search needs
 
--- src/rows.rt:31:5
 loop-again : tie.Need-loop-again Inv-loop μ-loop
 loop-again c = value-turn (c .before .before .before .before .loop .inv) (search needs) (c .word-or-zero .ensures) (c .before .index .ensures .0)
 
--- src/rows.rt:25:1
 returns : tie.Need-returns Inv-loop μ-loop
 returns c = value-ends (c .before .loop .inv) (search needs)
 

@@ -5,9 +5,6 @@ use Prim.Native.Nat.{_-_}
 use borrow.Author.Needs.{needs}
 use Rattle.slots.proofs.enter.put_slot.Statement.{statement}
 use Rattle.slots.proofs.enter.put_slot.Tie as tie
-use Rattle.slots.proofs.enter.put_slot.Reads as reads
-use Rattle.slots.proofs.enter.put_slot.Lts as lts
-use Rattle.slots.proofs.enter.word_or_zero.Reads as word-or-zero-reads
 
 abbrev Inv-loop : tie.InvT-loop
 Inv-loop out₀ t count j₀ out j = Wording out₀ t j out
@@ -15,55 +12,42 @@ Inv-loop out₀ t count j₀ out j = Wording out₀ t j out
 abbrev μ-loop : tie.MeasureT-loop
 μ-loop out₀ t count j₀ out j = 8 - j
 
--- src/enter.rt:52:14
 cast-out : tie.Need-cast-out Inv-loop μ-loop
 cast-out c = search needs
 
--- src/enter.rt:52:5
 slice-write-out : tie.Need-slice-write-out Inv-loop μ-loop
 slice-write-out c = search needs
 
--- src/enter.rt:54:5
 loop-holds : tie.Need-loop-holds Inv-loop μ-loop
 loop-holds c = wording-begins (c .before .before .args .out .now) (search needs) (search needs)
 
--- src/enter.rt:55:13
 word-or-zero-requires : tie.Need-word-or-zero-requires Inv-loop μ-loop
 word-or-zero-requires c κs = search needs
 
--- src/enter.rt:56:13
 add-out : tie.Need-add-out Inv-loop μ-loop
 add-out c = search needs
 
--- src/enter.rt:56:9
 mul-out : tie.Need-mul-out Inv-loop μ-loop
 mul-out c = search needs
 
--- src/enter.rt:56:9
 slice-write-out-2 : tie.Need-slice-write-out-2 Inv-loop μ-loop
 slice-write-out-2 c = search needs
 
--- src/enter.rt:57:9
 add-j : tie.Need-add-j Inv-loop μ-loop
 add-j c = search needs
 
--- src/enter.rt:54:5
 loop-less : tie.Need-loop-less Inv-loop μ-loop
 loop-less c = search needs
 
--- src/enter.rt:54:5
 loop-again : tie.Need-loop-again Inv-loop μ-loop
 loop-again c = wording-turn (c .before .before .loop .inv) (search needs) (c .word-or-zero .ensures)
 
--- src/enter.rt:59:5
 slice-write-out-3 : tie.Need-slice-write-out-3 Inv-loop μ-loop
 slice-write-out-3 c = search needs
 
--- src/enter.rt:48:1
 same-length : tie.Need-same-length Inv-loop μ-loop
 same-length c = simp length-set (omega (arith, c .before .loop .inv .long))
 
--- src/enter.rt:48:1
 returns : tie.Need-returns Inv-loop μ-loop
 returns c = wording-ends _ (c .before .loop .inv) (search needs)
 

@@ -3,22 +3,16 @@ use mathlib.Core.Path.{sym}
 use borrow.Author.Needs.{needs}
 use Rattle.slots.proofs.enter.word_or_zero.Statement.{statement}
 use Rattle.slots.proofs.enter.word_or_zero.Tie as tie
-use Rattle.slots.proofs.enter.word_or_zero.Reads as reads
-use Rattle.slots.proofs.enter.word_or_zero.Lts as lts
 
--- src/enter.rt:23:22
 mul-result : tie.Need-mul-result
 mul-result c = search needs
 
--- src/enter.rt:23:22
 shared-slice-read-result : tie.Need-shared-slice-read-result
 shared-slice-read-result c = search needs
 
--- src/enter.rt:20:1
 returns : tie.Need-returns
 returns c = search needs
 
--- src/enter.rt:20:1
 returns-2 : tie.Need-returns-2
 returns-2 c = sym (List·getD-eq-default (c .before .args .s .now) 0 (search needs))
 

@@ -3,41 +3,31 @@ use Prim.Native.Nat.{_-_}
 use borrow.Author.Needs.{needs}
 use Rattle.slots.proofs.find.find_slot.Statement.{statement}
 use Rattle.slots.proofs.find.find_slot.Tie as tie
-use Rattle.slots.proofs.find.find_slot.Reads as reads
-use Rattle.slots.proofs.find.find_slot.Lts as lts
-use Rattle.slots.proofs.find.slot_matches.Reads as slot-matches-reads
 
 abbrev Inv-loop : tie.InvT-loop
-Inv-loop ws n t k₀ k = Searching ws t n k
+Inv-loop ws f n t k₀ k = Searching ws t f n k
 
 abbrev μ-loop : tie.MeasureT-loop
-μ-loop ws n t k₀ k = n - k
+μ-loop ws f n t k₀ k = n - k
 
--- src/find.rt:46:5
 loop-holds : tie.Need-loop-holds Inv-loop μ-loop
-loop-holds c = search-begins
+loop-holds c = search-begins (search needs)
 
--- src/find.rt:47:12
 slot-matches-requires : tie.Need-slot-matches-requires Inv-loop μ-loop
 slot-matches-requires c κs = search needs
 
--- src/find.rt:48:13
 returns : tie.Need-returns Inv-loop μ-loop
 returns c = search-hits (c .before .before .before .loop .inv) (search needs) (c .before .slot-matches .ensures) (c .if1 .taken)
 
--- src/find.rt:50:9
 add-k : tie.Need-add-k Inv-loop μ-loop
 add-k c = search needs
 
--- src/find.rt:46:5
 loop-less : tie.Need-loop-less Inv-loop μ-loop
 loop-less c = search needs
 
--- src/find.rt:46:5
 loop-again : tie.Need-loop-again Inv-loop μ-loop
 loop-again c = search-turn (c .before .before .before .loop .inv) (search needs) (c .before .slot-matches .ensures) (c .if1 .left)
 
--- src/find.rt:41:1
 returns-2 : tie.Need-returns-2 Inv-loop μ-loop
 returns-2 c = search-ends (c .before .loop .inv) (search needs)
 

@@ -2,43 +2,31 @@ use Rattle.slots.proofs.Looking.{better-zero, better-less, better-kept,
 use borrow.Author.Needs.{needs}
 use Rattle.slots.proofs.least.better.Statement.{statement}
 use Rattle.slots.proofs.least.better.Tie as tie
-use Rattle.slots.proofs.least.better.Reads as reads
-use Rattle.slots.proofs.least.better.Lts as lts
-use Rattle.slots.proofs.least.slot_less.Reads as slot-less-reads
 
--- src/least.rt:43:11
 mul-if1 : tie.Need-mul-if1
 mul-if1 c = search needs
 
--- src/least.rt:43:11
 add-if1 : tie.Need-add-if1
 add-if1 c = search needs
 
--- src/least.rt:43:8
 mul-if1-2 : tie.Need-mul-if1-2
 mul-if1-2 c = search needs
 
--- src/least.rt:43:8
 shared-slice-read-if1 : tie.Need-shared-slice-read-if1
 shared-slice-read-if1 c = search needs
 
--- src/least.rt:44:9
 returns : tie.Need-returns
 returns c = better-zero _ _ _ (search needs) (c .if1 .taken)
 
--- src/least.rt:48:12
 slot-less-requires : tie.Need-slot-less-requires
 slot-less-requires c κs = (search needs, search needs, c .before .before .before .before .pre .2 _ (search needs), c .before .before .before .before .pre .2 _ (search needs))
 
--- src/least.rt:49:13
 returns-2 : tie.Need-returns-2
 returns-2 c = better-less _ _ _ (c .before .before .before .if1 .left) (c .before .before .if2 .taken) (c .before .slot-less .ensures) (c .if3 .taken)
 
--- src/least.rt:54:9
 returns-3 : tie.Need-returns-3
 returns-3 c = better-kept _ _ _ (search needs) (c .before .before .before .if1 .left) (c .before .before .if2 .taken) (c .before .slot-less .ensures) (c .if3 .left)
 
--- src/least.rt:39:1
 returns-4 : tie.Need-returns-4
 returns-4 c = better-first _ _ _ (c .before .if1 .left) (c .if2 .left)
 

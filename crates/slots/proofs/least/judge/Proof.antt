@@ -3,41 +3,28 @@ use mathlib.Core.Path.{refl, _∙_}
 use borrow.Author.Needs.{needs}
 use Rattle.slots.proofs.least.judge.Statement.{statement}
 use Rattle.slots.proofs.least.judge.Tie as tie
-use Rattle.slots.proofs.least.judge.Reads as reads
-use Rattle.slots.proofs.least.judge.Lts as lts
-use Rattle.expression.proofs.words.wide.Reads as wide-reads
-use Rattle.slots.proofs.enter.word_or_zero.Reads as word-or-zero-reads
-use Rattle.slots.proofs.least.least.Reads as least-reads
 
--- src/least.rt:87:9
 returns : tie.Need-returns
 returns c = judged-full _ _ _ (c .if1 .taken)
 
--- src/least.rt:89:9
 least-requires : tie.Need-least-requires
 least-requires c κs = search needs
 
--- src/least.rt:92:41
 mul-word-or-zero : tie.Need-mul-word-or-zero
 mul-word-or-zero c = search needs
 
--- src/least.rt:92:41
 add-word-or-zero : tie.Need-add-word-or-zero
 add-word-or-zero c = search needs
 
--- src/least.rt:92:24
 word-or-zero-requires : tie.Need-word-or-zero-requires
 word-or-zero-requires c κs = search needs
 
--- src/least.rt:92:13
 wide-requires : tie.Need-wide-requires
 wide-requires c κs = search needs
 
--- src/least.rt:93:9
 returns-2 : tie.Need-returns-2
 returns-2 c = judged-named _ _ _ (c .before .before .before .before .if1 .left) (c .before .before .before .least .ensures .0) (c .before .before .if2 .taken) refl (c .wide .ensures .0 ∙ c .before .word-or-zero .ensures)
 
--- src/least.rt:82:1
 returns-3 : tie.Need-returns-3
 returns-3 c = judged-passes _ _ _ (c .before .before .if1 .left) (c .before .least .ensures .0) (c .if2 .left)
 

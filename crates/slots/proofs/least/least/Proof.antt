@@ -4,9 +4,6 @@ use native.Mathlib.Omega.{arith}
 use borrow.Author.Needs.{needs}
 use Rattle.slots.proofs.least.least.Statement.{statement}
 use Rattle.slots.proofs.least.least.Tie as tie
-use Rattle.slots.proofs.least.least.Reads as reads
-use Rattle.slots.proofs.least.least.Lts as lts
-use Rattle.slots.proofs.least.better.Reads as better-reads
 
 abbrev Inv-loop : tie.InvT-loop
 Inv-loop ws n b₀ k₀ b k = Looking ws n k b
@@ -14,27 +11,21 @@ Inv-loop ws n b₀ k₀ b k = Looking ws n k b
 abbrev μ-loop : tie.MeasureT-loop
 μ-loop ws n b₀ k₀ b k = n - k
 
--- src/least.rt:72:5
 loop-holds : tie.Need-loop-holds Inv-loop μ-loop
 loop-holds c = looking-begins
 
--- src/least.rt:73:13
 better-requires : tie.Need-better-requires Inv-loop μ-loop
 better-requires c κs = (search needs, search needs, λ j h. c .before .before .before .pre .1 j (omega (arith, c .loop-test .taken)))
 
--- src/least.rt:75:9
 add-k : tie.Need-add-k Inv-loop μ-loop
 add-k c = search needs
 
--- src/least.rt:72:5
 loop-less : tie.Need-loop-less Inv-loop μ-loop
 loop-less c = search needs
 
--- src/least.rt:72:5
 loop-again : tie.Need-loop-again Inv-loop μ-loop
 loop-again c = looking-turn (c .before .before .loop .inv) (search needs) (c .better .ensures)
 
--- src/least.rt:63:1
 returns : tie.Need-returns Inv-loop μ-loop
 returns c = looking-ends (c .before .loop .inv) (search needs)
 

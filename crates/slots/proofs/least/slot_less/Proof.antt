@@ -2,96 +2,70 @@ use Rattle.slots.proofs.Looking.{less-is}
 use borrow.Author.Needs.{needs}
 use Rattle.slots.proofs.least.slot_less.Statement.{statement}
 use Rattle.slots.proofs.least.slot_less.Tie as tie
-use Rattle.slots.proofs.least.slot_less.Reads as reads
-use Rattle.slots.proofs.least.slot_less.Lts as lts
-use Rattle.expression.proofs.words.index.Reads as index-reads
-use Rattle.texts.proofs.tuple_less.Reads as tuple-less-reads
 
--- src/least.rt:27:13
 mul-x : tie.Need-mul-x
 mul-x c = search needs
 
--- src/least.rt:28:13
 mul-y : tie.Need-mul-y
 mul-y c = search needs
 
--- src/least.rt:29:19
 mul-index : tie.Need-mul-index
 mul-index c = search needs
 
--- src/least.rt:29:19
 shared-slice-read-index : tie.Need-shared-slice-read-index
 shared-slice-read-index c = search needs
 
--- src/least.rt:29:9
 index-requires : tie.Need-index-requires
 index-requires c κs = search needs
 
--- src/least.rt:30:19
 mul-index-2 : tie.Need-mul-index-2
 mul-index-2 c = search needs
 
--- src/least.rt:30:19
 shared-slice-read-index-2 : tie.Need-shared-slice-read-index-2
 shared-slice-read-index-2 c = search needs
 
--- src/least.rt:30:9
 index-requires-2 : tie.Need-index-requires-2
 index-requires-2 c κs = search needs
 
--- src/least.rt:31:13
 add-s : tie.Need-add-s
 add-s c = search needs
 
--- src/least.rt:32:13
 add-e : tie.Need-add-e
 add-e c = search needs
 
--- src/least.rt:33:13
 add-t : tie.Need-add-t
 add-t c = search needs
 
--- src/least.rt:34:13
 add-f : tie.Need-add-f
 add-f c = search needs
 
--- src/least.rt:35:16
 mul-tuple-less : tie.Need-mul-tuple-less
 mul-tuple-less c = search needs
 
--- src/least.rt:35:16
 sub-tuple-less : tie.Need-sub-tuple-less
 sub-tuple-less c = search needs
 
--- src/least.rt:35:16
 part-tuple-less-start : tie.Need-part-tuple-less-start
 part-tuple-less-start c = search needs
 
--- src/least.rt:35:16
 part-tuple-less-end : tie.Need-part-tuple-less-end
 part-tuple-less-end c = search needs
 
--- src/least.rt:35:27
 mul-tuple-less-2 : tie.Need-mul-tuple-less-2
 mul-tuple-less-2 c = search needs
 
--- src/least.rt:35:27
 sub-tuple-less-2 : tie.Need-sub-tuple-less-2
 sub-tuple-less-2 c = search needs
 
--- src/least.rt:35:27
 part-tuple-less-start-2 : tie.Need-part-tuple-less-start-2
 part-tuple-less-start-2 c = search needs
 
--- src/least.rt:35:27
 part-tuple-less-end-2 : tie.Need-part-tuple-less-end-2
 part-tuple-less-end-2 c = search needs
 
--- src/least.rt:35:5
 tuple-less-requires : tie.Need-tuple-less-requires
 tuple-less-requires c κs = search needs
 
--- src/least.rt:23:1
 returns : tie.Need-returns
 returns c = less-is _ _ _ (c .before .before .before .before .before .index .ensures .0) (c .before .before .before .index2 .ensures .0) (c .tuple-less .ensures)
 

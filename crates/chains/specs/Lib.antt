@@ -1,0 +1,3 @@
+pub mod Hash
+pub mod Chain
+pub mod laws

@@ -1,0 +1,3 @@
+pub mod Last
+pub mod Plain
+pub mod Chained

@@ -1,0 +1,21 @@
+// The hash of words.
+use expression::words::wide;
+ghost use mathlib.Core.Path.{_≡_};
+ghost use Prim.Native.Nat.{_+_, _≤_, _<_};
+ghost use lib.ListN.{length};
+ghost use Rattle.expression.specs.Words.{word};
+ghost use Rattle.chains.specs.Hash.{hash};
+
+// The hash of n words from word `at` on.
+pub fn hash(s: &[u32], at: usize, n: usize) -> usize
+    requires { ⌜ at + n ≤ length (now s) ⌝ }
+    ensures { λ r. ⌜ (r ≡ hash (λ j. word (now (s .entry)) (at + j)) n) × (r < 16384) ⌝ }
+{
+    let mut h: u64 = 0;
+    let mut j = 0;
+    while j < n {
+        h = (h * 2654435769 + wide(s[at + j])) % 4294967296;
+        j += 1;
+    }
+    (h * 2654435769 % 4294967296 / 262144) as usize
+}
