@@ -111,7 +111,7 @@ int LLVMFuzzerTestOneInput(const uint8_t *data, size_t n) {
     taken = 0;
     uint64_t details[3] = {7, 7, 7}, used[6];
     uint32_t terminal[5], number = 0;
-    uint8_t door = byte() % 9;
+    uint8_t door = byte() % 10;
     size_t a = size(), b = size(), c = size(), d = size();
     words nodes = list(0), lookups = list(0), tuples = list(0), multiplicities = list(0), flags = list(0), elements = list(0);
     names name = name_list(0);
@@ -144,6 +144,10 @@ int LLVMFuzzerTestOneInput(const uint8_t *data, size_t n) {
         break;
     case 7:
         number = delmatik_prefixes(L(main), L(preprocessed), a, b, L(out), details);
+        break;
+    case 8:
+        number = delmatik_build(a, b, c, L(nodes), d, byte(), byte(), L(lookups), L(publics), L(name), L(tuples), L(multiplicities), L(flags),
+            L(elements), L(out), used, details);
         break;
     default:
         number = delmatik_balance(L(main), L(preprocessed), L(publics), L(nodes), LOOKUPS, L(more), L(out), details);

@@ -11,7 +11,7 @@ use delmatik::sys;
 use harness::generator::{self, Case};
 use harness::lent::Lender;
 use harness::plain::{P, Random};
-use harness::table::Table;
+use harness::table::{Lookup, Table};
 
 /// How many details document 01 names for a refusal.
 fn named(number: u32) -> usize {
@@ -167,6 +167,28 @@ impl Fuzz {
         ))
     }
 
+    /// The interactions that the lookups of the first table would come from: the additive ones on a bus as globals.
+    fn building(&mut self, case: &Case) -> Result<(), String> {
+        let t = self.spoiled(&case.tables[0]);
+        let mut records = if case.tables[0].fits() { case.tables[0].records() } else { vec![] };
+        let kind = |l: &Lookup| if l.bus.is_none() { 0 } else { 1 + usize::from(l.exclusive) };
+        records.sort_by_key(kind);
+        let mut kinds = [0u64; 3];
+        records.iter().for_each(|l| kinds[kind(l)] += 1);
+        let mut sorted = Table::default();
+        sorted.set_records(&records);
+        let words: Vec<u32> = records.iter().flat_map(|l| [l.bus.as_ref().map_or(0, Vec::len) as u32, l.tuples.len() as u32]).collect();
+        let weights: Vec<u32> = sorted.tuples.iter().map(|w| w.wrapping_mul(0x9E3779B9)).collect();
+        let r = &mut self.random;
+        let [locals, globals, exclusives] = kinds.map(|n| size(r, n));
+        let (words, weights, room) = (list(r, &words), list(r, &weights), list(r, &vec![9; sorted.lookups.len()]));
+        let [width, pre_width, publics] = [t.main_width, t.pre_width, t.public_values.len() as u64].map(|n| size(r, n));
+        call!(self, delmatik_build(
+            width, pre_width, publics, [&t.nodes], locals, globals, exclusives, [&words], [&weights], [&sorted.names], [&sorted.tuples],
+            [&sorted.multiplicities], [&sorted.flags], [&sorted.elements], [mut &room], (out &[7u64]),
+        ))
+    }
+
     /// The doors over several tables.
     fn tables(&mut self, case: &Case) -> Result<(), String> {
         let all: Vec<Table> = case.tables.iter().map(|t| self.spoiled(t)).collect();
@@ -251,7 +273,8 @@ fn main() -> ExitCode {
         if i % 2 == 0 {
             generator::damage(&mut source, &mut case);
         }
-        let result = fuzz.table(&case).and_then(|()| fuzz.tables(&case)).and_then(|()| fuzz.words(&case));
+        let result =
+            fuzz.table(&case).and_then(|()| fuzz.building(&case)).and_then(|()| fuzz.tables(&case)).and_then(|()| fuzz.words(&case));
         if let Err(text) = result {
             println!("case {i} of seed {seed}: {text}\n{case}");
             return ExitCode::FAILURE;
