@@ -8,6 +8,7 @@ use lib.Dec.{eqb, ltb}
 use lib.ListN.{length}
 use borrow.Author.Tests.{eqb-true, ltb-true}
 use Rattle.field.specs.Element.{at, Word4, element}
+use Rattle.field.specs.Modulus.{babybear}
 use Rattle.telling.specs.Element.{four-below, element-number, element-after}
 
 -- four words below p, and room for four
