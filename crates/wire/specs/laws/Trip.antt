@@ -1,8 +1,8 @@
--- There and back: the words of the bytes of some words are these words.
+-- There and back: the words of the bytes of some words are these words, and the bytes of the words of some bytes these bytes.
 use mathlib.Core.Path.{_≡_, refl, sym, ap, ap₂, _∙_}
 use mathlib.Core.List.{List, [], _∷_, _++_}
 use Prim.Native.Nat.{ℕ, zero, suc, _+_, _*_, _/_, _%_, _<_, _≤_}
-use native.Mathlib.Nat.{zero-add, mul-suc, mod-eq-of-lt, div-div-eq-div-mul}
+use native.Mathlib.Nat.{add-zero, zero-add, mul-suc, mod-eq-of-lt, div-div-eq-div-mul}
 use native.Mathlib.Omega.{arith}
 use lib.ListN.{length, getD, length-append, List·getD-append}
 use lib.Seq.{getD-append-add, ext-getD}
@@ -55,3 +55,57 @@ words-of-bytes ws below =
     ∙ ext-getD 0 (tab (word-at (bytes-of ws)) 0 (length ws)) ws (tab-length (word-at (bytes-of ws)) 0 (length ws))
     (λ i l. let h : i < length ws = rw (tab-length (word-at (bytes-of ws)) 0 (length ws)) at l in
     tab-get (word-at (bytes-of ws)) 0 (length ws) i h ∙ ap (word-at (bytes-of ws)) (zero-add i) ∙ word-back ws i h (below i h))
+
+pub words-length : (b : List ℕ) → length (words-of b) ≡ length b / 4
+unfolding words-of
+words-length b = tab-length (word-at b) 0 (length b / 4)
+
+-- and back again: the bytes of the words of some whole words' bytes are these bytes
+low : (a n : ℕ) → a < 256 → (a + 256 * n) % 256 ≡ a
+low a n h = omega arith
+
+high : (x a n : ℕ) → a < 256 → x ≡ a + 256 * n → x / 256 ≡ n
+high x a n h e = omega arith
+
+digits : (a b c d : ℕ) → a < 256 → b < 256 → c < 256 → d < 256 → word-bytes (word-of a b c d) ≡ a ∷ b ∷ c ∷ d ∷ []
+unfolding word-bytes word-of
+digits a b c d h j k l =
+    let x : ℕ = a + 256 * b + 65536 * c + 16777216 * d in
+    let q1 : x / 256 ≡ b + 256 * (c + 256 * d) = high x a (b + 256 * (c + 256 * d)) h (omega arith) in
+    let q2 : x / 65536 ≡ c + 256 * d = sym (div-div-eq-div-mul x 256 256) ∙ high (x / 256) b (c + 256 * d) j q1 in
+    let q3 : x / 16777216 ≡ d = sym (div-div-eq-div-mul x 65536 256) ∙ high (x / 65536) c d k q2 in
+    let z : d % 256 ≡ d = mod-eq-of-lt l in
+    let y : x ≡ a + 256 * (b + 256 * (c + 256 * d)) = omega arith in
+    let e0 : x % 256 ≡ a = ap (λ (n : ℕ). n % 256) y ∙ low a (b + 256 * (c + 256 * d)) h in
+    let e1 : x / 256 % 256 ≡ b = ap (λ (n : ℕ). n % 256) q1 ∙ low b (c + 256 * d) j in
+    let e2 : x / 65536 % 256 ≡ c = ap (λ (n : ℕ). n % 256) q2 ∙ low c d k in
+    let e3 : x / 16777216 % 256 ≡ d = ap (λ (n : ℕ). n % 256) q3 ∙ z in
+    λ i. e0 i ∷ e1 i ∷ e2 i ∷ e3 i ∷ []
+
+one-of-four : (b : List ℕ) (k c : ℕ) → c < 4 → getD (getD b k 0 ∷ getD b (k + 1) 0 ∷ getD b (k + 2) 0 ∷ getD b (k + 3) 0 ∷ []) c 0 ≡ getD b (k + c) 0
+one-of-four b k zero l = ap (λ (j : ℕ). getD b j 0) (sym (add-zero k))
+one-of-four b k (suc zero) l = refl
+one-of-four b k (suc (suc zero)) l = refl
+one-of-four b k (suc (suc (suc zero))) l = refl
+one-of-four b k (suc (suc (suc (suc c)))) l = absurd (omega arith)
+
+byte-back : (b : List ℕ) → ((i : ℕ) → getD b i 0 < 256) → (i c : ℕ) → i < length b / 4 → c < 4 → getD (bytes-of (words-of b)) (4 * i + c) 0 ≡ getD b (4 * i + c) 0
+unfolding bytes-of words-of word-at
+byte-back b below i c l k =
+    let ws : List ℕ = tab (word-at b) 0 (length b / 4) in
+    let n : length ws ≡ length b / 4 = tab-length (word-at b) 0 (length b / 4) in
+    let w : getD ws i 0 ≡ word-at b i = tab-get (word-at b) 0 (length b / 4) i l ∙ ap (word-at b) (zero-add i) in
+    joined-at (λ j. word-bytes (getD ws j 0)) 4 (length ws) i c (λ j. four (getD ws j 0)) (rw n l) k
+    ∙ ap (λ (x : ℕ). getD (word-bytes x) c 0) w
+    ∙ ap (λ (x : List ℕ). getD x c 0)
+    (digits (getD b (4 * i) 0) (getD b (4 * i + 1) 0) (getD b (4 * i + 2) 0) (getD b (4 * i + 3) 0) (below (4 * i)) (below (4 * i + 1)) (below (4 * i + 2)) (below (4 * i + 3)))
+    ∙ one-of-four b (4 * i) c k
+
+pub bytes-of-words : (b : List ℕ) → ((i : ℕ) → getD b i 0 < 256) → length b % 4 ≡ 0 → bytes-of (words-of b) ≡ b
+bytes-of-words b below whole =
+    let n : length (words-of b) ≡ length b / 4 = words-length b in
+    let size : length (bytes-of (words-of b)) ≡ length b = omega (arith, bytes-length (words-of b), n, whole) in
+    ext-getD 0 (bytes-of (words-of b)) b size
+    (λ j l. let e : 4 * (j / 4) + j % 4 ≡ j = omega arith in
+    let m : j / 4 < length b / 4 = omega (arith, size, l, whole) in
+    ap (λ (k : ℕ). getD (bytes-of (words-of b)) k 0) (sym e) ∙ byte-back b below (j / 4) (j % 4) m (omega arith) ∙ ap (λ (k : ℕ). getD b k 0) e)
