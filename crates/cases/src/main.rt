@@ -54,6 +54,9 @@ fn door(name: &[u8], line: &[u64; 8], words: &[u32], bytes: &[u8], spans: &[usiz
     if same_bytes(name, b"pack") {
         return Ran::Door(runs::pack(line, words, bytes, spans));
     }
+    if same_bytes(name, b"build") {
+        return Ran::Door(runs::build(line, words, bytes, spans));
+    }
     if same_bytes(name, b"balance") {
         return Ran::Door(runs::balance(line, words, bytes, spans));
     }

@@ -61,14 +61,18 @@ pub const RESULT: usize = 26;
 
 pub const LISTS: usize = 27;
 
-pub const NAMES: usize = 28;
+pub const INTERACTIONS: usize = 28;
 
-pub const PACKED_NAMES: usize = 29;
+pub const WEIGHTS: usize = 29;
 
-// The number of a list's key, in the order above; 30 where the key is no list's.
+pub const NAMES: usize = 30;
+
+pub const PACKED_NAMES: usize = 31;
+
+// The number of a list's key, in the order above; 32 where the key is no list's.
 pub fn key(name: &[u8]) -> usize {
     text::find(
-        b"sizes main preprocessed public nodes lookups tuples multiplicities flags elements challenges counts heights given rows claimed element trace terminal written workspace packed-lookups packed-tuples packed-multiplicities packed-flags packed-elements result lists names packed-names",
+        b"sizes main preprocessed public nodes lookups tuples multiplicities flags elements challenges counts heights given rows claimed element trace terminal written workspace packed-lookups packed-tuples packed-multiplicities packed-flags packed-elements result lists interactions weights names packed-names",
         name,
     )
 }

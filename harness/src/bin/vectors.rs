@@ -9,7 +9,7 @@ use harness::compare::{self, Compared};
 use harness::generator::{self, Case};
 use harness::model::{self, Answer};
 use harness::plain::{Ext, P, Random, lift};
-use harness::table::{Lookup, Table};
+use harness::table::{Interaction, Lookup, Part, Table};
 
 /// What lent words hold before a call.
 const BEFORE: u32 = 7;
@@ -92,6 +92,24 @@ impl Text {
         self.answer("pack", answer, &[limit]);
     }
 
+    /// The interactions, locals first, then globals, then exclusives, with the lists that their lookups will have. The list that building
+    /// is lent holds `lookups` afterwards, of which it wrote the first `used` words.
+    fn build(&mut self, interactions: &[Interaction], answer: Answer, lookups: &[u32], used: usize) {
+        let mut sorted: Vec<Spoken> = interactions.iter().map(spoken).collect();
+        sorted.sort_by_key(|i| i.kind);
+        let parts: Vec<&Part> = sorted.iter().flat_map(|i| &i.parts).copied().collect();
+        self.list("interactions", &sorted.iter().flat_map(|i| [i.name.len(), i.parts.len()]).collect::<Vec<usize>>());
+        self.list("weights", &parts.iter().map(|part| part.weight).collect::<Vec<u32>>());
+        self.list("names", &sorted.iter().flat_map(|i| i.name).copied().collect::<Vec<u8>>());
+        self.list("tuples", &parts.iter().map(|part| part.elements.len()).collect::<Vec<usize>>());
+        self.list("multiplicities", &parts.iter().map(|part| part.multiplicity).collect::<Vec<u32>>());
+        self.list("flags", &sorted.iter().flat_map(|i| &i.flags).copied().collect::<Vec<u32>>());
+        self.list("elements", &parts.iter().flat_map(|part| &part.elements).copied().collect::<Vec<u32>>());
+        self.list("lookups", lookups);
+        let [locals, globals, exclusives] = [0, 1, 2].map(|kind| sorted.iter().filter(|i| i.kind == kind).count() as u64);
+        self.answer("build", answer, &[locals, globals, exclusives, used as u64]);
+    }
+
     fn widths(&mut self, tables: &[Table], answer: Answer, widest: u64) {
         let size = |t: &Table| [t.lookup_count(), t.names.len(), t.tuples.len()];
         self.list("lists", &tables.iter().flat_map(size).collect::<Vec<usize>>());
@@ -116,6 +134,25 @@ impl Text {
     }
 }
 
+/// An interaction, whatever its kind.
+struct Spoken<'a> {
+    kind: usize,
+    name: &'a [u8],
+    parts: Vec<&'a Part>,
+    flags: Vec<u32>,
+}
+
+fn spoken(interaction: &Interaction) -> Spoken<'_> {
+    match interaction {
+        Interaction::Local(parts) => Spoken { kind: 0, name: &[], parts: parts.iter().collect(), flags: vec![] },
+        Interaction::Global(name, part) => Spoken { kind: 1, name, parts: vec![part], flags: vec![] },
+        Interaction::Exclusive(name, branches) => {
+            let (flags, parts) = branches.iter().map(|(flag, part)| (*flag, part)).unzip();
+            Spoken { kind: 2, name, parts, flags }
+        }
+    }
+}
+
 fn marked(terminal: Option<Ext>) -> [u32; 5] {
     terminal.map_or([0; 5], |[a, b, c, d]| [1, a, b, c, d])
 }
@@ -130,6 +167,8 @@ fn main() -> ExitCode {
     worked(&mut text);
     text.0.push_str("# An example of each refusal, as document 01 gives it.\n");
     refusals(&mut text);
+    text.0.push_str("# Building, with the answers that document 01 names.\n");
+    building(&mut text);
     text.0.push_str("# Answers of p3-lookup 0.8.0.\n");
     for (i, case) in cases().iter().enumerate() {
         text.case(&format!("oracle {i}"));
@@ -256,6 +295,13 @@ fn untouched(text: &mut Text, title: &str, t: &Table, challenges: &[u32], room: 
     text.generate(refused(number, [0; 3]), &vec![BEFORE; room], None);
 }
 
+/// The column, 1, and the column squared 8 times.
+fn squared() -> Vec<u32> {
+    let mut nodes = vec![1, 0, 0, 0, 1, 0, 11, 0, 0];
+    nodes.extend((2..9).flat_map(|n| [11, n, n]));
+    nodes
+}
+
 fn refusals(text: &mut Text) {
     let pair = words(&[lift(5), lift(0)]);
     untouched(text, "1: 65 lookups", &table(&[3], &vec![once(); 65]), &words(&[lift(5); 130]), 8, 1);
@@ -263,8 +309,7 @@ fn refusals(text: &mut Text) {
     let mut t = table(&[3], &[once()]);
     t.nodes[9..12].copy_from_slice(&[9, 3, 1]);
     untouched(text, "3: node 3 = node 3 + node 1", &t, &pair, 8, 3);
-    t.nodes = vec![1, 0, 0, 0, 1, 0];
-    t.nodes.extend([11, 0, 0].into_iter().chain((2..9).flat_map(|n| [11, n, n])));
+    t.nodes = squared();
     untouched(text, "4: a column squared 8 times", &t, &pair, 8, 4);
     let mut t = table(&[3], &[once(), once()]);
     t.lookups[8 + 3] = 5;
@@ -309,6 +354,68 @@ fn refusals(text: &mut Text) {
     text.answer("terminals", refused(20, [0; 3]), &[]);
 }
 
+/// A tuple of so many words, each the column, with multiplicity 1.
+fn part(width: usize, weight: u32) -> Part {
+    Part { elements: vec![0; width], multiplicity: 1, weight }
+}
+
+fn local(parts: &[Part]) -> Interaction {
+    Interaction::Local(parts.to_vec())
+}
+
+fn global(part: Part) -> Interaction {
+    Interaction::Global(b"mem".to_vec(), part)
+}
+
+/// Branches with flag 0.
+fn exclusive(parts: &[Part]) -> Interaction {
+    Interaction::Exclusive(b"mem".to_vec(), parts.iter().map(|part| (2, part.clone())).collect())
+}
+
+fn built(text: &mut Text, title: &str, interactions: &[Interaction], lookups: &[u32]) {
+    text.case(title);
+    text.tables(&[table(&[3], &[])]);
+    text.build(interactions, ACCEPTED, lookups, 8 * interactions.len());
+}
+
+/// Building refuses before it writes: the list stays.
+fn unbuilt(text: &mut Text, title: &str, t: &Table, interactions: &[Interaction], answer: Answer) {
+    text.case(title);
+    text.tables(&[t.clone()]);
+    text.build(interactions, answer, &vec![BEFORE; 8 * interactions.len()], 0);
+}
+
+fn building(text: &mut Text) {
+    let of_each = [exclusive(&[part(1, 1), part(2, 6), part(1, 2)]), global(part(3, 4)), local(&[part(1, 2), part(1, 3)])];
+    let words = [[0, 0, 5, 0, 0, 2, 2, 0], [1, 3, 4, 1, 0, 1, 1, 0], [1, 3, 6, 2, 1, 3, 3, 3]].concat();
+    built(text, "built: locals, then globals, then exclusives", &of_each, &words);
+    built(text, "built: no interactions", &[], &[]);
+    built(text, "built: no tuples", &[local(&[]), exclusive(&[])], &[[0; 8], [1, 3, 0, 1, 1, 0, 0, 0]].concat());
+    let (most, heavy) = (u32::MAX, [part(2, u32::MAX), part(2, 1)]);
+    built(text, "built: weights 4294967295 and 1 of a local are held", &[local(&heavy)], &[0, 0, most, 0, 0, 2, 2, 0]);
+    built(text, "built: weights 4294967295 and 1 of an exclusive: the largest", &[exclusive(&heavy)], &[1, 3, most, 0, 1, 2, 2, 2]);
+    built(text, "built: two words more than are used", &[global(part(1, 9))], &[1, 3, 9, 0, 0, 1, 1, 0, BEFORE, BEFORE]);
+
+    let mut t = table(&[3], &[]);
+    let one = [global(part(1, 1))];
+    unbuilt(text, "built, 1: 65 globals", &t, &vec![global(part(1, 1)); 65], refused(1, [0; 3]));
+    text.case("built, 1: seven words for a lookup");
+    text.tables(&[t.clone()]);
+    text.build(&one, refused(1, [0; 3]), &[BEFORE; 7], 0);
+    t.nodes[10] = P;
+    unbuilt(text, "built, 2: a constant 2013265921", &t, &one, refused(2, [0; 3]));
+    t.nodes[9..12].copy_from_slice(&[9, 3, 1]);
+    unbuilt(text, "built, 3: node 3 = node 3 + node 1", &t, &one, refused(3, [0; 3]));
+    t.nodes = squared();
+    unbuilt(text, "built, 4: a column squared 8 times", &t, &one, refused(4, [0; 3]));
+    let t = table(&[3], &[]);
+    let absent = Part { multiplicity: 5, ..part(1, 1) };
+    unbuilt(text, "built, 5: node 5 of 5", &t, &[global(absent)], refused(5, [0; 3]));
+    unbuilt(text, "built, 6: a local of widths 2 and 3", &t, &[local(&[part(2, 1), part(3, 1)])], refused(6, [0, 2, 3]));
+    let second = [local(&[part(1, 1)]), local(&[part(2, 1), part(2, 1), part(0, 1)]), one[0].clone()];
+    unbuilt(text, "built, 6: the second local", &t, &second, refused(6, [1, 2, 0]));
+}
+
 // The crate's answers.
 
 /// The answer, if the crate gives the same, or panics for the same reason.
@@ -340,6 +447,21 @@ fn oracle(text: &mut Text, case: &Case) {
         }
     }
     of_all_tables(text, case);
+    if let Some(answer) = confirmed(compare::building(case)) {
+        built_by_the_crate(text, t, &case.interactions, answer);
+    }
+}
+
+/// After the other doors: the lists of the table's own lookups give way to those of the interactions.
+fn built_by_the_crate(text: &mut Text, t: &Table, interactions: &[Interaction], answer: Answer) {
+    let mut lookups = vec![BEFORE; 8 * interactions.len()];
+    let mut used = 0;
+    if answer.number == 0 {
+        let mut t = t.clone();
+        t.set_records(&model::build(&t, interactions).1);
+        (lookups, used) = (t.lookups.clone(), t.lookups.len());
+    }
+    text.build(interactions, answer, &lookups, used);
 }
 
 fn of_all_tables(text: &mut Text, case: &Case) {
