@@ -10,10 +10,13 @@ use harness::plain::{self, Ext, P, Random};
 
 const ROUNDS: usize = 3;
 
+/// Rounds of work that is short.
+const SHORT_ROUNDS: usize = 31;
+
 /// The medians of both sides, in seconds.
-fn race<A: PartialEq + std::fmt::Debug>(mut port: impl FnMut() -> A, mut other: impl FnMut() -> A) -> (f64, f64) {
+fn race<A: PartialEq + std::fmt::Debug>(rounds: usize, mut port: impl FnMut() -> A, mut other: impl FnMut() -> A) -> (f64, f64) {
     let (mut ports, mut others) = (vec![], vec![]);
-    for _ in 0..ROUNDS {
+    for _ in 0..rounds {
         let start = Instant::now();
         let a = port();
         ports.push(start.elapsed().as_secs_f64());
@@ -65,6 +68,7 @@ fn evaluation(random: &mut Random) {
     let rows = 1 << 16;
     let t = table(random, rows, 20, &[Lookup { bus: Some(vec![]), ..Lookup::default() }]);
     let times = race(
+        ROUNDS,
         || t.generate(&[[1, 0, 0, 0], [0; 4]]).unwrap().trace,
         || {
             let mut trace = vec![0; 8 * rows];
@@ -118,6 +122,7 @@ fn generation(random: &mut Random) {
         };
         let words = challenges.as_flattened();
         let times = race(
+            ROUNDS,
             || {
                 let g = t.generate(&challenges).unwrap();
                 (g.trace, g.terminal.map(|LookupTerminal(e)| e))
@@ -129,6 +134,7 @@ fn generation(random: &mut Random) {
         let terminal = g.terminal.map(|LookupTerminal(e)| e);
         let columns = count as usize + 1;
         let times = race(
+            ROUNDS,
             || t.constraints(&challenges, columns, &g.trace, g.terminal).map_err(|r| (r.details[0] as usize, r.details[1] as usize)),
             || oracle::constraints(&plain, words, columns as u64, &g.trace, terminal).unwrap().map_or(Ok(()), Err),
         );
@@ -154,6 +160,7 @@ fn balance(random: &mut Random, rows: usize) {
     t.nodes.extend([12, 4, 0]);
     let mut workspace = vec![0; 10 * rows];
     let times = race(
+        SHORT_ROUNDS,
         || delmatik::balance(&[t.clone()], &mut workspace).is_ok(),
         || {
             let mut nets: HashMap<Vec<u32>, u32> = HashMap::new();
@@ -174,7 +181,7 @@ fn main() {
     println!("| work | port, a row | Rust, a row | ratio |\n|---|---|---|---|");
     evaluation(&mut random);
     generation(&mut random);
-    for rows in [1_000, 10_000] {
+    for rows in [1_000, 10_000, 100_000] {
         balance(&mut random, rows);
     }
 }
