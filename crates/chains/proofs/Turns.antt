@@ -37,11 +37,11 @@ unfolding mixed
 mix-turn {s} {at} {n} {j} {h} {w} m l e =
     record { is = rw (add-one j) (ap₂ (λ (x y : ℕ). (x * 2654435769 + y) % 4294967296) (m .is) e); small = omega arith; within = omega arith }
 
-pub mix-ends : {s : List ℕ} {at n j h : ℕ} → Mixing s at n j h → n ≤ j → (h * 2654435769 % 4294967296 / 262144 ≡ hash (λ j. word s (at + j)) n) × (h * 2654435769 % 4294967296 / 262144 < 16384)
+pub mix-ends : {s : List ℕ} {at n j h : ℕ} → Mixing s at n j h → n ≤ j → (h * 2654435769 % 4294967296 / 131072 ≡ hash (λ j. word s (at + j)) n) × (h * 2654435769 % 4294967296 / 131072 < 32768)
 unfolding hash
 mix-ends {s} {at} {n} {j} {h} m l =
     let e : j ≡ n = omega (arith, m .within) in
-    (ap (λ (x : ℕ). x * 2654435769 % 4294967296 / 262144) (m .is ∙ ap (mixed (λ j. word s (at + j))) e), omega arith)
+    (ap (λ (x : ℕ). x * 2654435769 % 4294967296 / 131072) (m .is ∙ ap (mixed (λ j. word s (at + j))) e), omega arith)
 
 -- links taken out from the front
 pub record Unlinking (d : List ℕ) (n i : ℕ) (ws : List ℕ) : Type 0 where
@@ -86,11 +86,11 @@ pub older-no : {w : ℕ} {r : Bool} (ws t : List ℕ) (k found : ℕ) → w ≡ 
 older-no ws t k found e z er y = sym (ap (λ (b : Bool). cond b k found) (sym (older-is ws t k e z er) ∙ y))
 
 -- one slot is linked
-pub link-low : {heads ws : List ℕ} {i h : ℕ} → Chained heads ws i → h < 16384 → word heads h ≤ i
+pub link-low : {heads ws : List ℕ} {i h : ℕ} → Chained heads ws i → h < 32768 → word heads h ≤ i
 link-low {heads} {ws} {i} {h} c l = rw (c .begin h l) (last-le (hash-at ws) h i)
 
 pub link-is : {heads ws : List ℕ} {i w h : ℕ} → Chained heads ws i → 10 * i + 10 ≤ length ws → word ws (10 * i) ≤ 8 → i ≤ 268435455 → w ≡ word ws (10 * i)
-    → (h ≡ hash (λ j. word ws (10 * i + 1 + j)) w) × (h < 16384)
+    → (h ≡ hash (λ j. word ws (10 * i + 1 + j)) w) × (h < 32768)
     → Chained (set heads h (i + 1)) (set ws (10 * i) (word ws (10 * i) + 16 * word heads h)) (i + 1) × (plain (set ws (10 * i) (word ws (10 * i) + 16 * word heads h)) (i + 1) ≡ plain ws i) × (i ≤ i + 1) × (i + 1 ≤ i + 1)
 link-is {heads} {ws} {i} {w} {h} c r s f e (q, l) =
     (chained-next c r s f (q ∙ ap (hash (λ j. word ws (10 * i + 1 + j))) e) l, plain-linked ws i (word heads h) (omega arith) s, omega arith, omega arith)
@@ -125,7 +125,7 @@ pub record Linking (h₀ d : List ℕ) (n i : ℕ) (heads ws : List ℕ) : Type 
   pub long : length ws ≡ length d
   pub room : 10 * n ≤ length d
 
-pub linking-begins : {d heads : List ℕ} {n : ℕ} → heads ≡ replicate 16384 0 → 10 * n ≤ length d → Linking heads d n 0 heads d
+pub linking-begins : {d heads : List ℕ} {n : ℕ} → heads ≡ replicate 32768 0 → 10 * n ≤ length d → Linking heads d n 0 heads d
 linking-begins {d} e r = record { chained = chained-none d e; is = plain-none d; within = zero-le; wide = refl; long = refl; room = r }
 
 pub linking-turn : {h₀ d heads ws heads′ ws′ : List ℕ} {n i r : ℕ} → Linking h₀ d n i heads ws → i < n → (r ≡ i → ⊥)
@@ -168,7 +168,7 @@ module _ {ws t : List ℕ} {l n : ℕ} where
       }
 
   pub walk-begins : {heads : List ℕ} {h w cur found : ℕ} → Chained heads ws l → l ≤ n → 10 * n ≤ length ws → length t ≤ 8 → found ≡ find-slot ws t l (n - l)
-      → (h ≡ hash (λ j. word t (0 + j)) (length t)) × (h < 16384) → w ≡ word heads h → cur ≡ w → Walking ws t l n cur found
+      → (h ≡ hash (λ j. word t (0 + j)) (length t)) × (h < 32768) → w ≡ word heads h → cur ≡ w → Walking ws t l n cur found
   walk-begins {heads} {h} {w} {cur} {found} c i r s e (q, b) ew ec =
       let z : l + (n - l) ≡ n = omega arith in
       let y : h ≡ hash (word t) (length t) = q ∙ hash-same (λ j. word t (0 + j)) (word t) (length t) (λ j g. ap (word t) (zero-add j)) in

@@ -7,6 +7,6 @@ unfoldable pub mixed : (ℕ → ℕ) → ℕ → ℕ
 mixed x zero = 0
 mixed x (suc n) = (mixed x n * 2654435769 + x n) % 4294967296
 
--- below 16384
+-- below 32768
 unfoldable pub hash : (ℕ → ℕ) → ℕ → ℕ
-hash x n = mixed x n * 2654435769 % 4294967296 / 262144
+hash x n = mixed x n * 2654435769 % 4294967296 / 131072

@@ -9,7 +9,7 @@ ghost use Rattle.chains.specs.Hash.{hash};
 // The hash of n words from word `at` on.
 pub fn hash(s: &[u32], at: usize, n: usize) -> usize
     requires { ⌜ at + n ≤ length (now s) ⌝ }
-    ensures { λ r. ⌜ (r ≡ hash (λ j. word (now (s .entry)) (at + j)) n) × (r < 16384) ⌝ }
+    ensures { λ r. ⌜ (r ≡ hash (λ j. word (now (s .entry)) (at + j)) n) × (r < 32768) ⌝ }
 {
     let mut h: u64 = 0;
     let mut j = 0;
@@ -17,5 +17,5 @@ pub fn hash(s: &[u32], at: usize, n: usize) -> usize
         h = (h * 2654435769 + wide(s[at + j])) % 4294967296;
         j += 1;
     }
-    (h * 2654435769 % 4294967296 / 262144) as usize
+    (h * 2654435769 % 4294967296 / 131072) as usize
 }

@@ -29,7 +29,7 @@ pub fn link(heads: &mut [u32], ws: &mut [u32], i: usize) -> usize
 
 // The first n slots are linked, or those before the first that is left out; how many are linked.
 pub fn link_slots(heads: &mut [u32], ws: &mut [u32], n: usize) -> usize
-    requires { ⌜ (now heads ≡ replicate 16384 0) × (10 * n ≤ length (now ws)) ⌝ }
+    requires { ⌜ (now heads ≡ replicate 32768 0) × (10 * n ≤ length (now ws)) ⌝ }
     ensures { λ r. ⌜ Chained (now (heads .exit)) (now (ws .exit)) r × (plain (now (ws .exit)) r ≡ now (ws .entry)) × (r ≤ n) ⌝ }
 {
     let mut i = 0;

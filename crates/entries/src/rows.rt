@@ -219,7 +219,7 @@ pub fn enter_rows(
     requires { ⌜ Evaluable p (lent-traces shape (now main) (now preprocessed) (now «public_values»)) (now nodes) × (shape .height ≤ 1048576) × (10 * u .used ≤ length (now ws)) × Parted pl (now tuples) (now multiplicities) (now flags) (now elements) ⌝ }
     ensures { λ v. ⌜ work (now (ws .exit)) v ≡ fold (step p) (work (now (ws .entry)) u) (rows-entries p pl (now (tuples .entry)) (now (multiplicities .entry)) (now (flags .entry)) (now (elements .entry)) (lent-traces shape (now (main .entry)) (now (preprocessed .entry)) (now («public_values» .entry))) (now (nodes .entry)) (shape .height)) ⌝ }
 {
-    let mut heads = [0u32; 16384];
+    let mut heads = [0u32; 32768];
     let linked = link_slots(&mut heads, ws, u.used);
     let before = Entered {
         used: u.used,

@@ -4,12 +4,12 @@ use Prim.Native.Nat.{ℕ}
 use mathlib.Core.Path.{_≡_}
 use mathlib.Core.Bool.{Bool, not, _&&_}
 use mathlib.Core.List.{List, [], _∷_, map}
-use Rattle.expression.specs.Node.{node-count}
+use Rattle.expression.specs.declared.sizes.Limits.{Limits}
 use Rattle.lookup.specs.Lookups.{Lookup, lookups-of}
 use Rattle.lookup.specs.Table.{Table}
-use Rattle.lookup.specs.Valid.{Fitting, Agreeing}
+use Rattle.degree.specs.Formed.{Formed}
 use Rattle.widths.specs.Order.{keep, same}
-use Rattle.packing.specs.Packing.{packed}
+use Rattle.kept.specs.Entries.{packed-table}
 use Rattle.balance.specs.Groups.{Member, members, local, groups}
 use Rattle.balance.specs.Entries.{member-entries, entries}
 use Rattle.balance.specs.laws.Sums.{tally}
@@ -38,19 +38,12 @@ AllSame p (t ∷ ts) (u ∷ us) = Same p t u × AllSame p ts us
 abbrev pub Roomy : ℕ → ℕ → List Table → Type 0
 Roomy p room tables = AllGroups (Fits p room) (groups (members tables))
 
--- a table and the table that packing makes of it: traces and nodes as they were, and the packed lookups
-pub record Packs (deg : ℕ → ℕ) (limit : ℕ) (t u : Table) : Type 0 where
-  pub traces : u .traces ≡ t .traces
-  pub nodes : u .nodes ≡ t .nodes
-  pub lookups : lookups-of (u .lookups) ≡ packed deg limit (t .lookups)
-
--- a table that has none of refusals 1 and 5, and its packed table
+-- a table that passed the tests, and the table that packing makes of it
 pub record Packing (t u : Table) : Type 0 where
-  pub degree : ℕ → ℕ
+  pub limits : Limits
+  pub formed : Formed limits (t .nodes) (t .lookups)
   pub limit : ℕ
-  pub packs : Packs degree limit t u
-  pub fitting : Fitting (t .lookups)
-  pub agreeing : Agreeing (node-count (t .nodes)) (t .lookups)
+  pub packed : u ≡ packed-table limit t
 
 abbrev pub AllPacked : List Table → List Table → Type 0
 AllPacked [] [] = Unit {0}

@@ -22,7 +22,9 @@ type Side<'a, A> = Box<dyn FnMut() -> A + 'a>;
 /// The medians of the sides, in nanoseconds a row, one round of each after the other; the first is the port.
 fn race<A: PartialEq + Debug>(rows: usize, mut sides: Vec<Side<'_, A>>) -> Vec<f64> {
     let mut times = vec![vec![]; sides.len()];
-    for _ in 0..ROUNDS {
+    // Short work is repeated more often.
+    let rounds = if rows <= 1 << 14 { 31 } else { ROUNDS };
+    for _ in 0..rounds {
         let mut results = vec![];
         for (work, times) in sides.iter_mut().zip(&mut times) {
             let start = Instant::now();
@@ -332,7 +334,7 @@ fn main() {
     let mut random = Random(0x9E3779B97F4A7C15);
     let only = argument("--only");
     let wanted = |part: &str| only.as_deref().is_none_or(|only| only == part);
-    println!("Times are for a row. Medians of {ROUNDS} rounds.");
+    println!("Times are for a row. Medians of {ROUNDS} rounds, of 31 up to 2^14 rows.");
     if wanted("evaluation") {
         evaluation(&mut random);
     }

@@ -22,15 +22,15 @@ use Rattle.chains.specs.laws.Last.{last-same, hash-same}
 use Rattle.chains.specs.laws.Plain.{plain-width, plain-past, part-plain}
 
 -- no slot is linked yet
-pub chained-none : {heads : List ℕ} (ws : List ℕ) → heads ≡ replicate 16384 0 → Chained heads ws 0
+pub chained-none : {heads : List ℕ} (ws : List ℕ) → heads ≡ replicate 32768 0 → Chained heads ws 0
 unfolding last-before
 chained-none {heads} ws e =
     record {
-      begin = λ h l. ap (λ (x : List ℕ). word x h) e ∙ getD-replicate 16384 h 0 0 l;
+      begin = λ h l. ap (λ (x : List ℕ). word x h) e ∙ getD-replicate 32768 h 0 0 l;
       follow = λ i l. absurd (omega arith);
       narrow = λ i l. absurd (omega arith);
       few = zero-le;
-      long = ap length e ∙ length-replicate {A = ℕ} 16384 0;
+      long = ap length e ∙ length-replicate {A = ℕ} 32768 0;
     }
 
 -- two workspaces whose first n slots differ in nets alone
@@ -74,7 +74,7 @@ unfolding last-before
 last-next f h n = rw (add-one n)
 
 module _ {heads ws : List ℕ} {n h : ℕ} (c : Chained heads ws n) (room : 10 * n + 10 ≤ length ws) (small : word ws (10 * n) ≤ 8) (fits : n ≤ 268435455)
-    (is : h ≡ hash (λ j. word ws (10 * n + 1 + j)) (word ws (10 * n))) (low : h < 16384) where
+    (is : h ≡ hash (λ j. word ws (10 * n + 1 + j)) (word ws (10 * n))) (low : h < 32768) where
   abbrev w : ℕ
   w = word ws (10 * n) + 16 * word heads h
 
@@ -98,7 +98,7 @@ module _ {heads ws : List ℕ} {n h : ℕ} (c : Chained heads ws n) (room : 10 *
       own-hash ws vs n (ap (λ (x : ℕ). x % 16) own ∙ (let z : (word ws (10 * n) + 16 * word heads h) % 16 ≡ word ws (10 * n) = omega arith in z))
       (λ j. others (10 * n + 1 + j) (λ z. omega arith)) is
 
-  begins : (g : ℕ) → g < 16384 → word hs g ≡ last-before (hash-at vs) g (n + 1)
+  begins : (g : ℕ) → g < 32768 → word hs g ≡ last-before (hash-at vs) g (n + 1)
   begins g l = go (eqb h g) refl ∙ sym (last-next (hash-at vs) g n ∙ ap (λ (x : ℕ). cond (eqb x g) (n + 1) (last-before (hash-at vs) g n)) last)
     where
       go : (b : Bool) → eqb h g ≡ b → word hs g ≡ cond b (n + 1) (last-before (hash-at vs) g n)

@@ -14,7 +14,6 @@ use Rattle.lists.specs.laws.Tab.{tab-length}
 use Rattle.lists.specs.laws.Tab.{map-tab, flat-append}
 use Rattle.field.specs.Word.{mulM}
 use Rattle.expression.specs.Words.{word}
-use Rattle.expression.specs.Node.{node-count}
 use Rattle.expression.specs.declared.sizes.Limits.{Limits}
 use Rattle.lookup.specs.Lookups.{Lookups, Lookup, lookup-count, on-bus, exclusive, tuple-count, multiplicity-count, flag-count, name-start, multiplicity-start, flag-start, multiplicity-node, flag-node, tuple-nodes, lookup-at, lookups-of}
 use Rattle.lookup.specs.laws.Tested.{placed}
@@ -241,7 +240,8 @@ module _ (m : Limits) (nodes : List ℕ) (l : Lookups) (f : Formed m nodes l) wh
   unfolding columns packed
   columns-sound limit = numbered-sound 0 [] 0 (filled (node-degrees 0 nodes) limit (in-order l)) (filled-sound 0 [] (node-degrees 0 nodes) limit (in-order l) order-sound)
 
-  columns-back : (limit : ℕ) → lookups-of (words-of (columns limit nodes l)) ≡ columns limit nodes l
+  -- the words that packing writes say its columns
+  pub columns-back : (limit : ℕ) → lookups-of (words-of (columns limit nodes l)) ≡ columns limit nodes l
   columns-back limit = read-back (columns limit nodes l) (all-unnamed (columns limit nodes l) (columns-sound limit))
     where
       all-unnamed : (xs : List Lookup) → Each Sound xs → Each Unnamed xs

@@ -27,11 +27,14 @@ use Rattle.widths.specs.laws.Order.{keep-append, keep-same}
 use Rattle.packing.specs.Packing.{passes, additive-on, in-order, merged, joins, fill, filled, numbered, renumbered, packed}
 use Rattle.packing.specs.laws.Columns.{order-in}
 use Rattle.packing.specs.laws.Keeps.{packing-keeps}
+use Rattle.packing.specs.Door.{columns}
+use Rattle.degree.specs.Degree.{node-degrees}
+use Rattle.kept.specs.laws.Entries.{columns-back}
 use Rattle.balance.specs.Groups.{Member, local}
 use Rattle.balance.specs.Entries.{count-of, entry-of, row-entries, member-entries, entries}
 use Rattle.balance.specs.Balance.{balance}
 use Rattle.balance.specs.laws.Sums.{tally, tally-append, tally-joined}
-use Rattle.regrouping.specs.Same.{on, own, Same, AllSame, Roomy, Packs, AllPacked}
+use Rattle.regrouping.specs.Same.{on, own, Same, AllSame, Roomy, Packing, AllPacked}
 use Rattle.regrouping.specs.laws.Same.{same-accepted}
 
 -- lists of lookups by a property
@@ -302,8 +305,25 @@ packed-aligned : (n : ℕ) (k : Lookups) → Fitting k → Agreeing n k → (deg
 unfolding packed
 packed-aligned n k f a deg limit = numbered-aligned 0 (filled deg limit (in-order k)) (filled-aligned deg limit (in-order k) (order-aligned n k f a))
 
+-- traces and nodes as they were, and the packed lookups
+record Packs (deg : ℕ → ℕ) (limit : ℕ) (t u : Table) : Type 0 where
+  traces : u .traces ≡ t .traces
+  nodes : u .nodes ≡ t .nodes
+  lookups : lookups-of (u .lookups) ≡ packed deg limit (t .lookups)
+
+packs : {t u : Table} (k : Packing t u) → Packs (node-degrees 0 (t .nodes)) (k .limit) t u
+packs {t} {u} k =
+    record {
+      traces = ap (λ (x : Table). x .traces) (k .packed);
+      nodes = ap (λ (x : Table). x .nodes) (k .packed);
+      lookups = ap (λ (x : Table). lookups-of (x .lookups)) (k .packed) ∙ columns-back (k .limits) (t .nodes) (t .lookups) (k .formed) (k .limit) ∙ opened (k .limit) (t .nodes) (t .lookups);
+    }
+  where
+    opened : (limit : ℕ) (nodes : List ℕ) (l : Lookups) → columns limit nodes l ≡ packed (node-degrees 0 nodes) limit l
+    opened limit nodes l = unfold columns in refl
+
 -- The packed table says the same.
-pub packed-same : (p n : ℕ) (deg : ℕ → ℕ) (limit : ℕ) (t u : Table) → Fitting (t .lookups) → Agreeing n (t .lookups) → Packs deg limit t u → Same p t u
+packed-same : (p n : ℕ) (deg : ℕ → ℕ) (limit : ℕ) (t u : Table) → Fitting (t .lookups) → Agreeing n (t .lookups) → Packs deg limit t u → Same p t u
 packed-same p n deg limit t u f a k =
     record {
       locals =
@@ -355,7 +375,7 @@ all-same p [] [] k = tt
 all-same p [] (u ∷ us) k = absurd k
 all-same p (t ∷ ts) [] k = absurd k
 all-same p (t ∷ ts) (u ∷ us) k =
-    (packed-same p (node-count (t .nodes)) (k .0 .degree) (k .0 .limit) t u (k .0 .fitting) (k .0 .agreeing) (k .0 .packs), all-same p ts us (k .1))
+    (packed-same p (node-count (t .nodes)) (node-degrees 0 (t .nodes)) (k .0 .limit) t u (k .0 .formed .fitting) (k .0 .formed .agreeing) (packs (k .0)), all-same p ts us (k .1))
 
 -- With room for both, balance accepts the packed tables exactly where it accepts the tables.
 pub packing-accepted : (p room room′ : ℕ) → 0 < p → (ts us : List Table) → AllPacked ts us → Roomy p room ts → Roomy p room′ us
