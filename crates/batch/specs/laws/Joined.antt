@@ -26,7 +26,7 @@ joined-word f len (suc n) i c h l k =
     (λ t k. List·getD-append (joined f 0 n) (f (0 + n)) 0 (total len i + c) (omega (arith, joined-size f len n h, total-in len i n t, k)) ∙ joined-word f len n i c h t k)
     k
 
-total-times : (m : ℕ) (f : ℕ → ℕ) (n : ℕ) → total (λ i. m * f i) n ≡ m * total f n
+pub total-times : (m : ℕ) (f : ℕ → ℕ) (n : ℕ) → total (λ i. m * f i) n ≡ m * total f n
 unfolding total
 total-times m f zero = sym (mul-zero m)
 total-times m f (suc n) = ap (λ (x : ℕ). x + m * f n) (total-times m f n) ∙ sym (mul-add m (total f n) (f n))
