@@ -1,5 +1,5 @@
 pub mod Powering
 pub mod Combining
 pub mod Steps
-pub mod Adding
+pub mod Sharing
 pub mod Choosing

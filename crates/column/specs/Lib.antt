@@ -1,3 +1,4 @@
 pub mod Powers
 pub mod Own
+pub mod Shares
 pub mod laws

@@ -5,14 +5,12 @@ use mathlib.Core.Bool.{Bool, cond}
 use mathlib.Core.Option.{Option, none, some}
 use mathlib.Core.List.{List, []}
 use Prim.Native.Nat.{ℕ, suc, _+_, _*_, _-_, _<_, _≤_}
-use lib.Dec.{eqb, ltb}
+use lib.Dec.{ltb}
 use lib.ListN.{length, take, drop}
 use Rattle.field.specs.Modulus.{Modulus, Certificate}
-use Rattle.field.specs.Element.{one4}
 use Rattle.expression.specs.Words.{word}
 use Rattle.expression.specs.Valid.{Below}
 use Rattle.lookup.specs.Lookups.{Lookups, lent-lookups, tuple-count, tuple-start, multiplicity-start, flag-start, element-start}
-use Rattle.logup.specs.Tuple.{denominator}
 use Rattle.logup.specs.Column.{Place}
 
 -- the lists that a fraction is read from: it reads no name
@@ -39,10 +37,6 @@ pub record Fits (own widths multiplicities nodes : List ℕ) : Type 0 where
   pub mults : length multiplicities ≡ tuple-count own 0
   pub elements : element-start widths (tuple-count own 0) ≤ length nodes
   pub narrow : (k : ℕ) → word widths k ≤ 8
-
--- the denominator that is used with multiplicity m
-abbrev pub used-of : ℕ → ℕ → List ℕ → List ℕ → ℕ → List ℕ → List ℕ
-used-of p w alpha beta m es = cond (eqb m 0) one4 (denominator p w alpha beta es)
 
 -- a branch by a number: 0 for none
 abbrev pub branch-code : Option ℕ → ℕ

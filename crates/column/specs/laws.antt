@@ -1,3 +1,4 @@
 pub mod Powers
 pub mod Own
 pub mod Parts
+pub mod Shares

@@ -1,36 +1,32 @@
-// A lookup on one row: its fraction and its fault, 13, 14 or 15, or 0 where there is none.
+// A lookup on one row: its tuples' shares in its fraction, and its fault, 13, 14 or 15, or 0 where there is none.
 ghost use mathlib.Core.Path.{_≡_};
 ghost use mathlib.Core.Bool.{cond, _||_};
 ghost use mathlib.Core.List.{[], map};
-ghost use Prim.Native.Nat.{_<_, _≤_};
+ghost use Prim.Native.Nat.{_<_, _≤_, _*_};
 ghost use lib.Dec.{eqb, ltb};
 ghost use lib.ListN.{length};
-ghost use Rattle.lists.specs.Count.{some-of, total};
-ghost use Rattle.field.specs.Modulus.{Modulus, Certificate};
-ghost use Rattle.field.specs.Element.{Word4, is-zero};
+ghost use Rattle.lists.specs.Count.{some-of, total, joined};
+ghost use Rattle.lists.specs.Tab.{tab};
+ghost use Rattle.field.specs.Element.{Word4, one4, is-zero};
 ghost use Rattle.field.specs.Ext.{ws};
 ghost use Rattle.expression.specs.Words.{word};
 ghost use Rattle.expression.specs.Values.{bit};
 ghost use Rattle.lookup.specs.Lookups.{tuple-count, exclusive, element-start};
-ghost use Rattle.logup.specs.Tuple.{quotient4};
-ghost use Rattle.logup.specs.Column.{multiplicity, flag, chosen, denom, additive-fraction, additive-fault, exclusive-fraction, exclusive-fault, fraction, fault};
+ghost use Rattle.logup.specs.Tuple.{denominator};
+ghost use Rattle.logup.specs.Column.{chosen, fault};
 ghost use Rattle.column.specs.Powers.{beta-of, Powers};
-ghost use Rattle.column.specs.Own.{own-place, Able, Fits, used-of, branch-code, faults};
+ghost use Rattle.column.specs.Own.{own-place, Able, Fits, branch-code, faults};
+ghost use Rattle.column.specs.Shares.{idle, multiplicity-by, denominator-by, share-multiplicity, share-denominator};
 use crate::tuple;
 use expression::words::index;
 use field::extension;
 use field::extension::Ext;
 use lookup::types;
 
-// A quotient, and whether its denominator is 0.
+// A tuple's share in its lookup's fraction: multiplicity ÷ denominator.
 pub struct Share {
-    pub value: Ext,
-    pub zero: bool,
-}
-
-pub struct Fraction {
-    pub value: Ext,
-    pub fault: u32,
+    pub multiplicity: u32,
+    pub denominator: Ext,
 }
 
 // What the flags of a lookup say: whether one is over 1, how many are 1, and the number of the branch chosen plus 1, 0 for none.
@@ -48,34 +44,8 @@ fn size_at(s: &[u32], i: usize) -> usize
     index(s[i])
 }
 
-// How many tuples a lookup has.
-fn count(own: &[u32]) -> usize
-    requires { ⌜ length (now own) ≡ 8 ⌝ }
-    ensures { λ r. ⌜ (r ≡ tuple-count (now (own .entry)) 0) × (r ≤ 4294967295) ⌝ }
-{
-    index(types::tuple_count(own, 0))
-}
-
-// m ÷ d, and 0 where d is 0.
-pub fn quotient(p: u32, w: u32, m: u32, d: Ext) -> Ext
-    requires { ⌜ Modulus p × (w < p) × Certificate p w × (m < p) × Word4 p (ws d) ⌝ }
-    ensures { λ r. ⌜ Word4 p (ws r) × (ws r ≡ quotient4 p w m (ws d)) ⌝ }
-{
-    extension::scale(p, m, extension::inv(p, w, d))
-}
-
-fn divided(p: u32, w: u32, m: u32, d: Ext) -> Share
-    requires { ⌜ Modulus p × (w < p) × Certificate p w × (m < p) × Word4 p (ws d) ⌝ }
-    ensures { λ r. ⌜ Word4 p (ws (r .value)) × (ws (r .value) ≡ quotient4 p w m (ws d)) × (r .zero ≡ is-zero (ws d)) ⌝ }
-{
-    Share {
-        value: quotient(p, w, m, d),
-        zero: extension::is_zero(d),
-    }
-}
-
-// The denominator that is used: one where the multiplicity is 0.
-pub fn used_denominator(
+// The share of a tuple with multiplicity m; 0 ÷ 1 where it gives nothing.
+fn share_of(
     p: u32,
     w: u32,
     powers: [[u32; 4]; 8],
@@ -83,92 +53,45 @@ pub fn used_denominator(
     vals: &[u32],
     nodes: &[u32],
     m: u32,
-) -> Ext
+    nothing: bool,
+) -> Share
     requires { ⌜ Able p w (now vals) × Powers p w powers × Word4 p (ws alpha) × (length (now nodes) ≤ 8) ⌝ }
-    ensures { λ r. ⌜ Word4 p (ws r) × (ws r ≡ used-of p w (ws alpha) (beta-of powers) m (map (word (now (vals .entry))) (now (nodes .entry)))) ⌝ }
+    ensures { λ r. ⌜ (r .multiplicity ≡ cond nothing 0 m) × Word4 p (ws (r .denominator))
+        × (ws (r .denominator) ≡ cond nothing one4 (denominator p w (ws alpha) (beta-of powers) (map (word (now (vals .entry))) (now (nodes .entry))))) ⌝ }
 {
-    if m == 0 {
-        return Ext {
-            c0: 1,
-            c1: 0,
-            c2: 0,
-            c3: 0,
+    if nothing {
+        return Share {
+            multiplicity: 0,
+            denominator: Ext {
+                c0: 1,
+                c1: 0,
+                c2: 0,
+                c3: 0,
+            },
         };
     }
-    tuple::denominator(p, w, powers, alpha, vals, nodes)
+    Share {
+        multiplicity: m,
+        denominator: tuple::denominator(p, w, powers, alpha, vals, nodes),
+    }
 }
 
-// A tuple of an additive lookup.
-fn term(
-    p: u32,
-    w: u32,
-    powers: [[u32; 4]; 8],
-    alpha: Ext,
-    vals: &[u32],
-    nodes: &[u32],
-    m: u32,
-) -> Share
-    requires { ⌜ Able p w (now vals) × Powers p w powers × Word4 p (ws alpha) × (length (now nodes) ≤ 8) × (m < p) ⌝ }
-    ensures { λ r. ⌜ Word4 p (ws (r .value))
-        × (ws (r .value) ≡ quotient4 p w m (used-of p w (ws alpha) (beta-of powers) m (map (word (now (vals .entry))) (now (nodes .entry)))))
-        × (r .zero ≡ is-zero (used-of p w (ws alpha) (beta-of powers) m (map (word (now (vals .entry))) (now (nodes .entry))))) ⌝ }
+// Whether tuple k with multiplicity m gives nothing; `branch` is the number of the branch chosen plus 1.
+fn is_idle(exclusive: bool, branch: usize, k: usize, m: u32) -> bool
+    requires { ⌜ k < 4611686018427387904 ⌝ }
+    ensures { λ r. ⌜ r ≡ idle exclusive branch k m ⌝ }
 {
-    let d = used_denominator(p, w, powers, alpha, vals, nodes, m);
-    divided(p, w, m, d)
+    if exclusive {
+        !(branch == k + 1)
+    } else {
+        m == 0
+    }
 }
 
 fn either(a: bool, b: bool) -> bool
     ensures { λ r. ⌜ r ≡ (a || b) ⌝ }
 {
     a | b
-}
-
-fn fault_15(zero: bool) -> u32
-    ensures { λ r. ⌜ r ≡ cond zero 15 0 ⌝ }
-{
-    if zero { 15 } else { 0 }
-}
-
-// An additive lookup: the sum of its tuples' quotients, and 15 where a denominator that is used is 0.
-pub fn additive(
-    p: u32,
-    w: u32,
-    powers: [[u32; 4]; 8],
-    alpha: Ext,
-    own: &[u32],
-    widths: &[u32],
-    multiplicities: &[u32],
-    nodes: &[u32],
-    vals: &[u32],
-) -> Fraction
-    requires { ⌜ Able p w (now vals) × Powers p w powers × Word4 p (ws alpha) × Fits (now own) (now widths) (now multiplicities) (now nodes) ⌝ }
-    ensures { λ r. ⌜ Word4 p (ws (r .value))
-        × (ws (r .value) ≡ additive-fraction p w (own-place (now (own .entry)) (now (widths .entry)) (now (multiplicities .entry)) [] (now (nodes .entry)) (now (vals .entry)) (ws alpha) (beta-of powers)))
-        × (r .fault ≡ additive-fault p w (own-place (now (own .entry)) (now (widths .entry)) (now (multiplicities .entry)) [] (now (nodes .entry)) (now (vals .entry)) (ws alpha) (beta-of powers))) ⌝ }
-{
-    let n = count(own);
-    let mut at = 0;
-    let mut sum = Ext {
-        c0: 0,
-        c1: 0,
-        c2: 0,
-        c3: 0,
-    };
-    let mut zero = false;
-    let mut k = 0;
-    while k < n {
-        let m = tuple::value(vals, multiplicities[k]);
-        let end = at + size_at(widths, k);
-        let t = term(p, w, powers, alpha, vals, &nodes[at..end], m);
-        sum = extension::add(p, sum, t.value);
-        zero = either(zero, t.zero);
-        at = end;
-        k += 1;
-    }
-    Fraction {
-        value: sum,
-        fault: fault_15(zero),
-    }
 }
 
 // 1 where a flag is 1, else 0.
@@ -220,8 +143,8 @@ pub fn start_of(widths: &[u32], nodes: &[u32], from: usize, start: usize, to: us
     at
 }
 
-// Branch k of an exclusive lookup.
-fn branch(
+// The multiplicities and the denominators of a lookup's shares into `ms` and `ds`, and whether a denominator is 0.
+fn write_shares(
     p: u32,
     w: u32,
     powers: [[u32; 4]; 8],
@@ -229,21 +152,37 @@ fn branch(
     own: &[u32],
     widths: &[u32],
     multiplicities: &[u32],
-    flags: &[u32],
     nodes: &[u32],
     vals: &[u32],
-    k: usize,
-) -> Share
-    requires { ⌜ Able p w (now vals) × Powers p w powers × Word4 p (ws alpha) × Fits (now own) (now widths) (now multiplicities) (now nodes) × (k < tuple-count (now own) 0) ⌝ }
-    ensures { λ r. ⌜ Word4 p (ws (r .value))
-        × (ws (r .value) ≡ quotient4 p w (multiplicity (own-place (now (own .entry)) (now (widths .entry)) (now (multiplicities .entry)) (now (flags .entry)) (now (nodes .entry)) (now (vals .entry)) (ws alpha) (beta-of powers)) k) (denom p w (own-place (now (own .entry)) (now (widths .entry)) (now (multiplicities .entry)) (now (flags .entry)) (now (nodes .entry)) (now (vals .entry)) (ws alpha) (beta-of powers)) k))
-        × (r .zero ≡ is-zero (denom p w (own-place (now (own .entry)) (now (widths .entry)) (now (multiplicities .entry)) (now (flags .entry)) (now (nodes .entry)) (now (vals .entry)) (ws alpha) (beta-of powers)) k)) ⌝ }
+    exclusive: bool,
+    branch: usize,
+    ms: &mut [u32],
+    ds: &mut [u32],
+) -> bool
+    requires { ⌜ Able p w (now vals) × Powers p w powers × Word4 p (ws alpha) × Fits (now own) (now widths) (now multiplicities) (now nodes)
+        × (length (now ms) ≡ tuple-count (now own) 0) × (length (now ds) ≡ 4 * tuple-count (now own) 0) ⌝ }
+    ensures { λ r. ⌜ (r ≡ some-of (λ k. is-zero (denominator-by p w (own-place (now (own .entry)) (now (widths .entry)) (now (multiplicities .entry)) [] (now (nodes .entry)) (now (vals .entry)) (ws alpha) (beta-of powers)) exclusive branch k)) (tuple-count (now (own .entry)) 0))
+        × (now (ms .exit) ≡ tab (multiplicity-by (own-place (now (own .entry)) (now (widths .entry)) (now (multiplicities .entry)) [] (now (nodes .entry)) (now (vals .entry)) (ws alpha) (beta-of powers)) exclusive branch) 0 (tuple-count (now (own .entry)) 0))
+        × (now (ds .exit) ≡ joined (denominator-by p w (own-place (now (own .entry)) (now (widths .entry)) (now (multiplicities .entry)) [] (now (nodes .entry)) (now (vals .entry)) (ws alpha) (beta-of powers)) exclusive branch) 0 (tuple-count (now (own .entry)) 0)) ⌝ }
 {
-    let at = start_of(widths, nodes, 0, 0, k);
-    let end = at + size_at(widths, k);
-    let m = tuple::value(vals, multiplicities[k]);
-    let d = tuple::denominator(p, w, powers, alpha, vals, &nodes[at..end]);
-    divided(p, w, m, d)
+    let n = ms.len();
+    let mut at = 0;
+    let mut zero = false;
+    let mut k = 0;
+    while k < n {
+        let m = tuple::value(vals, multiplicities[k]);
+        let end = at + size_at(widths, k);
+        let nothing = is_idle(exclusive, branch, k, m);
+        let s = share_of(p, w, powers, alpha, vals, &nodes[at..end], m, nothing);
+        let d = s.denominator;
+        ms[k] = s.multiplicity;
+        let place = 4 * k;
+        extension::store(&mut ds[place..place + 4], d);
+        zero = either(zero, extension::is_zero(d));
+        at = end;
+        k += 1;
+    }
+    zero
 }
 
 // 13, 14, 15 or 0.
@@ -259,58 +198,7 @@ fn fault_of(over: bool, ones: usize, zero: bool) -> u32
     if zero { 15 } else { 0 }
 }
 
-// An exclusive lookup: the quotient of the branch chosen.
-pub fn exclusive(
-    p: u32,
-    w: u32,
-    powers: [[u32; 4]; 8],
-    alpha: Ext,
-    own: &[u32],
-    widths: &[u32],
-    multiplicities: &[u32],
-    flags: &[u32],
-    nodes: &[u32],
-    vals: &[u32],
-) -> Fraction
-    requires { ⌜ Able p w (now vals) × Powers p w powers × Word4 p (ws alpha) × Fits (now own) (now widths) (now multiplicities) (now nodes) × (tuple-count (now own) 0 ≤ length (now flags)) ⌝ }
-    ensures { λ r. ⌜ Word4 p (ws (r .value))
-        × (ws (r .value) ≡ exclusive-fraction p w (own-place (now (own .entry)) (now (widths .entry)) (now (multiplicities .entry)) (now (flags .entry)) (now (nodes .entry)) (now (vals .entry)) (ws alpha) (beta-of powers)))
-        × (r .fault ≡ exclusive-fault p w (own-place (now (own .entry)) (now (widths .entry)) (now (multiplicities .entry)) (now (flags .entry)) (now (nodes .entry)) (now (vals .entry)) (ws alpha) (beta-of powers))) ⌝ }
-{
-    let n = count(own);
-    let f = read_flags(flags, vals, n);
-    if f.chosen == 0 {
-        return Fraction {
-            value: Ext {
-                c0: 0,
-                c1: 0,
-                c2: 0,
-                c3: 0,
-            },
-            fault: fault_of(f.over, f.ones, false),
-        };
-    }
-    let s = branch(
-        p,
-        w,
-        powers,
-        alpha,
-        own,
-        widths,
-        multiplicities,
-        flags,
-        nodes,
-        vals,
-        f.chosen - 1,
-    );
-    let value = s.value;
-    Fraction {
-        value,
-        fault: fault_of(f.over, f.ones, s.zero),
-    }
-}
-
-// A lookup by its own parts.
+// A lookup by its own parts: its shares into `ms` and `ds`, and its fault.
 pub fn lookup(
     p: u32,
     w: u32,
@@ -322,26 +210,18 @@ pub fn lookup(
     flags: &[u32],
     nodes: &[u32],
     vals: &[u32],
-) -> Fraction
-    requires { ⌜ Able p w (now vals) × Powers p w powers × Word4 p (ws alpha) × Fits (now own) (now widths) (now multiplicities) (now nodes) × (length (now flags) ≡ cond (exclusive (now own) 0) (tuple-count (now own) 0) 0) ⌝ }
-    ensures { λ r. ⌜ Word4 p (ws (r .value))
-        × (ws (r .value) ≡ fraction p w (own-place (now (own .entry)) (now (widths .entry)) (now (multiplicities .entry)) (now (flags .entry)) (now (nodes .entry)) (now (vals .entry)) (ws alpha) (beta-of powers)))
-        × (r .fault ≡ fault p w (own-place (now (own .entry)) (now (widths .entry)) (now (multiplicities .entry)) (now (flags .entry)) (now (nodes .entry)) (now (vals .entry)) (ws alpha) (beta-of powers))) ⌝ }
+    ms: &mut [u32],
+    ds: &mut [u32],
+) -> u32
+    requires { ⌜ Able p w (now vals) × Powers p w powers × Word4 p (ws alpha) × Fits (now own) (now widths) (now multiplicities) (now nodes)
+        × (length (now flags) ≡ cond (exclusive (now own) 0) (tuple-count (now own) 0) 0)
+        × (length (now ms) ≡ tuple-count (now own) 0) × (length (now ds) ≡ 4 * tuple-count (now own) 0) ⌝ }
+    ensures { λ r. ⌜ (r ≡ fault p w (own-place (now (own .entry)) (now (widths .entry)) (now (multiplicities .entry)) (now (flags .entry)) (now (nodes .entry)) (now (vals .entry)) (ws alpha) (beta-of powers)))
+        × (now (ms .exit) ≡ tab (share-multiplicity (own-place (now (own .entry)) (now (widths .entry)) (now (multiplicities .entry)) (now (flags .entry)) (now (nodes .entry)) (now (vals .entry)) (ws alpha) (beta-of powers))) 0 (tuple-count (now (own .entry)) 0))
+        × (now (ds .exit) ≡ joined (share-denominator p w (own-place (now (own .entry)) (now (widths .entry)) (now (multiplicities .entry)) (now (flags .entry)) (now (nodes .entry)) (now (vals .entry)) (ws alpha) (beta-of powers))) 0 (tuple-count (now (own .entry)) 0)) ⌝ }
 {
-    if !types::exclusive(own, 0) {
-        return additive(
-            p,
-            w,
-            powers,
-            alpha,
-            own,
-            widths,
-            multiplicities,
-            nodes,
-            vals,
-        );
-    }
-    exclusive(
+    let f = read_flags(flags, vals, flags.len());
+    let zero = write_shares(
         p,
         w,
         powers,
@@ -349,8 +229,12 @@ pub fn lookup(
         own,
         widths,
         multiplicities,
-        flags,
         nodes,
         vals,
-    )
+        types::exclusive(own, 0),
+        f.chosen,
+        ms,
+        ds,
+    );
+    fault_of(f.over, f.ones, zero)
 }

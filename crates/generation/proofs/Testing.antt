@@ -21,6 +21,7 @@ use Rattle.expression.specs.declared.refusal.Refusal.the-variants.{ChallengesMi
 use Rattle.lookup.specs.Lookups.{lookup-count}
 use Rattle.lookup.specs.Table.{Table}
 use Rattle.lookup.specs.Tests.{has-lookups, rows-enough}
+use Rattle.lookup.specs.laws.Tested.{lookups-few}
 use Rattle.logup.specs.Rows.{used}
 use Rattle.logup.specs.Generation.{entry-refusal}
 use Rattle.prepared.specs.Entry.{position-refusal, table-tests}
@@ -100,7 +101,7 @@ module _ (s : Shape) (lookups : List ℕ) (n room : ℕ) where
 pub rows-ready : {m : Limits} {p w : ℕ} {t : Table} {cs : List ℕ} (room : ℕ) → Sane m → Field p w → Tested m p t (eqb (length cs % 4) 0) (all-below p cs) → has-lookups (t .lookups .lookups) ≡ true
     → door-tests (t .traces .shape) (t .lookups .lookups) (length cs) room ≡ none
     → Field p w × Lists (t .lookups .lookups) (t .lookups .tuples) (t .lookups .multiplicities) (t .lookups .flags) (t .lookups .elements) × Evaluable p (t .traces) (t .nodes) × Below p cs
-    × (8 * lookup-count (t .lookups .lookups) ≤ length cs) × (t .traces .shape .height ≤ 1048576) × (lookup-count (t .lookups .lookups) ≤ 64) × (used (t .lookups .lookups) (t .traces .shape .height) ≤ room)
-rows-ready {t = t} {cs} room g f s h d =
+    × (8 * lookup-count (t .lookups .lookups) ≤ length cs) × (t .traces .shape .height ≤ 1048576) × (lookup-count (t .lookups .lookups) ≤ 64) × (length (t .lookups .tuples) ≤ 64) × (used (t .lookups .lookups) (t .traces .shape .height) ≤ room)
+rows-ready {m} {t = t} {cs} room g f s h d =
     let o = opened (t .traces .shape) (t .lookups .lookups) (length cs) room h d in
-    (f, tested-lists g s, tested-traces g s (f .modulus) h (o .rows), below-tested cs (omega (arith, f .modulus .big)) (s .lows), o .enough, tested-height g s, tested-lookups g s, o .fits)
+    (f, tested-lists g s, tested-traces g s (f .modulus) h (o .rows), below-tested cs (omega (arith, f .modulus .big)) (s .lows), o .enough, tested-height g s, tested-lookups g s, lookups-few m (t .lookups .lookups) (t .lookups .tuples) g (s .lookups-within) .1, o .fits)

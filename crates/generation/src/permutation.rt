@@ -23,6 +23,7 @@ ghost use Rattle.prepared.specs.Ready.{lent-values, Lists, Field};
 ghost use Rattle.prepared.specs.Entry.{table-tests};
 ghost use Rattle.prepared.specs.Tested.{Tested};
 ghost use Rattle.generation.specs.Entry.{door-tests, rows-answer, cleared};
+use blocks::block::Progress;
 use expression::refusal::Refusal;
 use expression::refusal::Verdict;
 use expression::sizes;
@@ -32,7 +33,6 @@ use expression::words::all_below;
 use logup::logup::Generated;
 use lookup::tests;
 use lookup::types::LookupTerminal;
-use parts::trace::Progress;
 use parts::trace::parts;
 use parts::trace::zero;
 use prepared::door;
@@ -100,7 +100,7 @@ fn generate_rows(
     requires { ⌜ Field p w × Lists (now lookups) (now tuples) (now multiplicities) (now flags) (now elements)
         × Evaluable p (lent-traces shape (now main) (now preprocessed) (now «public_values»)) (now nodes)
         × Below p (now challenges) × (8 * lookup-count (now lookups) ≤ length (now challenges)) × (shape .height ≤ 1048576) × (lookup-count (now lookups) ≤ 64)
-        × (used (now lookups) (shape .height) ≤ length (now trace)) ⌝ }
+        × (length (now tuples) ≤ 64) × (used (now lookups) (shape .height) ≤ length (now trace)) ⌝ }
     ensures { λ r. ⌜ ((m : Declared.Limits) (names : List ℕ)
         → (answer-of r ≡ rows-outcome m p w (lent-table shape (now (main .entry)) (now (preprocessed .entry)) (now («public_values» .entry)) (now (nodes .entry)) (lent-lookups (now (lookups .entry)) names (now (tuples .entry)) (now (multiplicities .entry)) (now (flags .entry)) (now (elements .entry)))) (now (challenges .entry)) (now (trace .entry))
         (first-fault p w (lent-lookups (now (lookups .entry)) names (now (tuples .entry)) (now (multiplicities .entry)) (now (flags .entry)) (now (elements .entry))) (now (challenges .entry)) (lent-values p shape (now (main .entry)) (now (preprocessed .entry)) (now («public_values» .entry)) (now (nodes .entry))) (shape .height)) .answer)

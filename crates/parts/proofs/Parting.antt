@@ -1,58 +1,58 @@
--- The turns of the loops over rows, over parts, and of the zeros.
+-- The turns of the loops over blocks, over parts, and of the zeros.
 use mathlib.Core.Path.{_≡_, refl, sym, ap, ap₂, _∙_, subst}
 use mathlib.Core.List.{List, _++_}
-use Prim.Native.Nat.{ℕ, suc, _+_, _*_, _-_, _<_, _≤_, zero-le}
-use native.Mathlib.Nat.{add-zero, zero-add, suc-mul, mul-le-mul-right, zero-mul}
-use native.Mathlib.Numerals.{add-one}
+use Prim.Native.Nat.{ℕ, zero, suc, _+_, _*_, _-_, _/_, _%_, _<_, _≤_, zero-le}
+use native.Mathlib.Nat.{add-zero, zero-add, mul-le-mul-right, zero-mul, mul-comm, mul-zero, mod-lt, div-add-mod, pos-of-ne-zero}
 use native.Mathlib.Omega.{arith}
 use lib.ListN.{length, take, drop, set, length-append, replicate, replicate-append-replicate}
 use borrow.Rule.Slice.PartMut.{putMid}
-use Rattle.lists.specs.Count.{or-else, first, joined}
-use Rattle.lists.specs.laws.Count.{joined-one, joined-add}
+use Rattle.lists.specs.Count.{first, joined}
+use Rattle.lists.specs.laws.Count.{joined-add}
 use Rattle.lists.specs.laws.Filled.{Filled, filled-none, filled-one, filled-part, filled-whole}
 use Rattle.lists.specs.laws.Parts.{part-length}
-use Rattle.field.specs.declared.extension.Ext.{Ext}
 use Rattle.field.specs.Ext.{ws}
-use Rattle.field.specs.Element.{Word4, add4, sum4}
+use Rattle.field.specs.Element.{Word4, sum4}
 use Rattle.expression.specs.Refusal.{refusal}
-use Rattle.expression.specs.declared.refusal.Verdict.{Verdict}
 use Rattle.expression.specs.declared.refusal.Verdict.the-variants.{Accepted}
 use Rattle.lookup.specs.Lookups.{Lookups, lookup-count}
-use Rattle.logup.specs.Rows.{fraction-at, row-sum, accumulator, row-words, row-fault, trace, first-fault, used}
+use Rattle.logup.specs.Rows.{row-sum, accumulator, row-words, row-fault, trace, first-fault, used}
 use Rattle.column.specs.laws.Powers.{word-zero}
-use Rattle.parts.specs.declared.trace.Progress.{Progress}
-use Rattle.rows.specs.laws.Lengths.{fractions-length}
+use Rattle.lists.specs.laws.Joined.{joined-length}
+use Rattle.rows.specs.laws.Lengths.{sum-four, fractions-length}
+use Rattle.blocks.specs.declared.block.Progress.{Progress}
+use Rattle.blocks.specs.laws.Shares.{shifted}
 
-next-times : (a b m : ℕ) → a < b → a * m + m ≤ b * m
-next-times a b m h = rw suc-mul at (mul-le-mul-right m h)
-
--- j rows of a part
-pub record Running (p w : ℕ) (l : Lookups) (cs : List ℕ) (values : ℕ → List ℕ) (wd from k : ℕ) (d out : List ℕ) (acc : Ext) (verdict : Verdict) (at j : ℕ) : Type 0 where
+-- r rows from row `from` on
+pub record Going (p w : ℕ) (l : Lookups) (cs : List ℕ) (values : ℕ → List ℕ) (wd from height : ℕ) (d out : List ℕ) (progress : Progress) (at r : ℕ) : Type 0 where
   pub cap : 4 * length d < 18446744073709551616
-  pub low : from + k ≤ 1048576
+  pub low : from + height ≤ 1048576
   pub wide : wd ≡ 4 * lookup-count (l .lookups) + 4
-  pub within : j ≤ k
-  pub at≡ : at ≡ j * wd
-  pub size : length d ≡ k * wd
+  pub within : r ≤ height
+  pub at≡ : at ≡ r * wd
+  pub room : height * wd ≤ length d
   pub len : length out ≡ length d
-  pub out≡ : Filled d (joined (row-words p w l cs values) from j) at out
-  pub word4 : Word4 p (ws acc)
-  pub acc≡ : ws acc ≡ accumulator p w l cs values (from + j)
-  pub verdict≡ : refusal verdict ≡ first (row-fault p w l cs values) (from + j)
+  pub out≡ : Filled d (joined (row-words p w l cs values) from r) at out
+  pub word4 : Word4 p (ws (progress .accumulator))
+  pub acc≡ : ws (progress .accumulator) ≡ accumulator p w l cs values (from + r)
+  pub verdict≡ : refusal (progress .verdict) ≡ first (row-fault p w l cs values) (from + r)
 
-pub running-begins : {p w : ℕ} {l : Lookups} {cs : List ℕ} {values : ℕ → List ℕ} {wd from k : ℕ} {d : List ℕ} {acc : Ext} {verdict : Verdict}
-    → 4 * length d < 18446744073709551616 → from + k ≤ 1048576 → wd ≡ 4 * lookup-count (l .lookups) + 4 → length d ≡ k * (4 * lookup-count (l .lookups) + 4)
-    → Word4 p (ws acc) → ws acc ≡ accumulator p w l cs values from → refusal verdict ≡ first (row-fault p w l cs values) from
-    → Running p w l cs values wd from k d d acc verdict 0 0
+used-is : (lookups : List ℕ) (height : ℕ) → height * (4 * lookup-count lookups + 4) ≡ used lookups height
+unfolding used
+used-is lookups height = omega arith
+
+pub going-begins : {p w : ℕ} {l : Lookups} {cs : List ℕ} {values : ℕ → List ℕ} {wd from height : ℕ} {d : List ℕ} {progress : Progress}
+    → 4 * length d < 18446744073709551616 → from + height ≤ 1048576 → wd ≡ 4 * lookup-count (l .lookups) + 4 → height * (4 * lookup-count (l .lookups) + 4) ≤ length d
+    → Word4 p (ws (progress .accumulator)) → ws (progress .accumulator) ≡ accumulator p w l cs values from → refusal (progress .verdict) ≡ first (row-fault p w l cs values) from
+    → Going p w l cs values wd from height d d progress 0 0
 unfolding joined
-running-begins {p} {w} {l} {cs} {values} {wd} {from} {k} c lo ew es q ea ev =
+going-begins {p} {w} {l} {cs} {values} {wd} {from} {height} {d} c lo ew er q ea ev =
     record {
       cap = c;
       low = lo;
       wide = ew;
       within = zero-le;
       at≡ = sym (zero-mul wd);
-      size = es ∙ ap (λ (x : ℕ). k * x) (sym ew);
+      room = subst (λ (x : ℕ). height * x ≤ length d) (sym ew) er;
       len = refl;
       out≡ = filled-none;
       word4 = q;
@@ -60,101 +60,25 @@ running-begins {p} {w} {l} {cs} {values} {wd} {from} {k} c lo ew es q ea ev =
       verdict≡ = ev ∙ ap (first (row-fault p w l cs values)) (sym (add-zero from));
     }
 
-module _ {p w : ℕ} {l : Lookups} {cs : List ℕ} {values : ℕ → List ℕ} {wd from k : ℕ} {d out : List ℕ} {acc : Ext} {verdict : Verdict} {at j : ℕ}
-    (s : Running p w l cs values wd from k d out acc verdict at j) where
-  pub running-in : j < k → at + wd ≤ length out
-  running-in h = omega (arith, next-times j k wd h, s .at≡, s .size, s .len)
-
-  pub running-part : j < k → length (take (at + wd - at) (drop at out)) ≡ 4 * lookup-count (l .lookups) + 4
-  running-part h = part-length out at (at + wd) (omega arith) (running-in h) ∙ omega (arith, s .wide)
-
-  pub running-turn : {acc′ sum : Ext} {verdict′ : Verdict} (ys : List ℕ) (fault : Verdict) → j < k
-      → Word4 p (ws sum) × (ws sum ≡ row-sum p w l cs values (from + j)) × (refusal fault ≡ row-fault p w l cs values (from + j))
-      × (ys ≡ ws acc ++ joined (fraction-at p w l cs values (from + j)) 0 (lookup-count (l .lookups)))
-      → Word4 p (ws acc′) × (ws acc′ ≡ add4 p (ws acc) (ws sum)) → refusal verdict′ ≡ or-else (refusal verdict) (refusal fault)
-      → Running p w l cs values wd from k d (putMid at (at + wd - at) out ys) acc′ verdict′ (at + wd) (j + 1)
-  unfolding accumulator sum4 first row-words
-  running-turn {acc′} {sum} {verdict′} ys fault h (_, es, ef, ey) (q, ea) ev =
-      record {
-        cap = s .cap;
-        low = s .low;
-        wide = s .wide;
-        within = omega arith;
-        at≡ = rw (add-one j, suc-mul j wd, s .at≡);
-        size = s .size;
-        len = grown .len;
-        out≡ = grown;
-        word4 = q;
-        acc≡ = rw next (ea ∙ ap₂ (add4 p) (s .acc≡) es);
-        verdict≡ = rw next (ev ∙ ap₂ or-else (s .verdict≡) ef);
-      }
-    where
-      next : from + (j + 1) ≡ suc (from + j)
-      next = omega arith
-
-      words : ys ≡ row-words p w l cs values (from + j)
-      words = ey ∙ ap (λ (a : List ℕ). a ++ joined (fraction-at p w l cs values (from + j)) 0 (lookup-count (l .lookups))) (s .acc≡)
-
-      long : length ys ≡ at + wd - at
-      long = ap length ey ∙ simp length-append (omega (arith, fractions-length p w l cs values (from + j) (lookup-count (l .lookups)), s .wide))
-
-      grown : Filled d (joined (row-words p w l cs values) from (j + 1)) (at + wd) (putMid at (at + wd - at) out ys)
-      grown =
-          filled-part ys (s .out≡) (omega arith) (omega (arith, running-in h, s .len)) long
-          (joined-one (row-words p w l cs values) from j ∙ ap (λ (y : List ℕ). joined (row-words p w l cs values) from j ++ y) (sym words))
-
-  pub running-ends : k ≤ j
-      → Word4 p (ws acc) × (ws acc ≡ accumulator p w l cs values (from + k)) × (refusal verdict ≡ first (row-fault p w l cs values) (from + k))
-      × (out ≡ joined (row-words p w l cs values) from k) × (length out ≡ length d)
-  running-ends h =
-      let e : j ≡ k = omega (arith, s .within) in
-      let a : length d ≡ at = s .size ∙ ap (λ (x : ℕ). x * wd) (sym e) ∙ sym (s .at≡) in (
-        s .word4,
-        s .acc≡ ∙ ap (λ (x : ℕ). accumulator p w l cs values (from + x)) e,
-        s .verdict≡ ∙ ap (λ (x : ℕ). first (row-fault p w l cs values) (from + x)) e,
-        filled-whole (s .out≡) (omega (arith, a)) ∙ ap (joined (row-words p w l cs values) from) e,
-        s .len,
-      )
-
--- r rows of the whole
-pub record Going (p w : ℕ) (l : Lookups) (cs : List ℕ) (values : ℕ → List ℕ) (wd height : ℕ) (d out : List ℕ) (progress : Progress) (at r : ℕ) : Type 0 where
-  pub cap : 4 * length d < 18446744073709551616
-  pub low : height ≤ 1048576
-  pub wide : wd ≡ 4 * lookup-count (l .lookups) + 4
-  pub within : r ≤ height
-  pub at≡ : at ≡ r * wd
-  pub room : height * wd ≤ length d
-  pub len : length out ≡ length d
-  pub out≡ : Filled d (joined (row-words p w l cs values) 0 r) at out
-  pub word4 : Word4 p (ws (progress .accumulator))
-  pub acc≡ : ws (progress .accumulator) ≡ accumulator p w l cs values r
-  pub verdict≡ : refusal (progress .verdict) ≡ first (row-fault p w l cs values) r
-
-used-is : (lookups : List ℕ) (height : ℕ) → height * (4 * lookup-count lookups + 4) ≡ used lookups height
-unfolding used
-used-is lookups height = omega arith
-
-pub going-begins : {p w : ℕ} {l : Lookups} {cs : List ℕ} {values : ℕ → List ℕ} {wd height : ℕ} {d : List ℕ}
+-- before all rows: the accumulator is 0, and there is no fault
+pub starts-at-zero : {p w : ℕ} {l : Lookups} {cs : List ℕ} {values : ℕ → List ℕ} {wd height : ℕ} {d : List ℕ}
     → 4 * length d < 18446744073709551616 → height ≤ 1048576 → wd ≡ 4 * lookup-count (l .lookups) + 4 → used (l .lookups) height ≤ length d → 1 < p
-    → Going p w l cs values wd height d d (record { accumulator = record { c0 = 0; c1 = 0; c2 = 0; c3 = 0 }; verdict = Accepted }) 0 0
-unfolding joined first sum4 accumulator
-going-begins {p} {l = l} {wd = wd} {height} {d} c lo ew er big =
-    record {
-      cap = c;
-      low = lo;
-      wide = ew;
-      within = zero-le;
-      at≡ = sym (zero-mul wd);
-      room = subst (λ (x : ℕ). height * x ≤ length d) (sym ew) (subst (λ (x : ℕ). x ≤ length d) (sym (used-is (l .lookups) height)) er);
-      len = refl;
-      out≡ = filled-none;
-      word4 = word-zero p big;
-      acc≡ = refl;
-      verdict≡ = refl;
-    }
+    → Going p w l cs values wd 0 height d d (record { accumulator = record { c0 = 0; c1 = 0; c2 = 0; c3 = 0 }; verdict = Accepted }) 0 0
+unfolding first sum4 accumulator
+starts-at-zero {p} {l = l} {height = height} {d = d} c lo ew er big =
+    going-begins c (omega arith) ew (subst (λ (x : ℕ). x ≤ length d) (sym (used-is (l .lookups) height)) er) (word-zero p big) refl refl
 
-module _ {p w : ℕ} {l : Lookups} {cs : List ℕ} {values : ℕ → List ℕ} {wd height : ℕ} {d out : List ℕ} {progress : Progress} {at r : ℕ}
-    (e : ℕ) (s : Going p w l cs values wd height d out progress at r) (less : r < e) (le : e ≤ height) where
+row-length : (p w : ℕ) (l : Lookups) (cs : List ℕ) (values : ℕ → List ℕ) (r : ℕ) → length (row-words p w l cs values r) ≡ 4 * lookup-count (l .lookups) + 4
+unfolding row-words accumulator
+row-length p w l cs values r =
+    simp length-append (omega (arith, sum-four p (row-sum p w l cs values) r, fractions-length p w l cs values r (lookup-count (l .lookups))))
+
+run-length : (p w : ℕ) (l : Lookups) (cs : List ℕ) (values : ℕ → List ℕ) (from n wd : ℕ) → wd ≡ 4 * lookup-count (l .lookups) + 4 → length (joined (row-words p w l cs values) from n) ≡ n * wd
+run-length p w l cs values from n wd e =
+    ap length (shifted (row-words p w l cs values) from n) ∙ joined-length (λ j. row-words p w l cs values (from + j)) wd n (λ j. row-length p w l cs values (from + j) ∙ sym e) ∙ mul-comm wd n
+
+module _ {p w : ℕ} {l : Lookups} {cs : List ℕ} {values : ℕ → List ℕ} {wd from height : ℕ} {d out : List ℕ} {progress : Progress} {at r : ℕ}
+    (e : ℕ) (s : Going p w l cs values wd from height d out progress at r) (less : r < e) (le : e ≤ height) where
   sum : e ≡ r + (e - r)
   sum = omega arith
 
@@ -170,11 +94,12 @@ module _ {p w : ℕ} {l : Lookups} {cs : List ℕ} {values : ℕ → List ℕ} {
       less-at : at + (e - r) * wd - at ≡ (e - r) * wd
       less-at = omega arith
 
-  pub going-turn : (next : Progress) (ys : List ℕ)
-      → Word4 p (ws (next .accumulator)) × (ws (next .accumulator) ≡ accumulator p w l cs values (r + (e - r))) × (refusal (next .verdict) ≡ first (row-fault p w l cs values) (r + (e - r)))
-      × (ys ≡ joined (row-words p w l cs values) r (e - r)) × (length ys ≡ length (take (at + (e - r) * wd - at) (drop at out)))
-      → Going p w l cs values wd height d (putMid at (at + (e - r) * wd - at) out ys) next (at + (e - r) * wd) e
-  going-turn next ys (q, ea, ev, ey, el) =
+  -- `a` is where the run starts
+  pub going-turn : (a : ℕ) (next : Progress) (ys : List ℕ) → a ≡ from + r
+      → Word4 p (ws (next .accumulator)) × (ws (next .accumulator) ≡ accumulator p w l cs values (a + (e - r))) × (refusal (next .verdict) ≡ first (row-fault p w l cs values) (a + (e - r)))
+      × (ys ≡ joined (row-words p w l cs values) a (e - r))
+      → Going p w l cs values wd from height d (putMid at (at + (e - r) * wd - at) out ys) next (at + (e - r) * wd) e
+  going-turn a next ys ea (q, ec, ev, ey) =
       record {
         cap = s .cap;
         low = s .low;
@@ -185,29 +110,65 @@ module _ {p w : ℕ} {l : Lookups} {cs : List ℕ} {values : ℕ → List ℕ} {
         len = grown .len;
         out≡ = grown;
         word4 = q;
-        acc≡ = ea ∙ ap (accumulator p w l cs values) (sym sum);
-        verdict≡ = ev ∙ ap (first (row-fault p w l cs values)) (sym sum);
+        acc≡ = ec ∙ ap (accumulator p w l cs values) after;
+        verdict≡ = ev ∙ ap (first (row-fault p w l cs values)) after;
       }
     where
-      grown : Filled d (joined (row-words p w l cs values) 0 e) (at + (e - r) * wd) (putMid at (at + (e - r) * wd - at) out ys)
-      grown =
-          filled-part ys (s .out≡) (omega arith) words-in (el ∙ part-length out at (at + (e - r) * wd) (omega arith) going-in)
-          (ap (joined (row-words p w l cs values) 0) sum ∙ joined-add (row-words p w l cs values) 0 r (e - r)
-          ∙ ap (λ (x : List ℕ). joined (row-words p w l cs values) 0 r ++ x) (ap (λ (a : ℕ). joined (row-words p w l cs values) a (e - r)) (zero-add r) ∙ sym ey))
+      after : a + (e - r) ≡ from + e
+      after = omega arith
 
+      grown : Filled d (joined (row-words p w l cs values) from e) (at + (e - r) * wd) (putMid at (at + (e - r) * wd - at) out ys)
+      grown =
+          filled-part ys (s .out≡) (omega arith) words-in (ap length ey ∙ run-length p w l cs values a (e - r) wd (s .wide) ∙ omega arith)
+          (ap (joined (row-words p w l cs values) from) sum ∙ joined-add (row-words p w l cs values) from r (e - r)
+          ∙ ap (λ (x : List ℕ). joined (row-words p w l cs values) from r ++ x) (ap (λ (a : ℕ). joined (row-words p w l cs values) a (e - r)) (sym ea) ∙ sym ey))
+
+-- after r of all rows
+pub going-now : {p w : ℕ} {l : Lookups} {cs : List ℕ} {values : ℕ → List ℕ} {wd height : ℕ} {d out : List ℕ} {progress : Progress} {at r : ℕ} → Going p w l cs values wd 0 height d out progress at r
+    → (ws (progress .accumulator) ≡ accumulator p w l cs values r) × (refusal (progress .verdict) ≡ first (row-fault p w l cs values) r)
+going-now {p} {w} {l} {cs} {values} {r = r} s = (s .acc≡ ∙ ap (accumulator p w l cs values) (zero-add r), s .verdict≡ ∙ ap (first (row-fault p w l cs values)) (zero-add r))
+
+-- the rows of a part
+pub part-ends : {p w : ℕ} {l : Lookups} {cs : List ℕ} {values : ℕ → List ℕ} {wd from k : ℕ} {d out : List ℕ} {progress : Progress} {at r : ℕ}
+    → Going p w l cs values wd from k d out progress at r → k ≤ r → length d ≡ k * (4 * lookup-count (l .lookups) + 4)
+    → Word4 p (ws (progress .accumulator)) × (ws (progress .accumulator) ≡ accumulator p w l cs values (from + k)) × (refusal (progress .verdict) ≡ first (row-fault p w l cs values) (from + k))
+    × (out ≡ joined (row-words p w l cs values) from k)
+part-ends {p} {w} {l} {cs} {values} {wd} {from} {k} {d} {at = at} {r = r} s h ed =
+    let e : r ≡ k = omega (arith, s .within) in
+    let a : length d ≡ at = ed ∙ ap₂ _*_ (sym e) (sym (s .wide)) ∙ sym (s .at≡) in (
+      s .word4,
+      s .acc≡ ∙ ap (λ (x : ℕ). accumulator p w l cs values (from + x)) e,
+      s .verdict≡ ∙ ap (λ (x : ℕ). first (row-fault p w l cs values) (from + x)) e,
+      filled-whole (s .out≡) (omega (arith, a)) ∙ ap (joined (row-words p w l cs values) from) e,
+    )
+
+-- all rows
 pub going-ends : {p w : ℕ} {l : Lookups} {cs : List ℕ} {values : ℕ → List ℕ} {wd height : ℕ} {d out : List ℕ} {progress : Progress} {at r : ℕ}
-    → Going p w l cs values wd height d out progress at r → height ≤ r
+    → Going p w l cs values wd 0 height d out progress at r → height ≤ r
     → Word4 p (ws (progress .accumulator)) × (ws (progress .accumulator) ≡ accumulator p w l cs values height) × (refusal (progress .verdict) ≡ first-fault p w l cs values height)
     × (out ≡ trace p w l cs values height ++ drop (used (l .lookups) height) d)
 unfolding trace first-fault
 going-ends {p} {w} {l} {cs} {values} {wd} {height} {d} {at = at} {r = r} s h =
     let e : r ≡ height = omega (arith, s .within) in
+    let z : 0 + r ≡ height = zero-add r ∙ e in
     let a : at ≡ used (l .lookups) height = s .at≡ ∙ ap₂ _*_ e (s .wide) ∙ used-is (l .lookups) height in (
       s .word4,
-      s .acc≡ ∙ ap (accumulator p w l cs values) e,
-      s .verdict≡ ∙ ap (first (row-fault p w l cs values)) e,
+      s .acc≡ ∙ ap (accumulator p w l cs values) z,
+      s .verdict≡ ∙ ap (first (row-fault p w l cs values)) z,
       s .out≡ .is ∙ ap₂ (λ (x y : ℕ). joined (row-words p w l cs values) 0 x ++ drop y d) e a,
     )
+
+-- a block has at most 256 tuples
+pub block-few : (n b t : ℕ) → n ≤ b → b * t ≤ 256 → n * t ≤ 256
+block-few n b t h k = omega (arith, mul-le-mul-right t h)
+
+pub block-some : {t : ℕ} → (t ≡ 0 → ⊥) → t ≤ 64 → (0 < 256 / t) × ((256 / t) * t ≤ 256)
+block-some {t} n h =
+    (go (256 / t) (256 % t) (div-add-mod 256 t) (mod-lt 256 (pos-of-ne-zero n)), omega (arith, div-add-mod 256 t, mul-comm t (256 / t)))
+  where
+    go : (q r : ℕ) → t * q + r ≡ 256 → r < t → 0 < q
+    go zero r e l = absurd (omega (arith, mul-zero t))
+    go (suc q) r e l = omega arith
 
 -- zeros
 pub record Zeroed (d b : List ℕ) (j : ℕ) : Type 0 where

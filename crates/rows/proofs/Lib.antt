@@ -1,3 +1,3 @@
-pub mod Fraction
+pub mod Sharing
 pub mod Lining
 pub mod Rowing

@@ -8,89 +8,106 @@ use native.Mathlib.Omega.{arith}
 use lib.ListN.{length, take, drop}
 use borrow.Rule.Slice.PartMut.{putMid}
 use Rattle.lists.specs.Count.{or-else, first, joined}
-use Rattle.lists.specs.laws.Count.{joined-one}
+use Rattle.lists.specs.laws.Count.{joined-one, total-one}
 use Rattle.lists.specs.laws.Filled.{Filled, filled-none, filled-part, filled-whole}
 use Rattle.lists.specs.laws.Parts.{part-length}
-use Rattle.field.specs.declared.extension.Ext.{Ext}
-use Rattle.field.specs.Ext.{ws}
-use Rattle.field.specs.Element.{Word4, add4, sum4}
 use Rattle.expression.specs.Refusal.{refusal}
 use Rattle.expression.specs.declared.refusal.Verdict.{Verdict}
 use Rattle.expression.specs.declared.refusal.Verdict.the-variants.{Accepted}
-use Rattle.lookup.specs.Lookups.{lent-lookups, lookup-count}
+use Rattle.lookup.specs.Lookups.{Lookups, lent-lookups, lookup-count, tuple-count, tuple-start}
 use Rattle.logup.specs.Column.{fault}
-use Rattle.logup.specs.Rows.{fault-refusal, place, fraction-at, row-sum, fault-at, row-fault}
-use Rattle.column.specs.laws.Powers.{word-zero}
-use Rattle.prepared.specs.Ready.{Stands}
+use Rattle.logup.specs.Rows.{fault-refusal, place, fault-at, row-fault}
+use Rattle.prepared.specs.Ready.{Lists, Stands, Spans}
 use Rattle.prepared.specs.laws.Lookup.{stands-zero}
 use Rattle.prepared.specs.declared.starts.Starts.{Starts}
+use Rattle.rows.specs.Shares.{lookup-multiplicities, lookup-denominators, row-multiplicities, row-denominators}
+use Rattle.rows.specs.laws.Lengths.{multiplicities-length, denominators-length}
 
-pub record Lining (p w : ℕ) (lookups tuples mults flags elements cs vals : List ℕ) (r : ℕ) (d : List ℕ) (n : ℕ) (out : List ℕ) (sum : Ext) (verdict : Verdict) (at : Starts) (word i : ℕ) : Type 0 where
-  pub cap : 4 * length d < 18446744073709551616
+pub record Lining (p w : ℕ) (lookups tuples mults flags elements cs vals : List ℕ) (r : ℕ) (dm dd : List ℕ) (n : ℕ) (ms ds : List ℕ) (verdict : Verdict) (at : Starts) (i : ℕ) : Type 0 where
+  pub lists : Lists lookups tuples mults flags elements
+  pub cap : 4 * length dd < 18446744073709551616
+  pub few : n < 4611686018427387904
   pub count : n ≡ lookup-count lookups
   pub within : i ≤ n
   pub stands : Stands lookups tuples i at
-  pub word≡ : word ≡ 4 * i
-  pub size : length d ≡ 4 * n
-  pub len : length out ≡ 4 * n
-  pub out≡ : Filled d (joined (fraction-at p w (lent-lookups lookups [] tuples mults flags elements) cs (λ _. vals) r) 0 i) word out
-  pub word4 : Word4 p (ws sum)
-  pub sum≡ : ws sum ≡ sum4 p (fraction-at p w (lent-lookups lookups [] tuples mults flags elements) cs (λ _. vals) r) i
+  pub ms-size : length dm ≡ length tuples
+  pub ds-size : length dd ≡ 4 * length tuples
+  pub ms-len : length ms ≡ length tuples
+  pub ds-len : length ds ≡ 4 * length tuples
+  pub ms≡ : Filled dm (joined (lookup-multiplicities p w (lent-lookups lookups [] tuples mults flags elements) cs (λ _. vals) r) 0 i) (at .tuple) ms
+  pub ds≡ : Filled dd (joined (lookup-denominators p w (lent-lookups lookups [] tuples mults flags elements) cs (λ _. vals) r) 0 i) (4 * at .tuple) ds
   pub verdict≡ : refusal verdict ≡ first (fault-at p w (lent-lookups lookups [] tuples mults flags elements) cs (λ _. vals) r) i
 
-pub lining-begins : {p w : ℕ} {lookups tuples mults flags elements cs vals : List ℕ} {r n : ℕ} {d : List ℕ} → 4 * length d < 18446744073709551616 → 1 < p → n ≡ lookup-count lookups → length d ≡ 4 * lookup-count lookups
-    → Lining p w lookups tuples mults flags elements cs vals r d n d (record { c0 = 0; c1 = 0; c2 = 0; c3 = 0 }) Accepted (record { tuple = 0; multiplicity = 0; flag = 0; element = 0 }) 0 0
-unfolding joined first sum4
-lining-begins {p} {lookups = lookups} {tuples} c big e l =
-    record { cap = c; count = e; within = zero-le; stands = stands-zero lookups tuples; word≡ = refl; size = omega arith; len = omega arith; out≡ = filled-none; word4 = word-zero p big; sum≡ = refl; verdict≡ = refl }
+pub lining-begins : {p w : ℕ} {lookups tuples mults flags elements cs vals : List ℕ} {r n : ℕ} {dm dd : List ℕ} → Lists lookups tuples mults flags elements → 4 * length dd < 18446744073709551616
+    → 4 * length lookups < 18446744073709551616 → n ≡ lookup-count lookups → length dm ≡ length tuples → length dd ≡ 4 * length tuples
+    → Lining p w lookups tuples mults flags elements cs vals r dm dd n dm dd Accepted (record { tuple = 0; multiplicity = 0; flag = 0; element = 0 }) 0
+unfolding joined first
+lining-begins {lookups = lookups} {tuples} s c b e em ed =
+    record { lists = s; cap = c; few = omega arith; count = e; within = zero-le; stands = stands-zero lookups tuples; ms-size = em; ds-size = ed; ms-len = em; ds-len = ed; ms≡ = filled-none; ds≡ = filled-none; verdict≡ = refl }
 
-pub lining-turn : {p w : ℕ} {lookups tuples mults flags elements cs vals : List ℕ} {r n : ℕ} {d out : List ℕ} {sum sum′ v : Ext} {verdict verdict′ : Verdict} {at end : Starts} {word i f : ℕ} (ys : List ℕ) (x : Verdict)
-    → Lining p w lookups tuples mults flags elements cs vals r d n out sum verdict at word i → i < n → Stands lookups tuples (i + 1) end
-    → Word4 p (ws v) × (ws v ≡ fraction-at p w (lent-lookups lookups [] tuples mults flags elements) cs (λ _. vals) 0 i)
-    × (f ≡ fault p w (place p w (lent-lookups lookups [] tuples mults flags elements) cs (λ _. vals) 0 i))
-    → ys ≡ ws v → Word4 p (ws sum′) × (ws sum′ ≡ add4 p (ws sum) (ws v)) → refusal x ≡ fault-refusal f r i → refusal verdict′ ≡ or-else (refusal verdict) (refusal x)
-    → Lining p w lookups tuples mults flags elements cs vals r d n (putMid word (word + 4 - word) out ys) sum′ verdict′ end (word + 4) (i + 1)
-unfolding sum4 first fraction-at fault-at place
-lining-turn {p} {w} {lookups} {tuples} {mults} {flags} {elements} {cs} {vals} {r} {n} {d} {out} {sum} {sum′} {v} {verdict} {verdict′} {at} {end} {word} {i} {f} ys x s h st (q, ev, ef) ey (qs, es) ex eo =
-    record {
-      cap = s .cap;
-      count = s .count;
-      within = omega arith;
-      stands = st;
-      word≡ = omega (arith, s .word≡);
-      size = s .size;
-      len = grown .len ∙ s .size;
-      out≡ = grown;
-      word4 = qs;
-      sum≡ = rw (add-one i) (es ∙ ap₂ (add4 p) (s .sum≡) ev);
-      verdict≡ = rw (add-one i) (eo ∙ ap₂ or-else (s .verdict≡) (ex ∙ ap (λ (n : ℕ). fault-refusal n r i) ef));
-    }
-  where
-    grown : Filled d (joined (fraction-at p w (lent-lookups lookups [] tuples mults flags elements) cs (λ _. vals) r) 0 (i + 1)) (word + 4) (putMid word (word + 4 - word) out ys)
-    grown =
-        filled-part ys (s .out≡) (omega arith) (omega (arith, s .size, s .word≡)) (ap length ey ∙ omega arith)
-        (joined-one (fraction-at p w (lent-lookups lookups [] tuples mults flags elements) cs (λ _. vals) r) 0 i
-        ∙ ap (λ (y : List ℕ). joined (fraction-at p w (lent-lookups lookups [] tuples mults flags elements) cs (λ _. vals) r) 0 i ++ y)
-        (ap (fraction-at p w (lent-lookups lookups [] tuples mults flags elements) cs (λ _. vals) r) (zero-add i) ∙ sym ev ∙ sym ey))
+module _ {p w : ℕ} {lookups tuples mults flags elements cs vals : List ℕ} {r n : ℕ} {dm dd ms ds : List ℕ} {verdict : Verdict} {at end : Starts} {i : ℕ}
+    (s : Lining p w lookups tuples mults flags elements cs vals r dm dd n ms ds verdict at i) (st : Stands lookups tuples (i + 1) end × Spans tuples mults flags elements at end) where
+  abbrev l : Lookups
+  l = lent-lookups lookups [] tuples mults flags elements
 
-pub lining-ends : {p w : ℕ} {lookups tuples mults flags elements cs vals : List ℕ} {r n : ℕ} {d out : List ℕ} {sum : Ext} {verdict : Verdict} {at : Starts} {word i : ℕ}
-    → Lining p w lookups tuples mults flags elements cs vals r d n out sum verdict at word i → n ≤ i
-    → Word4 p (ws sum) × (ws sum ≡ row-sum p w (lent-lookups lookups [] tuples mults flags elements) cs (λ _. vals) r)
-    × (refusal verdict ≡ row-fault p w (lent-lookups lookups [] tuples mults flags elements) cs (λ _. vals) r)
-    × (out ≡ joined (fraction-at p w (lent-lookups lookups [] tuples mults flags elements) cs (λ _. vals) r) 0 (lookup-count lookups))
-unfolding row-sum row-fault
-lining-ends {p} {w} {lookups} {tuples} {mults} {flags} {elements} {cs} {vals} {r} {n} {i = i} s h =
-    let e : i ≡ lookup-count lookups = omega (arith, s .within, s .count) in (
-      s .word4,
-      s .sum≡ ∙ ap (sum4 p _) e,
+  next : end .tuple ≡ at .tuple + tuple-count lookups i
+  unfolding tuple-start
+  next = st .0 .tuple≡ ∙ total-one (tuple-count lookups) i ∙ ap (λ (x : ℕ). x + tuple-count lookups i) (sym (s .stands .tuple≡))
+
+  pub ms-part : length (take (end .tuple - at .tuple) (drop (at .tuple) ms)) ≡ tuple-count lookups i
+  ms-part = part-length ms (at .tuple) (end .tuple) (omega (arith, next)) (omega (arith, st .1 .tuple-in, s .ms-len)) ∙ omega (arith, next)
+
+  pub ds-part : length (take (4 * end .tuple - 4 * at .tuple) (drop (4 * at .tuple) ds)) ≡ 4 * tuple-count lookups i
+  ds-part = part-length ds (4 * at .tuple) (4 * end .tuple) (omega (arith, next)) (omega (arith, st .1 .tuple-in, s .ds-len)) ∙ omega (arith, next)
+
+  pub lining-turn : {verdict′ : Verdict} {f : ℕ} (ys zs : List ℕ) (x : Verdict) → i < n
+      → (f ≡ fault p w (place p w l cs (λ _. vals) 0 i)) × (ys ≡ lookup-multiplicities p w l cs (λ _. vals) 0 i) × (zs ≡ lookup-denominators p w l cs (λ _. vals) 0 i)
+      → refusal x ≡ fault-refusal f r i → refusal verdict′ ≡ or-else (refusal verdict) (refusal x)
+      → Lining p w lookups tuples mults flags elements cs vals r dm dd n (putMid (at .tuple) (end .tuple - at .tuple) ms ys) (putMid (4 * at .tuple) (4 * end .tuple - 4 * at .tuple) ds zs) verdict′ end (i + 1)
+  unfolding first fault-at place lookup-multiplicities lookup-denominators
+  lining-turn {verdict′} {f} ys zs x h (ef, ey, ez) ex eo =
+      record {
+        lists = s .lists;
+        cap = s .cap;
+        few = s .few;
+        count = s .count;
+        within = omega arith;
+        stands = st .0;
+        ms-size = s .ms-size;
+        ds-size = s .ds-size;
+        ms-len = more .len ∙ s .ms-size;
+        ds-len = grown .len ∙ s .ds-size;
+        ms≡ = more;
+        ds≡ = grown;
+        verdict≡ = rw (add-one i) (eo ∙ ap₂ or-else (s .verdict≡) (ex ∙ ap (λ (n : ℕ). fault-refusal n r i) ef));
+      }
+    where
+      fm : ℕ → List ℕ
+      fm = lookup-multiplicities p w l cs (λ _. vals) r
+
+      fd : ℕ → List ℕ
+      fd = lookup-denominators p w l cs (λ _. vals) r
+
+      more : Filled dm (joined fm 0 (i + 1)) (end .tuple) (putMid (at .tuple) (end .tuple - at .tuple) ms ys)
+      more =
+          filled-part ys (s .ms≡) (omega (arith, next)) (omega (arith, st .1 .tuple-in, s .ms-size)) (ap length ey ∙ multiplicities-length p w l cs (λ _. vals) 0 i ∙ omega (arith, next))
+          (joined-one fm 0 i ∙ ap (λ (y : List ℕ). joined fm 0 i ++ y) (ap fm (zero-add i) ∙ sym ey))
+
+      grown : Filled dd (joined fd 0 (i + 1)) (4 * end .tuple) (putMid (4 * at .tuple) (4 * end .tuple - 4 * at .tuple) ds zs)
+      grown =
+          filled-part zs (s .ds≡) (omega (arith, next)) (omega (arith, st .1 .tuple-in, s .ds-size)) (ap length ez ∙ denominators-length p w l cs (λ _. vals) 0 i ∙ omega (arith, next))
+          (joined-one fd 0 i ∙ ap (λ (y : List ℕ). joined fd 0 i ++ y) (ap fd (zero-add i) ∙ sym ez))
+
+pub lining-ends : {p w : ℕ} {lookups tuples mults flags elements cs vals : List ℕ} {r n : ℕ} {dm dd ms ds : List ℕ} {verdict : Verdict} {at : Starts} {i : ℕ}
+    → Lining p w lookups tuples mults flags elements cs vals r dm dd n ms ds verdict at i → n ≤ i
+    → (refusal verdict ≡ row-fault p w (lent-lookups lookups [] tuples mults flags elements) cs (λ _. vals) r)
+    × (ms ≡ row-multiplicities p w (lent-lookups lookups [] tuples mults flags elements) cs (λ _. vals) r)
+    × (ds ≡ row-denominators p w (lent-lookups lookups [] tuples mults flags elements) cs (λ _. vals) r)
+unfolding row-fault row-multiplicities row-denominators
+lining-ends {p} {w} {lookups} {tuples} {mults} {flags} {elements} {cs} {vals} {r} {n} {at = at} {i = i} s h =
+    let e : i ≡ lookup-count lookups = omega (arith, s .within, s .count) in
+    let a : at .tuple ≡ length tuples = s .stands .tuple≡ ∙ ap (tuple-start lookups) e ∙ sym (s .lists .fitting .tuples) in (
       s .verdict≡ ∙ ap (first _) e,
-      filled-whole (s .out≡) (omega (arith, s .word≡, s .size)) ∙ ap (joined (fraction-at p w (lent-lookups lookups [] tuples mults flags elements) cs (λ _. vals) r) 0) e,
+      filled-whole (s .ms≡) (omega (arith, a, s .ms-size)) ∙ ap (joined (lookup-multiplicities p w (lent-lookups lookups [] tuples mults flags elements) cs (λ _. vals) r) 0) e,
+      filled-whole (s .ds≡) (omega (arith, a, s .ds-size)) ∙ ap (joined (lookup-denominators p w (lent-lookups lookups [] tuples mults flags elements) cs (λ _. vals) r) 0) e,
     )
-
-pub word-in : {p w : ℕ} {lookups tuples mults flags elements cs vals : List ℕ} {r n : ℕ} {d out : List ℕ} {sum : Ext} {verdict : Verdict} {at : Starts} {word i : ℕ}
-    → Lining p w lookups tuples mults flags elements cs vals r d n out sum verdict at word i → i < n → word + 4 ≤ length out
-word-in s h = omega (arith, s .word≡, s .len)
-
-pub word-part : {p w : ℕ} {lookups tuples mults flags elements cs vals : List ℕ} {r n : ℕ} {d out : List ℕ} {sum : Ext} {verdict : Verdict} {at : Starts} {word i : ℕ}
-    → Lining p w lookups tuples mults flags elements cs vals r d n out sum verdict at word i → i < n → length (take (word + 4 - word) (drop word out)) ≡ 4
-word-part {out = out} {word = word} s h = part-length out word (word + 4) (omega arith) (word-in s h) ∙ omega arith

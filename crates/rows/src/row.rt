@@ -1,20 +1,17 @@
-// One row of the trace: the fractions of its lookups, their sum and the first fault.
+// One row of a table: the shares of its lookups' tuples and the first fault.
 ghost use mathlib.Core.Path.{_≡_};
-ghost use mathlib.Core.List.{[], _++_};
+ghost use mathlib.Core.List.{[]};
 ghost use Prim.Native.Nat.{_<_, _+_, _*_};
 ghost use lib.ListN.{length};
-ghost use Rattle.lists.specs.Count.{joined};
-ghost use Rattle.field.specs.Element.{Word4};
-ghost use Rattle.field.specs.Ext.{ws};
 ghost use Rattle.expression.specs.Valid.{Below, Evaluable};
 ghost use Rattle.expression.specs.Window.{lent-traces};
 ghost use Rattle.expression.specs.Refusal.{refusal};
-ghost use Rattle.lookup.specs.Lookups.{lent-lookups, lookup-count};
+ghost use Rattle.lookup.specs.Lookups.{lent-lookups, lookup-count, tuple-count};
 ghost use Rattle.logup.specs.Column.{fault};
-ghost use Rattle.logup.specs.Rows.{fault-refusal, place, fraction-at, row-sum, row-fault};
+ghost use Rattle.logup.specs.Rows.{fault-refusal, place, row-fault};
 ghost use Rattle.prepared.specs.Ready.{lent-values, Ready, Stands, Spans};
+ghost use Rattle.rows.specs.Shares.{lookup-multiplicities, lookup-denominators, row-multiplicities, row-denominators};
 use column::fractions;
-use column::fractions::Fraction;
 use column::tuple;
 use evaluation::traits;
 use expression::refusal;
@@ -22,15 +19,8 @@ use expression::refusal::Refusal;
 use expression::refusal::Verdict;
 use expression::sizes::Shape;
 use field::extension;
-use field::extension::Ext;
 use prepared::starts::Starts;
 use prepared::starts::next_starts;
-
-// The sum of a row's fractions, and the first fault.
-pub struct Line {
-    pub sum: Ext,
-    pub verdict: Verdict,
-}
 
 // The refusal of a fault's number on a row, at a lookup.
 fn verdict_of(fault: u32, row: usize, lookup: usize) -> Verdict
@@ -44,7 +34,7 @@ fn verdict_of(fault: u32, row: usize, lookup: usize) -> Verdict
     }
 }
 
-// Lookup i by its own parts, with its own challenges.
+// Lookup i by its own parts, with its own challenges: its shares into `ms` and `ds`, and its fault.
 fn one(
     p: u32,
     w: u32,
@@ -59,13 +49,16 @@ fn one(
     i: usize,
     at: Starts,
     end: Starts,
-) -> Fraction
+    ms: &mut [u32],
+    ds: &mut [u32],
+) -> u32
     requires { ⌜ Ready p w (now lookups) (now tuples) (now multiplicities) (now flags) (now elements) (now challenges) (now table)
         × Below p (now vals) × (i < lookup-count (now lookups)) × Stands (now lookups) (now tuples) i at × Stands (now lookups) (now tuples) (i + 1) end
-        × Spans (now tuples) (now multiplicities) (now flags) (now elements) at end ⌝ }
-    ensures { λ r. ⌜ Word4 p (ws (r .value))
-        × (ws (r .value) ≡ fraction-at p w (lent-lookups (now (lookups .entry)) [] (now (tuples .entry)) (now (multiplicities .entry)) (now (flags .entry)) (now (elements .entry))) (now (challenges .entry)) (λ _. now (vals .entry)) 0 i)
-        × (r .fault ≡ fault p w (place p w (lent-lookups (now (lookups .entry)) [] (now (tuples .entry)) (now (multiplicities .entry)) (now (flags .entry)) (now (elements .entry))) (now (challenges .entry)) (λ _. now (vals .entry)) 0 i)) ⌝ }
+        × Spans (now tuples) (now multiplicities) (now flags) (now elements) at end
+        × (length (now ms) ≡ tuple-count (now lookups) i) × (length (now ds) ≡ 4 * tuple-count (now lookups) i) ⌝ }
+    ensures { λ r. ⌜ (r ≡ fault p w (place p w (lent-lookups (now (lookups .entry)) [] (now (tuples .entry)) (now (multiplicities .entry)) (now (flags .entry)) (now (elements .entry))) (now (challenges .entry)) (λ _. now (vals .entry)) 0 i))
+        × (now (ms .exit) ≡ lookup-multiplicities p w (lent-lookups (now (lookups .entry)) [] (now (tuples .entry)) (now (multiplicities .entry)) (now (flags .entry)) (now (elements .entry))) (now (challenges .entry)) (λ _. now (vals .entry)) 0 i)
+        × (now (ds .exit) ≡ lookup-denominators p w (lent-lookups (now (lookups .entry)) [] (now (tuples .entry)) (now (multiplicities .entry)) (now (flags .entry)) (now (elements .entry))) (now (challenges .entry)) (λ _. now (vals .entry)) 0 i) ⌝ }
 {
     let powers = tuple::load_powers(table, i);
     let alpha = extension::load(challenges, 2 * i);
@@ -89,11 +82,13 @@ fn one(
         &flags[flag0..flag1],
         &elements[element0..element1],
         vals,
+        ms,
+        ds,
     )
 }
 
-// The fractions of row r into `out`.
-fn write_fractions(
+// The shares of row r into `ms` and `ds`, and its first fault.
+fn write_shares(
     p: u32,
     w: u32,
     lookups: &[u32],
@@ -105,22 +100,16 @@ fn write_fractions(
     table: &[u32],
     vals: &[u32],
     r: usize,
-    out: &mut [u32],
-) -> Line
+    ms: &mut [u32],
+    ds: &mut [u32],
+) -> Verdict
     requires { ⌜ Ready p w (now lookups) (now tuples) (now multiplicities) (now flags) (now elements) (now challenges) (now table)
-        × Below p (now vals) × (length (now out) ≡ 4 * lookup-count (now lookups)) ⌝ }
-    ensures { λ a. ⌜ Word4 p (ws (a .sum))
-        × (ws (a .sum) ≡ row-sum p w (lent-lookups (now (lookups .entry)) [] (now (tuples .entry)) (now (multiplicities .entry)) (now (flags .entry)) (now (elements .entry))) (now (challenges .entry)) (λ _. now (vals .entry)) r)
-        × (refusal (a .verdict) ≡ row-fault p w (lent-lookups (now (lookups .entry)) [] (now (tuples .entry)) (now (multiplicities .entry)) (now (flags .entry)) (now (elements .entry))) (now (challenges .entry)) (λ _. now (vals .entry)) r)
-        × (now (out .exit) ≡ joined (fraction-at p w (lent-lookups (now (lookups .entry)) [] (now (tuples .entry)) (now (multiplicities .entry)) (now (flags .entry)) (now (elements .entry))) (now (challenges .entry)) (λ _. now (vals .entry)) r) 0 (lookup-count (now (lookups .entry)))) ⌝ }
+        × Below p (now vals) × (length (now ms) ≡ length (now tuples)) × (length (now ds) ≡ 4 * length (now tuples)) ⌝ }
+    ensures { λ v. ⌜ (refusal v ≡ row-fault p w (lent-lookups (now (lookups .entry)) [] (now (tuples .entry)) (now (multiplicities .entry)) (now (flags .entry)) (now (elements .entry))) (now (challenges .entry)) (λ _. now (vals .entry)) r)
+        × (now (ms .exit) ≡ row-multiplicities p w (lent-lookups (now (lookups .entry)) [] (now (tuples .entry)) (now (multiplicities .entry)) (now (flags .entry)) (now (elements .entry))) (now (challenges .entry)) (λ _. now (vals .entry)) r)
+        × (now (ds .exit) ≡ row-denominators p w (lent-lookups (now (lookups .entry)) [] (now (tuples .entry)) (now (multiplicities .entry)) (now (flags .entry)) (now (elements .entry))) (now (challenges .entry)) (λ _. now (vals .entry)) r) ⌝ }
 {
     let n = lookups.len() / 8;
-    let mut sum = Ext {
-        c0: 0,
-        c1: 0,
-        c2: 0,
-        c3: 0,
-    };
     let mut verdict = Verdict::Accepted;
     let mut at = Starts {
         tuple: 0,
@@ -128,11 +117,12 @@ fn write_fractions(
         flag: 0,
         element: 0,
     };
-    let mut word = 0;
     let mut i = 0;
     while i < n {
         let end = next_starts(lookups, tuples, multiplicities, flags, elements, i, at);
-        let a = one(
+        let from = at.tuple;
+        let to = end.tuple;
+        let fault = one(
             p,
             w,
             lookups,
@@ -146,19 +136,17 @@ fn write_fractions(
             i,
             at,
             end,
+            &mut ms[from..to],
+            &mut ds[4 * from..4 * to],
         );
-        let value = a.value;
-        extension::store(&mut out[word..word + 4], value);
-        sum = extension::add(p, sum, value);
-        verdict = refusal::first(verdict, verdict_of(a.fault, r, i));
+        verdict = refusal::first(verdict, verdict_of(fault, r, i));
         at = end;
-        word = word + 4;
         i += 1;
     }
-    Line { sum, verdict }
+    verdict
 }
 
-// Row r: its node values, then the accumulator and the fractions into `out`.
+// Row r: its node values, then its shares into `ms` and `ds`, and its first fault.
 pub fn row(
     p: u32,
     w: u32,
@@ -175,16 +163,15 @@ pub fn row(
     challenges: &[u32],
     table: &[u32],
     r: usize,
-    accumulator: Ext,
-    out: &mut [u32],
-) -> Line
+    ms: &mut [u32],
+    ds: &mut [u32],
+) -> Verdict
     requires { ⌜ Ready p w (now lookups) (now tuples) (now multiplicities) (now flags) (now elements) (now challenges) (now table)
         × Evaluable p (lent-traces shape (now main) (now preprocessed) (now «public_values»)) (now nodes) × (r < shape .height)
-        × (length (now out) ≡ 4 * lookup-count (now lookups) + 4) ⌝ }
-    ensures { λ a. ⌜ Word4 p (ws (a .sum))
-        × (ws (a .sum) ≡ row-sum p w (lent-lookups (now (lookups .entry)) [] (now (tuples .entry)) (now (multiplicities .entry)) (now (flags .entry)) (now (elements .entry))) (now (challenges .entry)) (lent-values p shape (now (main .entry)) (now (preprocessed .entry)) (now («public_values» .entry)) (now (nodes .entry))) r)
-        × (refusal (a .verdict) ≡ row-fault p w (lent-lookups (now (lookups .entry)) [] (now (tuples .entry)) (now (multiplicities .entry)) (now (flags .entry)) (now (elements .entry))) (now (challenges .entry)) (lent-values p shape (now (main .entry)) (now (preprocessed .entry)) (now («public_values» .entry)) (now (nodes .entry))) r)
-        × (now (out .exit) ≡ ws accumulator ++ joined (fraction-at p w (lent-lookups (now (lookups .entry)) [] (now (tuples .entry)) (now (multiplicities .entry)) (now (flags .entry)) (now (elements .entry))) (now (challenges .entry)) (lent-values p shape (now (main .entry)) (now (preprocessed .entry)) (now («public_values» .entry)) (now (nodes .entry))) r) 0 (lookup-count (now (lookups .entry)))) ⌝ }
+        × (length (now ms) ≡ length (now tuples)) × (length (now ds) ≡ 4 * length (now tuples)) ⌝ }
+    ensures { λ v. ⌜ (refusal v ≡ row-fault p w (lent-lookups (now (lookups .entry)) [] (now (tuples .entry)) (now (multiplicities .entry)) (now (flags .entry)) (now (elements .entry))) (now (challenges .entry)) (lent-values p shape (now (main .entry)) (now (preprocessed .entry)) (now («public_values» .entry)) (now (nodes .entry))) r)
+        × (now (ms .exit) ≡ row-multiplicities p w (lent-lookups (now (lookups .entry)) [] (now (tuples .entry)) (now (multiplicities .entry)) (now (flags .entry)) (now (elements .entry))) (now (challenges .entry)) (lent-values p shape (now (main .entry)) (now (preprocessed .entry)) (now («public_values» .entry)) (now (nodes .entry))) r)
+        × (now (ds .exit) ≡ row-denominators p w (lent-lookups (now (lookups .entry)) [] (now (tuples .entry)) (now (multiplicities .entry)) (now (flags .entry)) (now (elements .entry))) (now (challenges .entry)) (lent-values p shape (now (main .entry)) (now (preprocessed .entry)) (now («public_values» .entry)) (now (nodes .entry))) r) ⌝ }
 {
     let mut vals = [0u32; 1024];
     traits::row_values(
@@ -198,9 +185,7 @@ pub fn row(
         &mut vals,
     );
     let count = nodes.len() / 3;
-    let width = out.len();
-    extension::store(&mut out[0..4], accumulator);
-    write_fractions(
+    write_shares(
         p,
         w,
         lookups,
@@ -212,6 +197,7 @@ pub fn row(
         table,
         &vals[0..count],
         r,
-        &mut out[4..width],
+        ms,
+        ds,
     )
 }

@@ -23,7 +23,7 @@ use Rattle.logup.specs.Column.{Place, branches, multiplicity, flag, chosen, den
 use Rattle.column.specs.Own.{Fits, part, own-words, own-widths, own-multiplicities, own-flags, own-nodes, parted}
 
 -- sums, tests and choices that agree term by term
-sum4-same : (p : ℕ) (f g : ℕ → List ℕ) (n : ℕ) → ((k : ℕ) → k < n → f k ≡ g k) → sum4 p f n ≡ sum4 p g n
+pub sum4-same : (p : ℕ) (f g : ℕ → List ℕ) (n : ℕ) → ((k : ℕ) → k < n → f k ≡ g k) → sum4 p f n ≡ sum4 p g n
 unfolding sum4
 sum4-same p f g zero e = refl
 sum4-same p f g (suc n) e = ap₂ (add4 p) (sum4-same p f g n (λ k h. e k (omega arith))) (e n (omega arith))
@@ -71,7 +71,7 @@ module _ {p w : ℕ} {c d : Place} (s : Same p w c d) where
       ∙ some-of-same (λ k. is-zero (used-denom p w c k)) (λ k. is-zero (used-denom p w d k)) (branches d) (λ k h. ap is-zero (used-same k h)))
 
   module _ (x : exclusive (d .lookups .lookups) (d .lookup) ≡ true) where
-    choice : chosen (flag c) (branches c) ≡ chosen (flag d) (branches d)
+    pub choice : chosen (flag c) (branches c) ≡ chosen (flag d) (branches d)
     choice = ap (chosen (flag c)) (s .counts) ∙ chosen-same (flag c) (flag d) (branches d) (s .flags x)
 
     -- of the branch chosen among the first n

@@ -9,7 +9,7 @@ use lib.Seq.{getD-at}
 use Rattle.lists.specs.Tab.{tab}
 use Rattle.lists.specs.laws.Tab.{tab-length}
 use Rattle.lists.specs.laws.Count.{last-or-below}
-use Rattle.field.specs.Element.{at, Word4, zero4, one4, mul4, power4}
+use Rattle.field.specs.Element.{Word4, zero4, one4, mul4, power4}
 use Rattle.field.specs.laws.Element.{word-mul4}
 use Rattle.column.specs.Powers.{beta-of, Powers}
 

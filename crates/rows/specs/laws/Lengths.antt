@@ -1,4 +1,4 @@
--- How many words fractions and sums have.
+-- How many words fractions, sums and shares have.
 use mathlib.Core.Path.{_≡_, refl}
 use mathlib.Core.Bool.{Bool, true, false, cond}
 use mathlib.Core.Option.{Option, none, some}
@@ -6,12 +6,15 @@ use mathlib.Core.List.{List}
 use Prim.Native.Nat.{ℕ, zero, suc, _*_}
 use lib.ListN.{length}
 use Rattle.lists.specs.Count.{joined}
-use Rattle.field.specs.Element.{add4, scale4, sum4}
-use Rattle.lookup.specs.Lookups.{Lookups, exclusive}
-use Rattle.logup.specs.Tuple.{quotient4}
-use Rattle.logup.specs.Column.{Place, branches, multiplicity, flag, used-denom, chosen, branch-fraction, exclusive-fraction, additive-fraction, fraction}
+use Rattle.lists.specs.laws.Tab.{tab-length}
+use Rattle.field.specs.Element.{one4, add4, sub4, scale4, sum4}
+use Rattle.lookup.specs.Lookups.{Lookups, exclusive, tuple-count}
+use Rattle.logup.specs.Tuple.{tuple, denominator, quotient4}
+use Rattle.logup.specs.Column.{Place, branches, multiplicity, flag, denom, used-denom, chosen, branch-fraction, exclusive-fraction, additive-fraction, fraction}
 use Rattle.logup.specs.Rows.{place, fraction-at}
 use Rattle.lists.specs.laws.Joined.{joined-length}
+use Rattle.column.specs.Shares.{idle, mark, denominator-by, branch-taken, share-multiplicity, share-denominator}
+use Rattle.rows.specs.Shares.{lookup-multiplicities, lookup-denominators}
 
 -- a fraction is four words
 option-four : (p w : ℕ) (c : Place) (o : Option ℕ) → length (branch-fraction p w c o) ≡ 4
@@ -36,3 +39,17 @@ fraction-four p w c =
 pub fractions-length : (p w : ℕ) (l : Lookups) (cs : List ℕ) (values : ℕ → List ℕ) (r n : ℕ) → length (joined (fraction-at p w l cs values r) 0 n) ≡ 4 * n
 unfolding fraction-at
 fractions-length p w l cs values r n = joined-length (fraction-at p w l cs values r) 4 n (λ i. fraction-four p w (place p w l cs values r i))
+
+-- a lookup has a multiplicity and a denominator for each tuple
+pub share-four : (p w : ℕ) (c : Place) (k : ℕ) → length (share-denominator p w c k) ≡ 4
+unfolding share-denominator denominator-by denom denominator sub4
+share-four p w c k = cond-four (idle (mark c) (branch-taken c) k (multiplicity c k)) one4 (denominator p w (c .alpha) (c .beta) (tuple (c .lookups) (c .vals) (c .lookup) k)) refl refl
+
+module _ (p w : ℕ) (l : Lookups) (cs : List ℕ) (values : ℕ → List ℕ) (r i : ℕ) where
+  pub multiplicities-length : length (lookup-multiplicities p w l cs values r i) ≡ tuple-count (l .lookups) i
+  unfolding lookup-multiplicities
+  multiplicities-length = tab-length (share-multiplicity (place p w l cs values r i)) 0 (tuple-count (l .lookups) i)
+
+  pub denominators-length : length (lookup-denominators p w l cs values r i) ≡ 4 * tuple-count (l .lookups) i
+  unfolding lookup-denominators
+  denominators-length = joined-length (share-denominator p w (place p w l cs values r i)) 4 (tuple-count (l .lookups) i) (share-four p w (place p w l cs values r i))

@@ -14,13 +14,13 @@ slice-aggregate-parts : tie.Need-slice-aggregate-parts
 slice-aggregate-parts c = search needs
 
 parts-requires : tie.Need-parts-requires
-parts-requires c κs = (record { field = c .before .before .before .before .before .before .before .before .before .before .before .before .before .before .before .before .pre .0; lists = c .before .before .before .before .before .before .before .before .before .before .before .before .before .before .before .before .pre .1; below = c .before .before .before .before .before .before .before .before .before .before .before .before .before .before .before .before .pre .3; enough = c .before .before .before .before .before .before .before .before .before .before .before .before .before .before .before .before .pre .4; powered = powered _ _ _ _ _ (c .before .before .before .write-table .ensures) }, c .before .before .before .before .before .before .before .before .before .before .before .before .before .before .before .before .pre .2, c .before .before .before .before .before .before .before .before .before .before .before .before .before .before .before .before .pre .5, c .before .before .before .before .before .before .before .before .before .before .before .before .before .before .before .before .pre .7)
+parts-requires c κs = (record { field = c .before .before .before .before .before .before .before .before .before .before .before .before .before .before .before .before .pre .0; lists = c .before .before .before .before .before .before .before .before .before .before .before .before .before .before .before .before .pre .1; below = c .before .before .before .before .before .before .before .before .before .before .before .before .before .before .before .before .pre .3; enough = c .before .before .before .before .before .before .before .before .before .before .before .before .before .before .before .before .pre .4; powered = powered _ _ _ _ _ (c .before .before .before .write-table .ensures) }, c .before .before .before .before .before .before .before .before .before .before .before .before .before .before .before .before .pre .2, c .before .before .before .before .before .before .before .before .before .before .before .before .before .before .before .before .pre .5, c .before .before .before .before .before .before .before .before .before .before .before .before .before .before .before .before .pre .7, c .before .before .before .before .before .before .before .before .before .before .before .before .before .before .before .before .pre .8)
 
 used-words-requires : tie.Need-used-words-requires
 used-words-requires c κs = search needs
 
 finish-requires : tie.Need-finish-requires
-finish-requires c κs = room-after _ _ _ _ _ _ _ (c .before .before .before .before .parts .ensures .3) (c .before .used-words .ensures) (c .before .before .before .before .before .before .before .before .before .before .before .before .before .before .before .before .before .before .before .before .before .pre .7)
+finish-requires c κs = room-after _ _ _ _ _ _ _ (c .before .before .before .before .parts .ensures .3) (c .before .used-words .ensures) (c .before .before .before .before .before .before .before .before .before .before .before .before .before .before .before .before .before .before .before .before .before .pre .8)
 
 same-length : tie.Need-same-length
 same-length c = search needs

@@ -1,0 +1,98 @@
+use Rattle.field.specs.Element.{Word4}
+use mathlib.Core.Path.{sym, subst}
+use Rattle.batch.proofs.Dividing.{Multiplying, multiplying-begins, multiplying-part, multiplying-turn, multiplying-ends}
+use Rattle.field.specs.laws.Slice.{word-element}
+use mathlib.Core.Path.{refl}
+use Prim.Native.Nat.{_-_}
+use borrow.Author.Needs.{needs}
+use Rattle.batch.proofs.division.products.Statement.{statement}
+use Rattle.batch.proofs.division.products.Tie as tie
+
+abbrev Inv-loop : tie.InvT-loop
+Inv-loop p w ms ds before₀ n product₀ j₀ before product j = Multiplying p w ms ds before₀ n before product j
+
+abbrev μ-loop : tie.MeasureT-loop
+μ-loop p w ms ds before₀ n product₀ j₀ before product j = n - j
+
+loop-holds : tie.Need-loop-holds Inv-loop μ-loop
+loop-holds c = multiplying-begins (c .before .before .before .pre .0) (search needs) refl (c .before .before .before .pre .1) refl
+
+mul-at : tie.Need-mul-at Inv-loop μ-loop
+mul-at c = search needs
+
+add-store : tie.Need-add-store Inv-loop μ-loop
+add-store c = search needs
+
+mul-store : tie.Need-mul-store Inv-loop μ-loop
+mul-store c = search needs
+
+sub-store : tie.Need-sub-store Inv-loop μ-loop
+sub-store c = search needs
+
+part-store-start : tie.Need-part-store-start Inv-loop μ-loop
+part-store-start c = search needs
+
+part-store-end : tie.Need-part-store-end Inv-loop μ-loop
+part-store-end c = search needs
+
+store-requires : tie.Need-store-requires Inv-loop μ-loop
+store-requires c κs = multiplying-part (c .before .before .loop .inv) (c .before .loop-test .taken)
+
+sub-i : tie.Need-sub-i Inv-loop μ-loop
+sub-i c = search needs
+
+sub-i-2 : tie.Need-sub-i-2 Inv-loop μ-loop
+sub-i-2 c = search needs
+
+mul-times : tie.Need-mul-times Inv-loop μ-loop
+mul-times c = search needs
+
+shared-slice-read-times : tie.Need-shared-slice-read-times Inv-loop μ-loop
+shared-slice-read-times c = search needs
+
+load-requires : tie.Need-load-requires Inv-loop μ-loop
+load-requires c κs = search needs
+
+times-requires : tie.Need-times-requires Inv-loop μ-loop
+times-requires c κs = (c .before .before .before .before .before .before .before .before .before .before .before .pre .0 .modulus, c .before .before .before .before .before .before .before .before .before .before .before .pre .0 .low, c .before .before .before .before .before .before .before .before .before .before .before .pre .0 .certificate, c .before .before .before .before .before .before .before .loop .inv .word4, subst (Word4 (c .before .before .before .before .before .before .before .before .before .before .before .args .p)) (sym (c .load .ensures)) (word-element _ _ (c .before .before .before .before .before .before .before .before .before .before .before .pre .0 .ds-below)))
+
+add-j : tie.Need-add-j Inv-loop μ-loop
+add-j c = search needs
+
+loop-less : tie.Need-loop-less Inv-loop μ-loop
+loop-less c = search needs
+
+loop-again : tie.Need-loop-again Inv-loop μ-loop
+loop-again c = multiplying-turn (c .before .before .before .before .before .before .before .before .loop .inv) (c .before .before .before .before .before .before .before .loop-test .taken) _ (c .before .before .before .before .before .store .ensures) refl (c .before .load .ensures) (c .times .ensures)
+
+same-length : tie.Need-same-length Inv-loop μ-loop
+same-length c = search needs
+
+returns : tie.Need-returns Inv-loop μ-loop
+returns c = multiplying-ends (c .before .loop .inv) (search needs)
+
+pub products-spec : {M : Type 1} → statement M
+products-spec =
+    tie.close
+    (tie.spec
+    Inv-loop
+    μ-loop
+    loop-holds
+    mul-at
+    add-store
+    mul-store
+    sub-store
+    part-store-start
+    part-store-end
+    store-requires
+    sub-i
+    sub-i-2
+    mul-times
+    shared-slice-read-times
+    load-requires
+    times-requires
+    add-j
+    loop-less
+    loop-again
+    same-length
+    returns)

@@ -1,0 +1,99 @@
+use Rattle.batch.proofs.Dividing.{Dividing, dividing-begins, dividing-part, dividing-step, dividing-turn, dividing-ends}
+use mathlib.Core.Path.{refl}
+use Prim.Native.Nat.{_-_}
+use borrow.Author.Needs.{needs}
+use Rattle.batch.proofs.division.quotients.Statement.{statement}
+use Rattle.batch.proofs.division.quotients.Tie as tie
+
+abbrev Inv-loop : tie.InvT-loop
+Inv-loop p w ms before ds₀ n rest₀ i₀ ds rest i = Dividing p w ms before ds₀ n ds rest i
+
+abbrev μ-loop : tie.MeasureT-loop
+μ-loop p w ms before ds₀ n rest₀ i₀ ds rest i = n - i
+
+loop-holds : tie.Need-loop-holds Inv-loop μ-loop
+loop-holds c = dividing-begins (c .before .before .before .pre .0) (search needs) refl (c .before .before .before .pre .2) (c .before .before .before .pre .1) (c .before .before .before .pre .3)
+
+load-requires : tie.Need-load-requires Inv-loop μ-loop
+load-requires c κs = search needs
+
+sub-load : tie.Need-sub-load Inv-loop μ-loop
+sub-load c = search needs
+
+sub-load-2 : tie.Need-sub-load-2 Inv-loop μ-loop
+sub-load-2 c = search needs
+
+load-requires-2 : tie.Need-load-requires-2 Inv-loop μ-loop
+load-requires-2 c κs = search needs
+
+mul-step : tie.Need-mul-step Inv-loop μ-loop
+mul-step c = search needs
+
+shared-slice-read-step : tie.Need-shared-slice-read-step Inv-loop μ-loop
+shared-slice-read-step c = search needs
+
+step-requires : tie.Need-step-requires Inv-loop μ-loop
+step-requires c κs = let k = dividing-step (c .before .before .before .before .before .loop .inv) (c .before .before .before .before .loop-test .taken) refl (c .before .before .load .ensures) (c .before .load2 .ensures) in (c .before .before .before .before .before .before .before .before .before .pre .0 .modulus, c .before .before .before .before .before .before .before .before .before .pre .0 .low, c .before .before .before .before .before .before .before .before .before .pre .0 .certificate, k .0, k .1, k .2, c .before .before .before .before .before .loop .inv .word4, k .3)
+
+mul-at : tie.Need-mul-at Inv-loop μ-loop
+mul-at c = search needs
+
+add-store : tie.Need-add-store Inv-loop μ-loop
+add-store c = search needs
+
+mul-store : tie.Need-mul-store Inv-loop μ-loop
+mul-store c = search needs
+
+sub-store : tie.Need-sub-store Inv-loop μ-loop
+sub-store c = search needs
+
+part-store-start : tie.Need-part-store-start Inv-loop μ-loop
+part-store-start c = search needs
+
+part-store-end : tie.Need-part-store-end Inv-loop μ-loop
+part-store-end c = search needs
+
+store-requires : tie.Need-store-requires Inv-loop μ-loop
+store-requires c κs = dividing-part (c .before .before .before .before .before .before .before .before .loop .inv) (c .before .before .before .before .before .before .before .loop-test .taken)
+
+add-i : tie.Need-add-i Inv-loop μ-loop
+add-i c = search needs
+
+loop-less : tie.Need-loop-less Inv-loop μ-loop
+loop-less c = search needs
+
+loop-again : tie.Need-loop-again Inv-loop μ-loop
+loop-again c = dividing-turn (c .before .before .before .before .before .before .before .before .before .before .before .before .loop .inv) (c .before .before .before .before .before .before .before .before .before .before .before .loop-test .taken) refl (c .before .before .before .before .before .before .before .before .before .load .ensures) (c .before .before .before .before .before .before .before .before .load2 .ensures) _ (c .before .before .before .before .before .before .step .ensures) (c .before .before .before .store .ensures)
+
+same-length : tie.Need-same-length Inv-loop μ-loop
+same-length c = search needs
+
+returns : tie.Need-returns Inv-loop μ-loop
+returns c = dividing-ends (c .before .loop .inv) (search needs)
+
+pub quotients-spec : {M : Type 1} → statement M
+quotients-spec =
+    tie.close
+    (tie.spec
+    Inv-loop
+    μ-loop
+    loop-holds
+    load-requires
+    sub-load
+    sub-load-2
+    load-requires-2
+    mul-step
+    shared-slice-read-step
+    step-requires
+    mul-at
+    add-store
+    mul-store
+    sub-store
+    part-store-start
+    part-store-end
+    store-requires
+    add-i
+    loop-less
+    loop-again
+    same-length
+    returns)

@@ -1,0 +1,116 @@
+-- The turns of the loop over the rows of a block, and the block.
+use mathlib.Core.Path.{_≡_, refl, sym, ap, ap₂, _∙_}
+use mathlib.Core.List.{List, _++_}
+use Prim.Native.Nat.{ℕ, suc, _+_, _*_, _-_, _<_, _≤_, zero-le}
+use native.Mathlib.Nat.{add-zero, suc-mul, mul-le-mul-right, zero-mul}
+use native.Mathlib.Numerals.{add-one}
+use native.Mathlib.Omega.{arith}
+use lib.ListN.{length, take, drop}
+use borrow.Rule.Slice.PartMut.{putMid}
+use Rattle.lists.specs.Count.{or-else, first, joined}
+use Rattle.lists.specs.laws.Count.{joined-one}
+use Rattle.lists.specs.laws.Filled.{Filled, filled-none, filled-part, filled-whole}
+use Rattle.lists.specs.laws.Parts.{part-length}
+use Rattle.expression.specs.Refusal.{refusal}
+use Rattle.expression.specs.declared.refusal.Verdict.{Verdict}
+use Rattle.lookup.specs.Lookups.{Lookups, lookup-count, tuple-start}
+use Rattle.logup.specs.Rows.{row-fault}
+use Rattle.rows.specs.Shares.{row-multiplicities, row-denominators}
+use Rattle.blocks.specs.laws.Shares.{row-ms-length, row-ds-length}
+
+-- j rows of a block
+pub record Filling (p w : ℕ) (l : Lookups) (cs : List ℕ) (values : ℕ → List ℕ) (size from k : ℕ) (dm dd ms ds : List ℕ) (verdict : Verdict) (at j : ℕ) : Type 0 where
+  pub cap : 4 * length dd < 18446744073709551616
+  pub low : from + k ≤ 1048576
+  pub size≡ : size ≡ tuple-start (l .lookups) (lookup-count (l .lookups))
+  pub within : j ≤ k
+  pub at≡ : at ≡ j * size
+  pub ms-size : length dm ≡ k * size
+  pub ds-size : length dd ≡ 4 * (k * size)
+  pub ms-len : length ms ≡ length dm
+  pub ds-len : length ds ≡ length dd
+  pub ms≡ : Filled dm (joined (row-multiplicities p w l cs values) from j) at ms
+  pub ds≡ : Filled dd (joined (row-denominators p w l cs values) from j) (4 * at) ds
+  pub verdict≡ : refusal verdict ≡ first (row-fault p w l cs values) (from + j)
+
+pub filling-begins : {p w : ℕ} {l : Lookups} {cs : List ℕ} {values : ℕ → List ℕ} {size from k : ℕ} {dm dd : List ℕ} {verdict : Verdict} → 4 * length dd < 18446744073709551616 → from + k ≤ 1048576
+    → size ≡ tuple-start (l .lookups) (lookup-count (l .lookups)) → length dm ≡ k * size → length dd ≡ 4 * (k * size) → refusal verdict ≡ first (row-fault p w l cs values) from
+    → Filling p w l cs values size from k dm dd dm dd verdict 0 0
+unfolding joined
+filling-begins {p} {w} {l} {cs} {values} {size} {from} c lo es em ed ev =
+    record {
+      cap = c;
+      low = lo;
+      size≡ = es;
+      within = zero-le;
+      at≡ = sym (zero-mul size);
+      ms-size = em;
+      ds-size = ed;
+      ms-len = refl;
+      ds-len = refl;
+      ms≡ = filled-none;
+      ds≡ = filled-none;
+      verdict≡ = ev ∙ ap (first (row-fault p w l cs values)) (sym (add-zero from));
+    }
+
+next-times : (a b m : ℕ) → a < b → a * m + m ≤ b * m
+next-times a b m h = rw suc-mul at (mul-le-mul-right m h)
+
+module _ {p w : ℕ} {l : Lookups} {cs : List ℕ} {values : ℕ → List ℕ} {size from k : ℕ} {dm dd ms ds : List ℕ} {verdict : Verdict} {at j : ℕ}
+    (s : Filling p w l cs values size from k dm dd ms ds verdict at j) (h : j < k) where
+  pub ms-in : at + size ≤ length ms
+  ms-in = omega (arith, next-times j k size h, s .at≡, s .ms-size, s .ms-len)
+
+  pub ds-in : 4 * (at + size) ≤ length ds
+  ds-in = omega (arith, next-times j k size h, s .at≡, s .ds-size, s .ds-len)
+
+  pub ms-part : length (take (at + size - at) (drop at ms)) ≡ size
+  ms-part = part-length ms at (at + size) (omega arith) ms-in ∙ omega arith
+
+  pub ds-part : length (take (4 * (at + size) - 4 * at) (drop (4 * at) ds)) ≡ 4 * size
+  ds-part = part-length ds (4 * at) (4 * (at + size)) (omega arith) ds-in ∙ omega arith
+
+  pub filling-turn : {verdict′ : Verdict} (ys zs : List ℕ) (fault : Verdict)
+      → (refusal fault ≡ row-fault p w l cs values (from + j)) × (ys ≡ row-multiplicities p w l cs values (from + j)) × (zs ≡ row-denominators p w l cs values (from + j))
+      → refusal verdict′ ≡ or-else (refusal verdict) (refusal fault)
+      → Filling p w l cs values size from k dm dd (putMid at (at + size - at) ms ys) (putMid (4 * at) (4 * (at + size) - 4 * at) ds zs) verdict′ (at + size) (j + 1)
+  unfolding first
+  filling-turn {verdict′} ys zs fault (ef, ey, ez) ev =
+      record {
+        cap = s .cap;
+        low = s .low;
+        size≡ = s .size≡;
+        within = omega arith;
+        at≡ = rw (add-one j, suc-mul j size, s .at≡);
+        ms-size = s .ms-size;
+        ds-size = s .ds-size;
+        ms-len = more .len;
+        ds-len = grown .len;
+        ms≡ = more;
+        ds≡ = grown;
+        verdict≡ = rw next (ev ∙ ap₂ or-else (s .verdict≡) ef);
+      }
+    where
+      next : from + (j + 1) ≡ suc (from + j)
+      next = omega arith
+
+      more : Filled dm (joined (row-multiplicities p w l cs values) from (j + 1)) (at + size) (putMid at (at + size - at) ms ys)
+      more =
+          filled-part ys (s .ms≡) (omega arith) (omega (arith, ms-in, s .ms-len)) (ap length ey ∙ row-ms-length p w l cs values (from + j) ∙ sym (s .size≡) ∙ omega arith)
+          (joined-one (row-multiplicities p w l cs values) from j ∙ ap (λ (y : List ℕ). joined (row-multiplicities p w l cs values) from j ++ y) (sym ey))
+
+      grown : Filled dd (joined (row-denominators p w l cs values) from (j + 1)) (4 * (at + size)) (putMid (4 * at) (4 * (at + size) - 4 * at) ds zs)
+      grown =
+          filled-part zs (s .ds≡) (omega arith) (omega (arith, ds-in, s .ds-len)) (ap length ez ∙ row-ds-length p w l cs values (from + j) ∙ omega (arith, s .size≡))
+          (joined-one (row-denominators p w l cs values) from j ∙ ap (λ (y : List ℕ). joined (row-denominators p w l cs values) from j ++ y) (sym ez))
+
+pub filling-ends : {p w : ℕ} {l : Lookups} {cs : List ℕ} {values : ℕ → List ℕ} {size from k : ℕ} {dm dd ms ds : List ℕ} {verdict : Verdict} {at j : ℕ}
+    → Filling p w l cs values size from k dm dd ms ds verdict at j → k ≤ j
+    → (refusal verdict ≡ first (row-fault p w l cs values) (from + k)) × (ms ≡ joined (row-multiplicities p w l cs values) from k) × (ds ≡ joined (row-denominators p w l cs values) from k)
+filling-ends {p} {w} {l} {cs} {values} {size} {from} {k} {dm} {dd} {at = at} {j = j} s h =
+    let e : j ≡ k = omega (arith, s .within) in
+    let a : k * size ≡ at = ap (λ (x : ℕ). x * size) (sym e) ∙ sym (s .at≡) in (
+      s .verdict≡ ∙ ap (λ (x : ℕ). first (row-fault p w l cs values) (from + x)) e,
+      filled-whole (s .ms≡) (omega (arith, a, s .ms-size)) ∙ ap (joined (row-multiplicities p w l cs values) from) e,
+      filled-whole (s .ds≡) (omega (arith, a, s .ds-size)) ∙ ap (joined (row-denominators p w l cs values) from) e,
+    )
