@@ -89,11 +89,11 @@ older-no ws t k found e z er y = sym (ap (λ (b : Bool). cond b k found) (sym (o
 pub link-low : {heads ws : List ℕ} {i h : ℕ} → Chained heads ws i → h < 32768 → word heads h ≤ i
 link-low {heads} {ws} {i} {h} c l = rw (c .begin h l) (last-le (hash-at ws) h i)
 
-pub link-is : {heads ws : List ℕ} {i w h : ℕ} → Chained heads ws i → 10 * i + 10 ≤ length ws → word ws (10 * i) ≤ 8 → i ≤ 268435455 → w ≡ word ws (10 * i)
+pub link-is : {heads ws : List ℕ} {i w h : ℕ} → Chained heads ws i → 10 * i + 10 ≤ length ws → word ws (10 * i) ≤ 8 → w ≡ word ws (10 * i)
     → (h ≡ hash (λ j. word ws (10 * i + 1 + j)) w) × (h < 32768)
     → Chained (set heads h (i + 1)) (set ws (10 * i) (word ws (10 * i) + 16 * word heads h)) (i + 1) × (plain (set ws (10 * i) (word ws (10 * i) + 16 * word heads h)) (i + 1) ≡ plain ws i) × (i ≤ i + 1) × (i + 1 ≤ i + 1)
-link-is {heads} {ws} {i} {w} {h} c r s f e (q, l) =
-    (chained-next c r s f (q ∙ ap (hash (λ j. word ws (10 * i + 1 + j))) e) l, plain-linked ws i (word heads h) (omega arith) s, omega arith, omega arith)
+link-is {heads} {ws} {i} {w} {h} c r s e (q, l) =
+    (chained-next c r s (q ∙ ap (hash (λ j. word ws (10 * i + 1 + j))) e) l, plain-linked ws i (word heads h) (omega arith) s, omega arith, omega arith)
 
 -- a new slot, not yet linked
 new-alike : (ws t : List ℕ) (l n c : ℕ) → l ≤ n → 10 * n + 10 ≤ length ws → Alike ws (new-at ws n t c) l

@@ -27,7 +27,6 @@ pub record Chained (heads ws : List ℕ) (n : ℕ) : Type 0 where
   pub begin : (h : ℕ) → h < 32768 → word heads h ≡ last-before (hash-at ws) h n
   pub follow : (i : ℕ) → i < n → word ws (10 * i) / 16 ≡ last-before (hash-at ws) (hash-at ws i) i
   pub narrow : (i : ℕ) → i < n → word ws (10 * i) % 16 ≤ 8
-  pub few : n ≤ 268435456
   pub long : length heads ≡ 32768
 
 -- whether slot k, which is linked, holds the tuple t

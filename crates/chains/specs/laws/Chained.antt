@@ -2,7 +2,7 @@
 use mathlib.Core.Path.{_≡_, refl, sym, ap, ap₂, _∙_}
 use mathlib.Core.Bool.{Bool, true, false, cond, _&&_}
 use mathlib.Core.List.{List}
-use Prim.Native.Nat.{ℕ, zero, suc, _+_, _*_, _-_, _/_, _%_, _<_, _≤_, zero-le}
+use Prim.Native.Nat.{ℕ, zero, suc, _+_, _*_, _-_, _/_, _%_, _<_, _≤_}
 use native.Mathlib.Nat.{add-zero}
 use native.Mathlib.Numerals.{add-one}
 use native.Mathlib.Omega.{arith}
@@ -29,7 +29,6 @@ chained-none {heads} ws e =
       begin = λ h l. ap (λ (x : List ℕ). word x h) e ∙ getD-replicate 32768 h 0 0 l;
       follow = λ i l. absurd (omega arith);
       narrow = λ i l. absurd (omega arith);
-      few = zero-le;
       long = ap length e ∙ length-replicate {A = ℕ} 32768 0;
     }
 
@@ -55,7 +54,6 @@ chained-alike {heads} {ws} {vs} {n} c a =
           λ i l. ap (λ (w : ℕ). w / 16) (alike-width a i l) ∙ c .follow i l ∙ last-same (hash-at ws) (hash-at vs) (hash-at ws i) i (λ j g. sym (hashes j (omega arith)))
           ∙ ap (λ (h : ℕ). last-before (hash-at vs) h i) (sym (hashes i l));
       narrow = λ i l. rw (alike-width a i l) (c .narrow i l);
-      few = c .few;
       long = c .long;
     }
   where
@@ -73,7 +71,7 @@ last-next : (f : ℕ → ℕ) (h n : ℕ) → last-before f h (n + 1) ≡ cond (
 unfolding last-before
 last-next f h n = rw (add-one n)
 
-module _ {heads ws : List ℕ} {n h : ℕ} (c : Chained heads ws n) (room : 10 * n + 10 ≤ length ws) (small : word ws (10 * n) ≤ 8) (fits : n ≤ 268435455)
+module _ {heads ws : List ℕ} {n h : ℕ} (c : Chained heads ws n) (room : 10 * n + 10 ≤ length ws) (small : word ws (10 * n) ≤ 8)
     (is : h ≡ hash (λ j. word ws (10 * n + 1 + j)) (word ws (10 * n))) (low : h < 32768) where
   abbrev w : ℕ
   w = word ws (10 * n) + 16 * word heads h
@@ -115,7 +113,7 @@ module _ {heads ws : List ℕ} {n h : ℕ} (c : Chained heads ws n) (room : 10 *
   narrows i l = last-or-below (λ i. word vs (10 * i) % 16 ≤ 8) n i (omega arith) (rw own (omega (arith, small))) (older .narrow i)
 
   pub chained-next : Chained (set heads h (n + 1)) (set ws (10 * n) (word ws (10 * n) + 16 * word heads h)) (n + 1)
-  chained-next = record { begin = begins; follow = follows; narrow = narrows; few = omega arith; long = length-set heads h (n + 1) ∙ c .long }
+  chained-next = record { begin = begins; follow = follows; narrow = narrows; long = length-set heads h (n + 1) ∙ c .long }
 
 -- a slot and a tuple, with and without links
 pub match-linked : (ws t : List ℕ) (n k : ℕ) → k < n → length t ≤ 8 → 10 * k + 10 ≤ length ws → match-at (plain ws n) t k ≡ holds ws t k
@@ -135,7 +133,7 @@ find-past ws t n k (suc m) h s r =
     ap₂ (λ (b : Bool) (x : ℕ). cond b k x) (match-past ws t n k h s (omega arith)) (find-past ws t n (suc k) m (omega arith) s (omega arith))
 
 -- a slot that holds t has its hash
-pub holds-hash : (ws t : List ℕ) (k : ℕ) → holds ws t k ≡ true → hash-at ws k ≡ hash (word t) (length t)
+holds-hash : (ws t : List ℕ) (k : ℕ) → holds ws t k ≡ true → hash-at ws k ≡ hash (word t) (length t)
 unfolding holds hash-at
 holds-hash ws t k e =
     let w : word ws (10 * k) % 16 ≡ length t = eqb-true (word ws (10 * k) % 16) (length t) (both-left (eqb (word ws (10 * k) % 16) (length t)) (same-list (take (length t) (drop (10 * k + 1) ws)) t) e) in

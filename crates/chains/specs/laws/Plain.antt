@@ -52,11 +52,11 @@ plain-width ws n k h g = plain-at ws n (10 * k) g ∙ linked-is ws n (10 * k) (o
 pub plain-past : (ws : List ℕ) (n i : ℕ) → 10 * n ≤ i → i < length ws → word (plain ws n) i ≡ word ws i
 plain-past ws n i h g = plain-at ws n i g ∙ past-is ws n i h
 
-pub plain-inner : (ws : List ℕ) (n k j : ℕ) → j < 9 → 10 * k + 1 + j < length ws → word (plain ws n) (10 * k + 1 + j) ≡ word ws (10 * k + 1 + j)
+plain-inner : (ws : List ℕ) (n k j : ℕ) → j < 9 → 10 * k + 1 + j < length ws → word (plain ws n) (10 * k + 1 + j) ≡ word ws (10 * k + 1 + j)
 plain-inner ws n k j h g = plain-at ws n (10 * k + 1 + j) g ∙ inner-is ws n (10 * k + 1 + j) (λ z. omega arith)
 
 -- a list that has the plain words is the plain list
-pub plain-is : (ws vs : List ℕ) (n : ℕ) → length vs ≡ length ws → ((i : ℕ) → i < length ws → word vs i ≡ plain-word ws n i) → vs ≡ plain ws n
+plain-is : (ws vs : List ℕ) (n : ℕ) → length vs ≡ length ws → ((i : ℕ) → i < length ws → word vs i ≡ plain-word ws n i) → vs ≡ plain ws n
 plain-is ws vs n l e =
     ext-getD 0 vs (plain ws n) (l ∙ sym (plain-length ws n)) (λ (i : ℕ) h. e i (omega arith) ∙ sym (plain-at ws n i (omega arith)))
 

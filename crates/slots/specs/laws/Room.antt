@@ -45,7 +45,7 @@ enter-roomy n p w t count r = go (ltb (find-slot (w .words) t 0 (w .used)) (w .u
         record { long = new-at-long (w .words) (w .used) t count h ∙ r .long; room = omega (arith, r .long) }
     go false false q = record { long = length-replicate (length (w .words)) 0 ∙ r .long; room = omega arith }
 
-pub step-roomy : (n p : ℕ) (w : Work) (e : Entry) → Roomy n w → Roomy n (step p w e)
+step-roomy : (n p : ℕ) (w : Work) (e : Entry) → Roomy n w → Roomy n (step p w e)
 unfolding step
 step-roomy n p w e r = go (w .full) (eqb (e .count) 0) (enter-roomy n p w (e .tuple) (e .count) r)
   where
