@@ -104,6 +104,61 @@ uint32_t delmatik_balance(const uint32_t *main, size_t main_len, const uint32_t 
     const uint32_t *flags, size_t flags_len, const uint32_t *elements, size_t elements_len,
     const uint32_t *sizes, size_t sizes_len, uint32_t *workspace, size_t workspace_len, uint64_t details[3]);
 
+/*
+ * The same doors for a caller that holds bytes. Each list of words is a byte slice, four bytes a word, the least byte first; names are bytes in
+ * any case. Beside each list stands a room of words, one word for each four bytes of it, into which the door decodes it. A list whose length is
+ * no multiple of four, or a room of another length, is refusal 1, and nothing is written then. What a door writes is encoded into the byte
+ * slice again; bytes past it come back as they were. Lengths are in elements: bytes for lists, words for rooms.
+ */
+uint32_t delmatik_generate_bytes(size_t main_width, size_t height, size_t pre_width, size_t pre_height,
+    const uint8_t *main, size_t main_len, const uint8_t *preprocessed, size_t preprocessed_len,
+    const uint8_t *public_values, size_t public_values_len, const uint8_t *nodes, size_t nodes_len,
+    const uint8_t *lookups, size_t lookups_len, const uint8_t *names, size_t names_len,
+    const uint8_t *tuples, size_t tuples_len, const uint8_t *multiplicities, size_t multiplicities_len,
+    const uint8_t *flags, size_t flags_len, const uint8_t *elements, size_t elements_len,
+    const uint8_t *challenges, size_t challenges_len,
+    uint8_t *trace, size_t trace_len,
+    uint32_t *main_room, size_t main_room_len, uint32_t *preprocessed_room, size_t preprocessed_room_len,
+    uint32_t *public_values_room, size_t public_values_room_len, uint32_t *nodes_room, size_t nodes_room_len,
+    uint32_t *lookups_room, size_t lookups_room_len, uint32_t *tuples_room, size_t tuples_room_len,
+    uint32_t *multiplicities_room, size_t multiplicities_room_len, uint32_t *flags_room, size_t flags_room_len,
+    uint32_t *elements_room, size_t elements_room_len, uint32_t *challenges_room, size_t challenges_room_len,
+    uint32_t *trace_room, size_t trace_room_len,
+    uint32_t terminal[5], uint64_t details[3]);
+
+/* used counts words, and bytes of names. */
+uint32_t delmatik_pack_bytes(uint64_t limit, size_t main_width, size_t pre_width, size_t public_values,
+    const uint8_t *nodes, size_t nodes_len, const uint8_t *lookups, size_t lookups_len,
+    const uint8_t *names, size_t names_len, const uint8_t *tuples, size_t tuples_len,
+    const uint8_t *multiplicities, size_t multiplicities_len, const uint8_t *flags, size_t flags_len,
+    const uint8_t *elements, size_t elements_len,
+    uint8_t *lookups_out, size_t lookups_out_len, uint8_t *names_out, size_t names_out_len,
+    uint8_t *tuples_out, size_t tuples_out_len, uint8_t *multiplicities_out, size_t multiplicities_out_len,
+    uint8_t *flags_out, size_t flags_out_len, uint8_t *elements_out, size_t elements_out_len,
+    uint32_t *nodes_room, size_t nodes_room_len, uint32_t *lookups_room, size_t lookups_room_len,
+    uint32_t *tuples_room, size_t tuples_room_len, uint32_t *multiplicities_room, size_t multiplicities_room_len,
+    uint32_t *flags_room, size_t flags_room_len, uint32_t *elements_room, size_t elements_room_len,
+    uint32_t *lookups_out_room, size_t lookups_out_room_len, uint32_t *tuples_out_room, size_t tuples_out_room_len,
+    uint32_t *multiplicities_out_room, size_t multiplicities_out_room_len, uint32_t *flags_out_room, size_t flags_out_room_len,
+    uint32_t *elements_out_room, size_t elements_out_room_len,
+    uint64_t used[6], uint64_t details[3]);
+
+uint32_t delmatik_balance_bytes(
+    const uint8_t *main, size_t main_len, const uint8_t *preprocessed, size_t preprocessed_len,
+    const uint8_t *public_values, size_t public_values_len, const uint8_t *nodes, size_t nodes_len,
+    const uint8_t *lookups, size_t lookups_len, const uint8_t *names, size_t names_len,
+    const uint8_t *tuples, size_t tuples_len, const uint8_t *multiplicities, size_t multiplicities_len,
+    const uint8_t *flags, size_t flags_len, const uint8_t *elements, size_t elements_len,
+    const uint8_t *sizes, size_t sizes_len,
+    uint8_t *workspace, size_t workspace_len,
+    uint32_t *main_room, size_t main_room_len, uint32_t *preprocessed_room, size_t preprocessed_room_len,
+    uint32_t *public_values_room, size_t public_values_room_len, uint32_t *nodes_room, size_t nodes_room_len,
+    uint32_t *lookups_room, size_t lookups_room_len, uint32_t *tuples_room, size_t tuples_room_len,
+    uint32_t *multiplicities_room, size_t multiplicities_room_len, uint32_t *flags_room, size_t flags_room_len,
+    uint32_t *elements_room, size_t elements_room_len, uint32_t *sizes_room, size_t sizes_room_len,
+    uint32_t *workspace_room, size_t workspace_room_len,
+    uint64_t details[3]);
+
 /* One element: its power, and its inverse, 0 where it is 0. */
 uint32_t delmatik_power(const uint32_t *a, size_t a_len, uint32_t n, uint32_t *out, size_t out_len);
 uint32_t delmatik_inverse(const uint32_t *a, size_t a_len, uint32_t *out, size_t out_len);

@@ -77,7 +77,7 @@ pub struct Exported;
 
 #[cfg(feature = "port")]
 mod exported {
-    use delmatik::{LookupTerminal, Refusal};
+    use delmatik::{LookupTerminal, Refusal, bytes};
 
     use super::*;
     use crate::table::Part;
@@ -111,11 +111,22 @@ mod exported {
         }
     }
 
+    /// The word door's answer where the byte door agrees with it in all that it gives; else one that no door gives, so that the comparison
+    /// reports the table.
+    fn agreed(answer: Answer, same: bool) -> Answer {
+        if same { answer } else { Answer { number: u32::MAX, details: [0; 3] } }
+    }
+
     impl Port for Exported {
         fn generate(&self, t: &Table, challenges: &[u32], trace: &mut [u32], terminal: &mut [u32; 5]) -> Option<Answer> {
-            let (answer, given) = answer(wrapped(t).generate_into(challenges, trace));
+            let t = wrapped(t);
+            let mut held = bytes::of(trace);
+            let on_bytes = bytes::Table::from(&t).generate_into(&bytes::of(challenges), &mut held);
+            let on_words = t.generate_into(challenges, trace);
+            let same = on_bytes == on_words && held == bytes::of(trace);
+            let (answer, given) = answer(on_words);
             *terminal = given.map_or([0; 5], |LookupTerminal([a, b, c, d])| [1, a, b, c, d]);
-            Some(answer)
+            Some(agreed(answer, same))
         }
 
         fn constraints(&self, t: &Table, challenges: &[u32], width: u64, trace: &[u32], terminal: Option<Ext>) -> Option<Answer> {
@@ -127,8 +138,11 @@ mod exported {
         }
 
         fn pack(&self, t: &Table, limit: u64) -> Option<(Answer, Vec<Lookup>)> {
-            let (answer, packed) = answer(wrapped(t).pack(limit));
-            Some((answer, records(packed)))
+            let t = wrapped(t);
+            let on_words = t.pack(limit);
+            let same = bytes::Table::from(&t).pack(limit) == on_words.as_ref().map(bytes::Table::from).map_err(|r| *r);
+            let (answer, packed) = answer(on_words);
+            Some((agreed(answer, same), records(packed)))
         }
 
         fn build(&self, t: &Table, interactions: &[Interaction]) -> Option<(Answer, Vec<Lookup>)> {
@@ -157,7 +171,13 @@ mod exported {
 
         fn balance(&self, all: &[Table], workspace: &mut [u32]) -> Option<Answer> {
             // Fourteen sizes say nothing of words past the last whole node or lookup: the model has such a table's sizes at odds, as the door.
-            Some(answer(delmatik::balance(&tables(all), workspace)).0)
+            let all = tables(all);
+            let mut held = bytes::of(workspace);
+            let sizes: Vec<u8> = all.iter().flat_map(|t| bytes::of(&t.sizes())).collect();
+            let on_bytes = bytes::balance(&all.iter().map(bytes::Table::from).collect::<Vec<_>>(), &sizes, &mut held);
+            let on_words = delmatik::balance(&all, workspace);
+            let same = on_bytes == on_words && held == bytes::of(workspace);
+            Some(agreed(answer(on_words).0, same))
         }
     }
 }

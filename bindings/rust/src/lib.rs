@@ -20,6 +20,7 @@
 //! assert_eq!(terminal.0, [1006632961, 0, 0, 0]);
 //! assert_eq!(table.constraints(&[[5, 0, 0, 0], [0, 0, 0, 0]], 2, &generated.trace, Some(terminal)), Ok(()));
 //! ```
+pub mod bytes;
 pub mod sys;
 
 /// Four words below p: c0 + c1 X + c2 X^2 + c3 X^3, with X^4 = 11.
@@ -112,6 +113,7 @@ macro_rules! call {
     };
     (@ $door:ident $details:ident ($($done:tt)*)) => { unsafe { sys::$door($($done)* &mut $details) } };
 }
+pub(crate) use call;
 
 impl Interaction {
     /// Its place in the order of building.
@@ -302,7 +304,7 @@ fn word(n: usize) -> u32 {
 }
 
 /// A list of all tables, one table after the other.
-fn joined<T: Copy>(tables: &[Table], list: fn(&Table) -> &[T]) -> Vec<T> {
+fn joined<T, W: Copy>(tables: &[T], list: fn(&T) -> &[W]) -> Vec<W> {
     tables.iter().flat_map(list).copied().collect()
 }
 

@@ -52,5 +52,27 @@ door!(delmatik_balance(
     [main: u32], [preprocessed: u32], [public_values: u32], [nodes: u32], [lookups: u32], [names: u8], [tuples: u32],
     [multiplicities: u32], [flags: u32], [elements: u32], [sizes: u32], [workspace: mut u32], details: *mut [u64; 3],
 ));
+// The same on bytes: four for each word, the least byte first, and beside each list a room of as many words, into which it is decoded.
+door!(delmatik_generate_bytes(
+    main_width: usize, height: usize, pre_width: usize, pre_height: usize, [main: u8], [preprocessed: u8], [public_values: u8], [nodes: u8],
+    [lookups: u8], [names: u8], [tuples: u8], [multiplicities: u8], [flags: u8], [elements: u8], [challenges: u8], [trace: mut u8],
+    [main_room: mut u32], [preprocessed_room: mut u32], [public_values_room: mut u32], [nodes_room: mut u32], [lookups_room: mut u32],
+    [tuples_room: mut u32], [multiplicities_room: mut u32], [flags_room: mut u32], [elements_room: mut u32], [challenges_room: mut u32],
+    [trace_room: mut u32], terminal: *mut [u32; 5], details: *mut [u64; 3],
+));
+door!(delmatik_pack_bytes(
+    limit: u64, main_width: usize, pre_width: usize, public_values: usize, [nodes: u8], [lookups: u8], [names: u8], [tuples: u8],
+    [multiplicities: u8], [flags: u8], [elements: u8], [lookups_out: mut u8], [names_out: mut u8], [tuples_out: mut u8],
+    [multiplicities_out: mut u8], [flags_out: mut u8], [elements_out: mut u8], [nodes_room: mut u32], [lookups_room: mut u32],
+    [tuples_room: mut u32], [multiplicities_room: mut u32], [flags_room: mut u32], [elements_room: mut u32], [lookups_out_room: mut u32],
+    [tuples_out_room: mut u32], [multiplicities_out_room: mut u32], [flags_out_room: mut u32], [elements_out_room: mut u32],
+    used: *mut [u64; 6], details: *mut [u64; 3],
+));
+door!(delmatik_balance_bytes(
+    [main: u8], [preprocessed: u8], [public_values: u8], [nodes: u8], [lookups: u8], [names: u8], [tuples: u8], [multiplicities: u8],
+    [flags: u8], [elements: u8], [sizes: u8], [workspace: mut u8], [main_room: mut u32], [preprocessed_room: mut u32],
+    [public_values_room: mut u32], [nodes_room: mut u32], [lookups_room: mut u32], [tuples_room: mut u32], [multiplicities_room: mut u32],
+    [flags_room: mut u32], [elements_room: mut u32], [sizes_room: mut u32], [workspace_room: mut u32], details: *mut [u64; 3],
+));
 door!(delmatik_power([a: u32], n: u32, [out: mut u32],));
 door!(delmatik_inverse([a: u32], [out: mut u32],));

@@ -1,0 +1,134 @@
+//! The same doors for a caller that holds bytes: each list of words is a byte slice, four bytes a word, the least byte first. A door decodes them
+//! into rooms of words; this module lends it one room, split among the lists.
+use crate::{LookupTerminal, Refusal, call, joined, sys};
+
+/// A table's lists as bytes; the names are bytes in any case.
+#[derive(Clone, Debug, Default, PartialEq, Eq)]
+pub struct Table {
+    pub main_width: usize,
+    pub height: usize,
+    pub pre_width: usize,
+    pub pre_height: usize,
+    pub main: Vec<u8>,
+    pub preprocessed: Vec<u8>,
+    pub public_values: Vec<u8>,
+    pub nodes: Vec<u8>,
+    pub lookups: Vec<u8>,
+    pub names: Vec<u8>,
+    pub tuples: Vec<u8>,
+    pub multiplicities: Vec<u8>,
+    pub flags: Vec<u8>,
+    pub elements: Vec<u8>,
+}
+
+/// The bytes of some words.
+pub fn of(words: &[u32]) -> Vec<u8> {
+    words.iter().flat_map(|w| w.to_le_bytes()).collect()
+}
+
+impl From<&crate::Table> for Table {
+    fn from(t: &crate::Table) -> Table {
+        Table {
+            main_width: t.main_width,
+            height: t.height,
+            pre_width: t.pre_width,
+            pre_height: t.pre_height,
+            main: of(&t.main),
+            preprocessed: of(&t.preprocessed),
+            public_values: of(&t.public_values),
+            nodes: of(&t.nodes),
+            lookups: of(&t.lookups),
+            names: t.names.clone(),
+            tuples: of(&t.tuples),
+            multiplicities: of(&t.multiplicities),
+            flags: of(&t.flags),
+            elements: of(&t.elements),
+        }
+    }
+}
+
+/// A room of a word for each four bytes of the lists.
+fn room(lists: &[&[u8]]) -> Vec<u32> {
+    vec![0; lists.iter().map(|l| l.len() / 4).sum()]
+}
+
+/// Each list's own part of the room.
+fn parts<'a, const N: usize>(mut room: &'a mut [u32], lists: [&[u8]; N]) -> [&'a mut [u32]; N] {
+    lists.map(|list| {
+        let (own, rest) = std::mem::take(&mut room).split_at_mut(list.len() / 4);
+        room = rest;
+        own
+    })
+}
+
+impl Table {
+    /// `generate_permutation`, into a lent buffer, which may be longer than the trace.
+    pub fn generate_into(&self, challenges: &[u8], trace: &mut [u8]) -> Result<Option<LookupTerminal>, Refusal> {
+        let Table { main, preprocessed, public_values, nodes, lookups, names, tuples, multiplicities, flags, elements, .. } = self;
+        let lists: [&[u8]; 11] =
+            [main, preprocessed, public_values, nodes, lookups, tuples, multiplicities, flags, elements, challenges, &*trace];
+        let mut words = room(&lists);
+        let [a, b, c, d, e, f, g, h, i, j, k] = parts(&mut words, lists);
+        let mut terminal = [0; 5];
+        call!(delmatik_generate_bytes(
+            self.main_width, self.height, self.pre_width, self.pre_height, [main], [preprocessed], [public_values], [nodes], [lookups],
+            [names], [tuples], [multiplicities], [flags], [elements], [challenges], [mut trace], [mut a], [mut b], [mut c], [mut d], [mut e],
+            [mut f], [mut g], [mut h], [mut i], [mut j], [mut k], &mut terminal,
+        ))?;
+        let [present, words @ ..] = terminal;
+        Ok((present == 1).then_some(LookupTerminal(words)))
+    }
+
+    /// `pack_same_bus`: the table with its lookups merged up to this degree.
+    pub fn pack(&self, limit: u64) -> Result<Table, Refusal> {
+        let Table { nodes, lookups, names, tuples, multiplicities, flags, elements, .. } = self;
+        let mut packed = self.clone();
+        let out = &mut packed;
+        let lists: [&[u8]; 11] = [
+            nodes,
+            lookups,
+            tuples,
+            multiplicities,
+            flags,
+            elements,
+            &out.lookups,
+            &out.tuples,
+            &out.multiplicities,
+            &out.flags,
+            &out.elements,
+        ];
+        let mut words = room(&lists);
+        let [a, b, c, d, e, f, g, h, i, j, k] = parts(&mut words, lists);
+        let mut used = [0; 6];
+        call!(delmatik_pack_bytes(
+            limit, self.main_width, self.pre_width, self.public_values.len() / 4, [nodes], [lookups], [names], [tuples], [multiplicities],
+            [flags], [elements], [mut out.lookups], [mut out.names], [mut out.tuples], [mut out.multiplicities], [mut out.flags],
+            [mut out.elements], [mut a], [mut b], [mut c], [mut d], [mut e], [mut f], [mut g], [mut h], [mut i], [mut j], [mut k], &mut used,
+        ))?;
+        let [l, n, t, m, f, e] = used.map(|n: u64| n as usize);
+        out.lookups.truncate(4 * l);
+        out.names.truncate(n);
+        out.tuples.truncate(4 * t);
+        out.multiplicities.truncate(4 * m);
+        out.flags.truncate(4 * f);
+        out.elements.truncate(4 * e);
+        Ok(packed)
+    }
+}
+
+/// `check_lookups`: `sizes` are fourteen words for each table, as [`crate::Table::sizes`] gives them.
+pub fn balance(tables: &[Table], sizes: &[u8], workspace: &mut [u8]) -> Result<(), Refusal> {
+    let (main, preprocessed) = (joined(tables, |t| &t.main), joined(tables, |t| &t.preprocessed));
+    let (public_values, nodes) = (joined(tables, |t| &t.public_values), joined(tables, |t| &t.nodes));
+    let (lookups, names, tuples) = (joined(tables, |t| &t.lookups), joined(tables, |t| &t.names), joined(tables, |t| &t.tuples));
+    let (multiplicities, flags) = (joined(tables, |t| &t.multiplicities), joined(tables, |t| &t.flags));
+    let elements = joined(tables, |t| &t.elements);
+    let lists: [&[u8]; 11] =
+        [&main, &preprocessed, &public_values, &nodes, &lookups, &tuples, &multiplicities, &flags, &elements, sizes, &*workspace];
+    let mut words = room(&lists);
+    let [a, b, c, d, e, f, g, h, i, j, k] = parts(&mut words, lists);
+    call!(delmatik_balance_bytes(
+        [main], [preprocessed], [public_values], [nodes], [lookups], [names], [tuples], [multiplicities], [flags], [elements], [sizes],
+        [mut workspace], [mut a], [mut b], [mut c], [mut d], [mut e], [mut f], [mut g], [mut h], [mut i], [mut j], [mut k],
+    ))
+}
