@@ -1,13 +1,16 @@
 // Replays a text of cases, given on standard input, against the doors, and prints what it ran and how many answers there were.
 // The doors are proved; that this program reads the text aright and compares every answer is not: it is proved safe, and that it ends.
-mod read;
-mod runs;
-mod spans;
-mod text;
-
-use runs::Answer;
+use lookup_runs::build;
+use lookup_runs::pack;
+use reading::answer::Answer;
+use reading::read;
+use reading::spans;
+use reading::text;
+use reading::text::run_end;
+use runs::elements;
+use runs::table;
+use runs::tables;
 use std::num::wrapping_add_u64;
-use text::run_end;
 use widths::order::same_bytes;
 
 // How far the arrays of words and bytes are filled, and the counts so far.
@@ -25,42 +28,26 @@ enum Ran {
     Unknown,
 }
 
-// A door by its name: an arm for each.
+// A door by its name: an arm for each, in the order of the names.
 fn door(name: &[u8], line: &[u64; 8], words: &[u32], bytes: &[u8], spans: &[usize; 64]) -> Ran {
-    if same_bytes(name, b"generate") {
-        return Ran::Door(runs::generate(line, words, bytes, spans));
+    let number = text::find(
+        b"generate constraints degree pack build widths bound balance terminals prefixes power",
+        name,
+    );
+    match number {
+        0 => Ran::Door(table::generate(line, words, bytes, spans)),
+        1 => Ran::Door(table::constraints(line, words, bytes, spans)),
+        2 => Ran::Door(table::degree(line, words, bytes, spans)),
+        3 => Ran::Door(pack::pack(line, words, bytes, spans)),
+        4 => Ran::Door(build::build(line, words, bytes, spans)),
+        5 => Ran::Door(tables::widths(line, words, bytes, spans)),
+        6 => Ran::Door(tables::bound(line, words, spans)),
+        7 => Ran::Door(tables::balance(line, words, bytes, spans)),
+        8 => Ran::Door(elements::terminals(line, words, spans)),
+        9 => Ran::Door(elements::prefixes(line, words, spans)),
+        10 => Ran::Door(elements::power(line, words, spans)),
+        _ => Ran::Unknown,
     }
-    if same_bytes(name, b"constraints") {
-        return Ran::Door(runs::constraints(line, words, bytes, spans));
-    }
-    if same_bytes(name, b"degree") {
-        return Ran::Door(runs::degree(line, words, bytes, spans));
-    }
-    if same_bytes(name, b"widths") {
-        return Ran::Door(runs::widths(line, words, bytes, spans));
-    }
-    if same_bytes(name, b"bound") {
-        return Ran::Door(runs::bound(line, words, spans));
-    }
-    if same_bytes(name, b"terminals") {
-        return Ran::Door(runs::terminals(line, words, spans));
-    }
-    if same_bytes(name, b"prefixes") {
-        return Ran::Door(runs::prefixes(line, words, spans));
-    }
-    if same_bytes(name, b"power") {
-        return Ran::Door(runs::power(line, words, spans));
-    }
-    if same_bytes(name, b"pack") {
-        return Ran::Door(runs::pack(line, words, bytes, spans));
-    }
-    if same_bytes(name, b"build") {
-        return Ran::Door(runs::build(line, words, bytes, spans));
-    }
-    if same_bytes(name, b"balance") {
-        return Ran::Door(runs::balance(line, words, bytes, spans));
-    }
-    Ran::Unknown
 }
 
 fn print_detail(n: u64) {
@@ -183,7 +170,29 @@ fn store_bytes(
     new
 }
 
-// A line: nothing where it is empty or a comment, else a case, a list or a door.
+// A line that says something: a case, a list or a door.
+fn entry(
+    name: &[u8],
+    rest: &[u8],
+    words: &mut [u32; 32768],
+    bytes: &mut [u8; 4096],
+    spans: &mut [usize; 64],
+    state: State,
+) -> State {
+    if same_bytes(name, b"case") {
+        return begin(rest, spans, state);
+    }
+    let key = spans::key(name);
+    if key < spans::NAMES {
+        return store_words(key, rest, words, spans, state);
+    }
+    if key <= spans::PACKED_NAMES {
+        return store_bytes(key, rest, bytes, spans, state);
+    }
+    answer(name, rest, words, bytes, spans, state)
+}
+
+// A line: nothing where it is empty or a comment.
 fn line(
     line: &[u8],
     words: &mut [u32; 32768],
@@ -199,19 +208,7 @@ fn line(
     }
     let end = run_end(line, 0, b' ');
     let at = text::after(line, 0, end);
-    let name = &line[0..end];
-    let rest = &line[at..];
-    if same_bytes(name, b"case") {
-        return begin(rest, spans, state);
-    }
-    let key = spans::key(name);
-    if key < spans::NAMES {
-        return store_words(key, rest, words, spans, state);
-    }
-    if key <= spans::PACKED_NAMES {
-        return store_bytes(key, rest, bytes, spans, state);
-    }
-    answer(name, rest, words, bytes, spans, state)
+    entry(&line[0..end], &line[at..], words, bytes, spans, state)
 }
 
 fn print_counts(state: State) {
