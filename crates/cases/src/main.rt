@@ -22,32 +22,60 @@ struct State {
     differ: u64,
 }
 
-// What a door's line came to.
-enum Ran {
-    Door(Answer),
-    Unknown,
-}
-
-// A door by its name: an arm for each, in the order of the names.
-fn door(name: &[u8], line: &[u64; 8], words: &[u32], bytes: &[u8], spans: &[usize; 64]) -> Ran {
-    let number = text::find(
+// The number of a door's name; 11 where it is no door's.
+fn door_number(name: &[u8]) -> usize {
+    text::find(
         b"generate constraints degree pack build widths bound balance terminals prefixes power",
         name,
-    );
+    )
+}
+
+// The doors of one table, by number.
+fn table_door(
+    number: usize,
+    line: &[u64; 8],
+    words: &[u32],
+    bytes: &[u8],
+    spans: &[usize; 64],
+) -> Answer {
     match number {
-        0 => Ran::Door(table::generate(line, words, bytes, spans)),
-        1 => Ran::Door(table::constraints(line, words, bytes, spans)),
-        2 => Ran::Door(table::degree(line, words, bytes, spans)),
-        3 => Ran::Door(pack::pack(line, words, bytes, spans)),
-        4 => Ran::Door(build::build(line, words, bytes, spans)),
-        5 => Ran::Door(tables::widths(line, words, bytes, spans)),
-        6 => Ran::Door(tables::bound(line, words, spans)),
-        7 => Ran::Door(tables::balance(line, words, bytes, spans)),
-        8 => Ran::Door(elements::terminals(line, words, spans)),
-        9 => Ran::Door(elements::prefixes(line, words, spans)),
-        10 => Ran::Door(elements::power(line, words, spans)),
-        _ => Ran::Unknown,
+        0 => table::generate(line, words, bytes, spans),
+        1 => table::constraints(line, words, bytes, spans),
+        2 => table::degree(line, words, bytes, spans),
+        3 => pack::pack(line, words, bytes, spans),
+        _ => build::build(line, words, bytes, spans),
     }
+}
+
+// The others.
+fn other_door(
+    number: usize,
+    line: &[u64; 8],
+    words: &[u32],
+    bytes: &[u8],
+    spans: &[usize; 64],
+) -> Answer {
+    match number {
+        5 => tables::widths(line, words, bytes, spans),
+        6 => tables::bound(line, words, spans),
+        7 => tables::balance(line, words, bytes, spans),
+        8 => elements::terminals(line, words, spans),
+        9 => elements::prefixes(line, words, spans),
+        _ => elements::power(line, words, spans),
+    }
+}
+
+fn door(
+    number: usize,
+    line: &[u64; 8],
+    words: &[u32],
+    bytes: &[u8],
+    spans: &[usize; 64],
+) -> Answer {
+    if number < 5 {
+        return table_door(number, line, words, bytes, spans);
+    }
+    other_door(number, line, words, bytes, spans)
 }
 
 fn print_detail(n: u64) {
@@ -98,19 +126,16 @@ fn answer(
     spans: &[usize; 64],
     state: State,
 ) -> State {
+    let number = door_number(name);
+    if 11 <= number {
+        io::write_all(1, b" unknown");
+        return one_more(state);
+    }
     let mut line = [0u64; 8];
     read::read_numbers(numbers, 0, &mut line);
-    let ran = door(name, &line, words, bytes, spans);
-    match ran {
-        Ran::Door(told) => {
-            print_told(name, told);
-            counted(state, told.same)
-        }
-        Ran::Unknown => {
-            io::write_all(1, b" unknown");
-            one_more(state)
-        }
-    }
+    let told = door(number, &line, words, bytes, spans);
+    print_told(name, told);
+    counted(state, told.same)
 }
 
 // A new case: the title on a line of its own, and all lists empty.
