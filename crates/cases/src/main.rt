@@ -1,13 +1,16 @@
 // Replays a text of cases, given on standard input, against the doors, and prints what it ran and how many answers there were.
 // The doors are proved; that this program reads the text aright and compares every answer is not: it is proved safe, and that it ends.
-mod read;
-mod runs;
-mod spans;
-mod text;
-
-use runs::Answer;
+use lookup_runs::build;
+use lookup_runs::pack;
+use reading::answer::Answer;
+use reading::read;
+use reading::spans;
+use reading::text;
+use reading::text::run_end;
+use runs::elements;
+use runs::table;
+use runs::tables;
 use std::num::wrapping_add_u64;
-use text::run_end;
 use widths::order::same_bytes;
 
 // How far the arrays of words and bytes are filled, and the counts so far.
@@ -19,48 +22,60 @@ struct State {
     differ: u64,
 }
 
-// What a door's line came to.
-enum Ran {
-    Door(Answer),
-    Unknown,
+// The number of a door's name; 11 where it is no door's.
+fn door_number(name: &[u8]) -> usize {
+    text::find(
+        b"generate constraints degree pack build widths bound balance terminals prefixes power",
+        name,
+    )
 }
 
-// A door by its name: an arm for each.
-fn door(name: &[u8], line: &[u64; 8], words: &[u32], bytes: &[u8], spans: &[usize; 64]) -> Ran {
-    if same_bytes(name, b"generate") {
-        return Ran::Door(runs::generate(line, words, bytes, spans));
+// The doors of one table, by number.
+fn table_door(
+    number: usize,
+    line: &[u64; 8],
+    words: &[u32],
+    bytes: &[u8],
+    spans: &[usize; 64],
+) -> Answer {
+    match number {
+        0 => table::generate(line, words, bytes, spans),
+        1 => table::constraints(line, words, bytes, spans),
+        2 => table::degree(line, words, bytes, spans),
+        3 => pack::pack(line, words, bytes, spans),
+        _ => build::build(line, words, bytes, spans),
     }
-    if same_bytes(name, b"constraints") {
-        return Ran::Door(runs::constraints(line, words, bytes, spans));
+}
+
+// The others.
+fn other_door(
+    number: usize,
+    line: &[u64; 8],
+    words: &[u32],
+    bytes: &[u8],
+    spans: &[usize; 64],
+) -> Answer {
+    match number {
+        5 => tables::widths(line, words, bytes, spans),
+        6 => tables::bound(line, words, spans),
+        7 => tables::balance(line, words, bytes, spans),
+        8 => elements::terminals(line, words, spans),
+        9 => elements::prefixes(line, words, spans),
+        _ => elements::power(line, words, spans),
     }
-    if same_bytes(name, b"degree") {
-        return Ran::Door(runs::degree(line, words, bytes, spans));
+}
+
+fn door(
+    number: usize,
+    line: &[u64; 8],
+    words: &[u32],
+    bytes: &[u8],
+    spans: &[usize; 64],
+) -> Answer {
+    if number < 5 {
+        return table_door(number, line, words, bytes, spans);
     }
-    if same_bytes(name, b"widths") {
-        return Ran::Door(runs::widths(line, words, bytes, spans));
-    }
-    if same_bytes(name, b"bound") {
-        return Ran::Door(runs::bound(line, words, spans));
-    }
-    if same_bytes(name, b"terminals") {
-        return Ran::Door(runs::terminals(line, words, spans));
-    }
-    if same_bytes(name, b"prefixes") {
-        return Ran::Door(runs::prefixes(line, words, spans));
-    }
-    if same_bytes(name, b"power") {
-        return Ran::Door(runs::power(line, words, spans));
-    }
-    if same_bytes(name, b"pack") {
-        return Ran::Door(runs::pack(line, words, bytes, spans));
-    }
-    if same_bytes(name, b"build") {
-        return Ran::Door(runs::build(line, words, bytes, spans));
-    }
-    if same_bytes(name, b"balance") {
-        return Ran::Door(runs::balance(line, words, bytes, spans));
-    }
-    Ran::Unknown
+    other_door(number, line, words, bytes, spans)
 }
 
 fn print_detail(n: u64) {
@@ -111,19 +126,16 @@ fn answer(
     spans: &[usize; 64],
     state: State,
 ) -> State {
+    let number = door_number(name);
+    if 11 <= number {
+        io::write_all(1, b" unknown");
+        return one_more(state);
+    }
     let mut line = [0u64; 8];
     read::read_numbers(numbers, 0, &mut line);
-    let ran = door(name, &line, words, bytes, spans);
-    match ran {
-        Ran::Door(told) => {
-            print_told(name, told);
-            counted(state, told.same)
-        }
-        Ran::Unknown => {
-            io::write_all(1, b" unknown");
-            one_more(state)
-        }
-    }
+    let told = door(number, &line, words, bytes, spans);
+    print_told(name, told);
+    counted(state, told.same)
 }
 
 // A new case: the title on a line of its own, and all lists empty.
@@ -183,7 +195,29 @@ fn store_bytes(
     new
 }
 
-// A line: nothing where it is empty or a comment, else a case, a list or a door.
+// A line that says something: a case, a list or a door.
+fn entry(
+    name: &[u8],
+    rest: &[u8],
+    words: &mut [u32; 32768],
+    bytes: &mut [u8; 4096],
+    spans: &mut [usize; 64],
+    state: State,
+) -> State {
+    if same_bytes(name, b"case") {
+        return begin(rest, spans, state);
+    }
+    let key = spans::key(name);
+    if key < spans::NAMES {
+        return store_words(key, rest, words, spans, state);
+    }
+    if key <= spans::PACKED_NAMES {
+        return store_bytes(key, rest, bytes, spans, state);
+    }
+    answer(name, rest, words, bytes, spans, state)
+}
+
+// A line: nothing where it is empty or a comment.
 fn line(
     line: &[u8],
     words: &mut [u32; 32768],
@@ -199,19 +233,7 @@ fn line(
     }
     let end = run_end(line, 0, b' ');
     let at = text::after(line, 0, end);
-    let name = &line[0..end];
-    let rest = &line[at..];
-    if same_bytes(name, b"case") {
-        return begin(rest, spans, state);
-    }
-    let key = spans::key(name);
-    if key < spans::NAMES {
-        return store_words(key, rest, words, spans, state);
-    }
-    if key <= spans::PACKED_NAMES {
-        return store_bytes(key, rest, bytes, spans, state);
-    }
-    answer(name, rest, words, bytes, spans, state)
+    entry(&line[0..end], &line[at..], words, bytes, spans, state)
 }
 
 fn print_counts(state: State) {

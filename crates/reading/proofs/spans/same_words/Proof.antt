@@ -1,8 +1,8 @@
 use Prim.Native.Nat.{_≤_, _-_}
 use lib.ListN.{length}
 use borrow.Author.Needs.{needs}
-use Rattle.cases.proofs.spans.same_words.Statement.{statement}
-use Rattle.cases.proofs.spans.same_words.Tie as tie
+use Rattle.reading.proofs.spans.same_words.Statement.{statement}
+use Rattle.reading.proofs.spans.same_words.Tie as tie
 
 abbrev Inv-loop : tie.InvT-loop
 Inv-loop x y i₀ i = i ≤ length x

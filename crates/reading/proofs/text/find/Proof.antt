@@ -1,8 +1,8 @@
 use Prim.Native.Nat.{_≤_, _-_}
 use lib.ListN.{length}
 use borrow.Author.Needs.{needs}
-use Rattle.cases.proofs.text.find.Statement.{statement}
-use Rattle.cases.proofs.text.find.Tie as tie
+use Rattle.reading.proofs.text.find.Statement.{statement}
+use Rattle.reading.proofs.text.find.Tie as tie
 
 abbrev Inv-loop : tie.InvT-loop
 Inv-loop keys key k₀ at₀ k at = (k ≤ at) × (at ≤ length keys)

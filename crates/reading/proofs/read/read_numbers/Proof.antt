@@ -1,8 +1,8 @@
 use Prim.Native.Nat.{_≤_, _-_}
 use lib.ListN.{length}
 use borrow.Author.Needs.{needs}
-use Rattle.cases.proofs.read.read_numbers.Statement.{statement}
-use Rattle.cases.proofs.read.read_numbers.Tie as tie
+use Rattle.reading.proofs.read.read_numbers.Statement.{statement}
+use Rattle.reading.proofs.read.read_numbers.Tie as tie
 
 abbrev Inv-loop : tie.InvT-loop
 Inv-loop line from out₀ end₀ at₀ out end at = at ≤ length line

@@ -1,14 +1,14 @@
 use Prim.Native.Nat.{_≤_, _-_}
 use lib.ListN.{length}
 use borrow.Author.Needs.{needs}
-use Rattle.cases.proofs.read.read_bytes.Statement.{statement}
-use Rattle.cases.proofs.read.read_bytes.Tie as tie
+use Rattle.reading.proofs.read.read_words.Statement.{statement}
+use Rattle.reading.proofs.read.read_words.Tie as tie
 
 abbrev Inv-loop : tie.InvT-loop
-Inv-loop line from bytes₀ start end₀ at₀ bytes end at = at ≤ length line
+Inv-loop line from words₀ start end₀ at₀ words end at = at ≤ length line
 
 abbrev μ-loop : tie.MeasureT-loop
-μ-loop line from bytes₀ start end₀ at₀ bytes end at = length line - at
+μ-loop line from words₀ start end₀ at₀ words end at = length line - at
 
 loop-holds : tie.Need-loop-holds Inv-loop μ-loop
 loop-holds c = search needs
@@ -28,8 +28,8 @@ part-number-end c = search needs
 number-requires : tie.Need-number-requires Inv-loop μ-loop
 number-requires c κs = search needs
 
-put-byte-requires : tie.Need-put-byte-requires Inv-loop μ-loop
-put-byte-requires c κs = search needs
+put-word-requires : tie.Need-put-word-requires Inv-loop μ-loop
+put-word-requires c κs = search needs
 
 after-requires : tie.Need-after-requires Inv-loop μ-loop
 after-requires c κs = search needs
@@ -43,8 +43,8 @@ loop-again c = search needs
 returns : tie.Need-returns Inv-loop μ-loop
 returns c = search needs
 
-pub read-bytes-spec : {M : Type 1} → statement M
-read-bytes-spec =
+pub read-words-spec : {M : Type 1} → statement M
+read-words-spec =
     tie.close
     (tie.spec
     Inv-loop
@@ -55,7 +55,7 @@ read-bytes-spec =
     part-number-start
     part-number-end
     number-requires
-    put-byte-requires
+    put-word-requires
     after-requires
     loop-less
     loop-again

@@ -1,20 +1,23 @@
 use Prim.Native.Nat.{_≤_, _-_}
 use lib.ListN.{length}
 use borrow.Author.Needs.{needs}
-use Rattle.cases.proofs.text.run_end.Statement.{statement}
-use Rattle.cases.proofs.text.run_end.Tie as tie
+use Rattle.reading.proofs.text.digits_end.Statement.{statement}
+use Rattle.reading.proofs.text.digits_end.Tie as tie
 
 abbrev Inv-loop : tie.InvT-loop
-Inv-loop text from stop at₀ at = (from ≤ at) × (at ≤ length text)
+Inv-loop line from at₀ at = (from ≤ at) × (at ≤ length line)
 
 abbrev μ-loop : tie.MeasureT-loop
-μ-loop text from stop at₀ at = length text - at
+μ-loop line from at₀ at = length line - at
 
 loop-holds : tie.Need-loop-holds Inv-loop μ-loop
 loop-holds c = search needs
 
-shared-slice-read-if1 : tie.Need-shared-slice-read-if1 Inv-loop μ-loop
-shared-slice-read-if1 c = search needs
+shared-slice-read-is-digit : tie.Need-shared-slice-read-is-digit Inv-loop μ-loop
+shared-slice-read-is-digit c = search needs
+
+is-digit-requires : tie.Need-is-digit-requires Inv-loop μ-loop
+is-digit-requires c κs = search needs
 
 returns : tie.Need-returns Inv-loop μ-loop
 returns c = search needs
@@ -31,14 +34,15 @@ loop-again c = search needs
 returns-2 : tie.Need-returns-2 Inv-loop μ-loop
 returns-2 c = search needs
 
-pub run-end-spec : {M : Type 1} → statement M
-run-end-spec =
+pub digits-end-spec : {M : Type 1} → statement M
+digits-end-spec =
     tie.close
     (tie.spec
     Inv-loop
     μ-loop
     loop-holds
-    shared-slice-read-if1
+    shared-slice-read-is-digit
+    is-digit-requires
     returns
     add-at
     loop-less
