@@ -1,5 +1,28 @@
 //! The same doors for a caller that holds bytes: each list of words is a byte slice, four bytes a word, the least byte first. A door decodes them
 //! into rooms of words; this module lends it one room, split among the lists.
+//!
+//! ```
+//! use delmatik::{Lookup, Refusal, Table, bytes};
+//!
+//! // The table of the crate's first example: one row, 3, looked up once.
+//! let lookup = Lookup { bus: Some(b"mem".to_vec()), weight: 1, tuples: vec![vec![0]], multiplicities: vec![1], ..Lookup::default() };
+//! let words = Table { main_width: 1, height: 1, main: vec![3], nodes: vec![1, 0, 0, 0, 1, 0], ..Table::default() }.with(&[lookup]);
+//! let mut table = bytes::Table::from(&words);
+//! let challenges = bytes::of(&[5, 0, 0, 0, 0, 0, 0, 0]);
+//!
+//! let mut trace = [7; 36];
+//! let terminal = table.generate_into(&challenges, &mut trace).unwrap().unwrap();
+//! assert_eq!(terminal.0, [1006632961, 0, 0, 0]);
+//! assert_eq!(trace[16..20], 1006632961_u32.to_le_bytes());
+//! // Bytes past the trace are as they were.
+//! assert_eq!(trace[32..], [7; 4]);
+//!
+//! // Five bytes are no words: refusal 1, and nothing is written.
+//! table.main.push(0);
+//! let mut trace = [7; 36];
+//! assert_eq!(table.generate_into(&challenges, &mut trace), Err(Refusal { number: 1, details: [0; 3] }));
+//! assert_eq!(trace, [7; 36]);
+//! ```
 use crate::{LookupTerminal, Refusal, call, joined, sys};
 
 /// A table's lists as bytes; the names are bytes in any case.
