@@ -109,6 +109,11 @@ impl Lender {
         self.place(list, Kind::Output)
     }
 
+    /// A list that the door may write to in any case.
+    pub fn room<T: Word>(&mut self, list: &[T]) -> (*mut T, usize) {
+        self.place(list, Kind::Answer)
+    }
+
     /// Numbers that the door writes in any case.
     pub fn answer<T: Word>(&mut self, list: &[T]) -> *mut T {
         self.place(list, Kind::Answer).0

@@ -53,7 +53,24 @@ fn list(random: &mut Random, words: &[u32]) -> Vec<u32> {
     words
 }
 
-/// Expands to a call: `[list]` is lent to be read, `[mut list]` to be written, `(out list)` is a pointer to numbers of the answer; the three details come
+/// The words in bytes, the least first; now and then a byte more or less.
+fn bytes(random: &mut Random, words: &[u32]) -> Vec<u8> {
+    let mut bytes: Vec<u8> = words.iter().flat_map(|w| w.to_le_bytes()).collect();
+    match random.below(60) {
+        0 => bytes.push(1),
+        1 => drop(bytes.pop()),
+        _ => (),
+    }
+    bytes
+}
+
+/// A room for the words of these bytes; now and then of another length.
+fn room(random: &mut Random, bytes: &[u8]) -> Vec<u32> {
+    let n = bytes.len() / 4;
+    vec![5; if random.below(60) == 0 { n + 2 - random.below(3) as usize } else { n }]
+}
+
+/// Expands to a call: `[list]` is lent to be read, `[mut list]` to be written, `[room list]` to be written in any case, `(out list)` is a pointer to numbers of the answer; the three details come
 /// last.
 macro_rules! call {
     ($fuzz:ident, $door:ident($($arguments:tt)*)) => {{
@@ -65,6 +82,10 @@ macro_rules! call {
     }};
     (@ $fuzz:ident $door:ident $details:ident ($($done:tt)*) [mut $list:expr], $($rest:tt)*) => {{
         let lent = $fuzz.lender.write($list);
+        call!(@ $fuzz $door $details ($($done)* lent.0, lent.1,) $($rest)*)
+    }};
+    (@ $fuzz:ident $door:ident $details:ident ($($done:tt)*) [room $list:expr], $($rest:tt)*) => {{
+        let lent = $fuzz.lender.room($list);
         call!(@ $fuzz $door $details ($($done)* lent.0, lent.1,) $($rest)*)
     }};
     (@ $fuzz:ident $door:ident $details:ident ($($done:tt)*) [$list:expr], $($rest:tt)*) => {{
@@ -106,6 +127,27 @@ impl Fuzz {
         call!(self, delmatik_generate(
             width, height, pre_width, pre_height, [&t.main], [&t.preprocessed], [&t.public_values], [&t.nodes], [&t.lookups], [&t.names],
             [&t.tuples], [&t.multiplicities], [&t.flags], [&t.elements], [&challenges], [mut &trace], (out &[7u32; 5]),
+        ))?;
+        let r = &mut self.random;
+        let words = [
+            &t.main,
+            &t.preprocessed,
+            &t.public_values,
+            &t.nodes,
+            &t.lookups,
+            &t.tuples,
+            &t.multiplicities,
+            &t.flags,
+            &t.elements,
+            &challenges,
+            &trace,
+        ];
+        let b = words.map(|list| bytes(r, list));
+        let rooms = b.each_ref().map(|list| room(r, list));
+        call!(self, delmatik_generate_bytes(
+            width, height, pre_width, pre_height, [&b[0]], [&b[1]], [&b[2]], [&b[3]], [&b[4]], [&t.names], [&b[5]], [&b[6]], [&b[7]],
+            [&b[8]], [&b[9]], [mut &b[10]], [room &rooms[0]], [room &rooms[1]], [room &rooms[2]], [room &rooms[3]], [room &rooms[4]],
+            [room &rooms[5]], [room &rooms[6]], [room &rooms[7]], [room &rooms[8]], [room &rooms[9]], [room &rooms[10]], (out &[7u32; 5]),
         ))?;
         let r = &mut self.random;
         let columns = size(r, (t.lookup_count() as u64 + 1).wrapping_add(case.extra_columns));
@@ -164,6 +206,28 @@ impl Fuzz {
             case.limit, width, pre_width, publics, [&t.nodes], [&t.lookups], [&t.names], [&t.tuples], [&t.multiplicities], [&t.flags],
             [&t.elements], [mut &lookups], [mut &t.names], [mut &tuples], [mut &multiplicities], [mut &flags], [mut &elements],
             (out &[7u64; 6]),
+        ))?;
+        let r = &mut self.random;
+        let words = [
+            &t.nodes,
+            &t.lookups,
+            &t.tuples,
+            &t.multiplicities,
+            &t.flags,
+            &t.elements,
+            &lookups,
+            &tuples,
+            &multiplicities,
+            &flags,
+            &elements,
+        ];
+        let b = words.map(|list| bytes(r, list));
+        let rooms = b.each_ref().map(|list| room(r, list));
+        call!(self, delmatik_pack_bytes(
+            case.limit, width, pre_width, publics, [&b[0]], [&b[1]], [&t.names], [&b[2]], [&b[3]], [&b[4]], [&b[5]], [mut &b[6]],
+            [mut &t.names], [mut &b[7]], [mut &b[8]], [mut &b[9]], [mut &b[10]], [room &rooms[0]], [room &rooms[1]], [room &rooms[2]],
+            [room &rooms[3]], [room &rooms[4]], [room &rooms[5]], [room &rooms[6]], [room &rooms[7]], [room &rooms[8]], [room &rooms[9]],
+            [room &rooms[10]], (out &[7u64; 6]),
         ))
     }
 
@@ -214,10 +278,21 @@ impl Fuzz {
         let r = &mut self.random;
         let sizes = list(r, &sizes);
         let workspace = list(r, &vec![9; case.workspace.min(1 << 14)]);
+        let (main, preprocessed, publics) = (joined(|t| &t.main), joined(|t| &t.preprocessed), joined(|t| &t.public_values));
+        let (nodes, multiplicities) = (joined(|t| &t.nodes), joined(|t| &t.multiplicities));
+        let (flags, elements) = (joined(|t| &t.flags), joined(|t| &t.elements));
         call!(self, delmatik_balance(
-            [&joined(|t| &t.main)], [&joined(|t| &t.preprocessed)], [&joined(|t| &t.public_values)], [&joined(|t| &t.nodes)], [&lookups],
-            [&names], [&tuples], [&joined(|t| &t.multiplicities)], [&joined(|t| &t.flags)], [&joined(|t| &t.elements)], [&sizes],
-            [mut &workspace],
+            [&main], [&preprocessed], [&publics], [&nodes], [&lookups], [&names], [&tuples], [&multiplicities], [&flags], [&elements],
+            [&sizes], [mut &workspace],
+        ))?;
+        let r = &mut self.random;
+        let words = [&main, &preprocessed, &publics, &nodes, &lookups, &tuples, &multiplicities, &flags, &elements, &sizes, &workspace];
+        let b = words.map(|list| bytes(r, list));
+        let rooms = b.each_ref().map(|list| room(r, list));
+        call!(self, delmatik_balance_bytes(
+            [&b[0]], [&b[1]], [&b[2]], [&b[3]], [&b[4]], [&names], [&b[5]], [&b[6]], [&b[7]], [&b[8]], [&b[9]], [mut &b[10]],
+            [room &rooms[0]], [room &rooms[1]], [room &rooms[2]], [room &rooms[3]], [room &rooms[4]], [room &rooms[5]], [room &rooms[6]],
+            [room &rooms[7]], [room &rooms[8]], [room &rooms[9]], [room &rooms[10]],
         ))
     }
 
