@@ -12,7 +12,7 @@ const READ_WRITE: c_int = 3;
 const PRIVATE_ANONYMOUS: c_int = 0x22;
 const PAGE: usize = 4096;
 /// The most that one list takes.
-const ROOM: usize = 64 * PAGE;
+const ROOM: usize = 1024 * PAGE;
 const KNOWN: u8 = 0xA5;
 /// How many known bytes stand beside a list.
 const BESIDE: usize = 64;

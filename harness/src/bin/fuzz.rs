@@ -348,6 +348,10 @@ fn main() -> ExitCode {
         if i % 2 == 0 {
             generator::damage(&mut source, &mut case);
         }
+        // The tallest tables are left to the oracle: their lists are larger than a place.
+        if case.tables.iter().any(|t| 100_000 < t.main.len().max(t.preprocessed.len())) {
+            continue;
+        }
         let result =
             fuzz.table(&case).and_then(|()| fuzz.building(&case)).and_then(|()| fuzz.tables(&case)).and_then(|()| fuzz.words(&case));
         if let Err(text) = result {
