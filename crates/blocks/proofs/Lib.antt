@@ -1,3 +1,4 @@
 pub mod Summing
 pub mod Filling
 pub mod Blocking
+pub mod Rowing

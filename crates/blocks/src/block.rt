@@ -16,11 +16,13 @@ ghost use Rattle.prepared.specs.Ready.{lent-values, Ready};
 ghost use Rattle.rows.specs.Shares.{row-multiplicities, row-denominators};
 use crate::writing::write_rows;
 use batch::division::divide_all;
+use evaluation::traits::row_values;
 use expression::refusal;
 use expression::refusal::Verdict;
 use expression::sizes::Shape;
 use field::extension::Ext;
-use rows::row;
+use rows::row::write_shares;
+use rows::zeros::zero;
 
 // The accumulator after a run of rows, and the first fault so far.
 pub struct Progress {
@@ -59,19 +61,18 @@ fn fill(
         × (now (ds .exit) ≡ joined (row-denominators p w (lent-lookups (now (lookups .entry)) [] (now (tuples .entry)) (now (multiplicities .entry)) (now (flags .entry)) (now (elements .entry))) (now (challenges .entry)) (lent-values p shape (now (main .entry)) (now (preprocessed .entry)) (now («public_values» .entry)) (now (nodes .entry)))) from k) ⌝ }
 {
     let size = tuples.len();
+    let count = nodes.len() / 3;
+    let mut vals = [0u32; 1024];
     let mut verdict = before;
     let mut at = 0;
     let mut j = 0;
     while j < k {
         let end = at + size;
-        let fault = row::row(
+        let r = from + j;
+        row_values(p, shape, main, preprocessed, public_values, nodes, r, &mut vals);
+        let fault = write_shares(
             p,
             w,
-            shape,
-            main,
-            preprocessed,
-            public_values,
-            nodes,
             lookups,
             tuples,
             multiplicities,
@@ -79,11 +80,19 @@ fn fill(
             elements,
             challenges,
             table,
-            from + j,
+            &vals[0..count],
+            r,
             &mut ms[at..end],
             &mut ds[4 * at..4 * end],
         );
-        verdict = refusal::first(verdict, fault);
+        // Zero at the start of every row: only the values that the nodes filled need it.
+        zero(&mut vals[0..count]);
+        match fault {
+            Verdict::Accepted => {}
+            Verdict::Refused(_) => {
+                verdict = refusal::first(verdict, fault);
+            }
+        }
         at = end;
         j += 1;
     }

@@ -34,9 +34,9 @@ use logup::logup::Generated;
 use lookup::tests;
 use lookup::types::LookupTerminal;
 use parts::trace::parts;
-use parts::trace::zero;
 use prepared::door;
 use prepared::powers;
+use rows::zeros::zero;
 
 // How many words the used part of the trace has.
 fn used_words(shape: Shape, lookups: &[u32]) -> usize

@@ -1,4 +1,4 @@
--- The turns of the loops over blocks, over parts, and of the zeros.
+-- The turns of the loops over blocks and over parts.
 use mathlib.Core.Path.{_≡_, refl, sym, ap, ap₂, _∙_, subst}
 use mathlib.Core.List.{List, _++_}
 use Prim.Native.Nat.{ℕ, zero, suc, _+_, _*_, _-_, _/_, _%_, _<_, _≤_, zero-le}
@@ -169,16 +169,3 @@ block-some {t} n h =
     go : (q r : ℕ) → t * q + r ≡ 256 → r < t → 0 < q
     go zero r e l = absurd (omega (arith, mul-zero t))
     go (suc q) r e l = omega arith
-
--- zeros
-pub record Zeroed (d b : List ℕ) (j : ℕ) : Type 0 where
-  pub out≡ : Filled d (replicate j 0) j b
-
-pub zero-begins : {d : List ℕ} → Zeroed d d 0
-zero-begins = record { out≡ = filled-none }
-
-pub zero-turn : {d b : List ℕ} {j : ℕ} → Zeroed d b j → j < length d → Zeroed d (set b j 0) (j + 1)
-zero-turn {j = j} f h = record { out≡ = filled-one 0 0 (f .out≡) h (sym (replicate-append-replicate j 1 0)) }
-
-pub zero-ends : {d b : List ℕ} {j : ℕ} → Zeroed d b j → length d ≤ j → b ≡ replicate (length d) 0
-zero-ends {d} {b} {j} f h = let e : j ≡ length d = omega (arith, f .out≡ .room) in filled-whole (f .out≡) h ∙ ap (λ (n : ℕ). replicate n 0) e

@@ -2,7 +2,7 @@
 ghost use mathlib.Core.Path.{_≡_};
 ghost use mathlib.Core.List.{[], _++_};
 ghost use Prim.Native.Nat.{_<_, _≤_, _+_, _*_, _-_};
-ghost use lib.ListN.{length, drop, replicate};
+ghost use lib.ListN.{length, drop};
 ghost use Rattle.lists.specs.Count.{first, joined};
 ghost use Rattle.field.specs.Element.{Word4};
 ghost use Rattle.field.specs.Ext.{ws};
@@ -167,15 +167,4 @@ pub fn parts(
         r = e;
     }
     progress
-}
-
-// All words become 0.
-pub fn zero(out: &mut [u32])
-    ensures { λ _. ⌜ now (out .exit) ≡ replicate (length (now (out .entry))) 0 ⌝ }
-{
-    let mut j = 0;
-    while j < out.len() {
-        out[j] = 0;
-        j += 1;
-    }
 }

@@ -1,3 +1,3 @@
 pub mod Sharing
 pub mod Lining
-pub mod Rowing
+pub mod Zeroing

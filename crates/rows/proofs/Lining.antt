@@ -1,6 +1,7 @@
 -- The turns of the loop over the lookups of a row.
 use mathlib.Core.Path.{_≡_, refl, sym, ap, ap₂, _∙_}
 use mathlib.Core.List.{List, [], _++_}
+use mathlib.Core.Option.{Option, none, some}
 use Prim.Native.Nat.{ℕ, _+_, _*_, _-_, _<_, _≤_, zero-le}
 use native.Mathlib.Nat.{zero-add}
 use native.Mathlib.Numerals.{add-one}
@@ -12,6 +13,7 @@ use Rattle.lists.specs.laws.Count.{joined-one, total-one}
 use Rattle.lists.specs.laws.Filled.{Filled, filled-none, filled-part, filled-whole}
 use Rattle.lists.specs.laws.Parts.{part-length}
 use Rattle.expression.specs.Refusal.{refusal}
+use Rattle.expression.specs.declared.refusal.Refusal.{Refusal}
 use Rattle.expression.specs.declared.refusal.Verdict.{Verdict}
 use Rattle.expression.specs.declared.refusal.Verdict.the-variants.{Accepted}
 use Rattle.lookup.specs.Lookups.{Lookups, lent-lookups, lookup-count, tuple-count, tuple-start}
@@ -60,12 +62,12 @@ module _ {p w : ℕ} {lookups tuples mults flags elements cs vals : List ℕ} {r
   pub ds-part : length (take (4 * end .tuple - 4 * at .tuple) (drop (4 * at .tuple) ds)) ≡ 4 * tuple-count lookups i
   ds-part = part-length ds (4 * at .tuple) (4 * end .tuple) (omega (arith, next)) (omega (arith, st .1 .tuple-in, s .ds-len)) ∙ omega (arith, next)
 
-  pub lining-turn : {verdict′ : Verdict} {f : ℕ} (ys zs : List ℕ) (x : Verdict) → i < n
+  pub lining-turn : {verdict′ : Verdict} {f : ℕ} (ys zs : List ℕ) → i < n
       → (f ≡ fault p w (place p w l cs (λ _. vals) 0 i)) × (ys ≡ lookup-multiplicities p w l cs (λ _. vals) 0 i) × (zs ≡ lookup-denominators p w l cs (λ _. vals) 0 i)
-      → refusal x ≡ fault-refusal f r i → refusal verdict′ ≡ or-else (refusal verdict) (refusal x)
+      → refusal verdict′ ≡ or-else (refusal verdict) (fault-refusal f r i)
       → Lining p w lookups tuples mults flags elements cs vals r dm dd n (putMid (at .tuple) (end .tuple - at .tuple) ms ys) (putMid (4 * at .tuple) (4 * end .tuple - 4 * at .tuple) ds zs) verdict′ end (i + 1)
   unfolding first fault-at place lookup-multiplicities lookup-denominators
-  lining-turn {verdict′} {f} ys zs x h (ef, ey, ez) ex eo =
+  lining-turn {verdict′} {f} ys zs h (ef, ey, ez) eo =
       record {
         lists = s .lists;
         cap = s .cap;
@@ -79,7 +81,7 @@ module _ {p w : ℕ} {lookups tuples mults flags elements cs vals : List ℕ} {r
         ds-len = grown .len ∙ s .ds-size;
         ms≡ = more;
         ds≡ = grown;
-        verdict≡ = rw (add-one i) (eo ∙ ap₂ or-else (s .verdict≡) (ex ∙ ap (λ (n : ℕ). fault-refusal n r i) ef));
+        verdict≡ = rw (add-one i) (eo ∙ ap₂ or-else (s .verdict≡) (ap (λ (n : ℕ). fault-refusal n r i) ef));
       }
     where
       fm : ℕ → List ℕ
@@ -97,6 +99,15 @@ module _ {p w : ℕ} {lookups tuples mults flags elements cs vals : List ℕ} {r
       grown =
           filled-part zs (s .ds≡) (omega (arith, next)) (omega (arith, st .1 .tuple-in, s .ds-size)) (ap length ez ∙ denominators-length p w l cs (λ _. vals) 0 i ∙ omega (arith, next))
           (joined-one fd 0 i ∙ ap (λ (y : List ℕ). joined fd 0 i ++ y) (ap fd (zero-add i) ∙ sym ez))
+
+-- a verdict after a lookup without a fault
+pub no-fault : (v : Option Refusal) (f r i : ℕ) → f ≡ 0 → v ≡ or-else v (fault-refusal f r i)
+unfolding fault-refusal
+no-fault v f r i e = rw e (nothing-more v)
+  where
+    nothing-more : (a : Option Refusal) → a ≡ or-else a none
+    nothing-more none = refl
+    nothing-more (some a) = refl
 
 pub lining-ends : {p w : ℕ} {lookups tuples mults flags elements cs vals : List ℕ} {r n : ℕ} {dm dd ms ds : List ℕ} {verdict : Verdict} {at : Starts} {i : ℕ}
     → Lining p w lookups tuples mults flags elements cs vals r dm dd n ms ds verdict at i → n ≤ i

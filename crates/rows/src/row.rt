@@ -3,21 +3,18 @@ ghost use mathlib.Core.Path.{_≡_};
 ghost use mathlib.Core.List.{[]};
 ghost use Prim.Native.Nat.{_<_, _+_, _*_};
 ghost use lib.ListN.{length};
-ghost use Rattle.expression.specs.Valid.{Below, Evaluable};
-ghost use Rattle.expression.specs.Window.{lent-traces};
+ghost use Rattle.expression.specs.Valid.{Below};
 ghost use Rattle.expression.specs.Refusal.{refusal};
 ghost use Rattle.lookup.specs.Lookups.{lent-lookups, lookup-count, tuple-count};
 ghost use Rattle.logup.specs.Column.{fault};
 ghost use Rattle.logup.specs.Rows.{fault-refusal, place, row-fault};
-ghost use Rattle.prepared.specs.Ready.{lent-values, Ready, Stands, Spans};
+ghost use Rattle.prepared.specs.Ready.{Ready, Stands, Spans};
 ghost use Rattle.rows.specs.Shares.{lookup-multiplicities, lookup-denominators, row-multiplicities, row-denominators};
 use column::fractions;
 use column::tuple;
-use evaluation::traits;
 use expression::refusal;
 use expression::refusal::Refusal;
 use expression::refusal::Verdict;
-use expression::sizes::Shape;
 use field::extension;
 use prepared::starts::Starts;
 use prepared::starts::next_starts;
@@ -87,8 +84,8 @@ fn one(
     )
 }
 
-// The shares of row r into `ms` and `ds`, and its first fault.
-fn write_shares(
+// The shares of row r, whose node values are `vals`, into `ms` and `ds`, and its first fault.
+pub fn write_shares(
     p: u32,
     w: u32,
     lookups: &[u32],
@@ -139,65 +136,12 @@ fn write_shares(
             &mut ms[from..to],
             &mut ds[4 * from..4 * to],
         );
-        verdict = refusal::first(verdict, verdict_of(fault, r, i));
+        // Most rows have no fault, and then the verdict is left where it is.
+        if fault != 0 {
+            verdict = refusal::first(verdict, verdict_of(fault, r, i));
+        }
         at = end;
         i += 1;
     }
     verdict
-}
-
-// Row r: its node values, then its shares into `ms` and `ds`, and its first fault.
-pub fn row(
-    p: u32,
-    w: u32,
-    shape: Shape,
-    main: &[u32],
-    preprocessed: &[u32],
-    public_values: &[u32],
-    nodes: &[u32],
-    lookups: &[u32],
-    tuples: &[u32],
-    multiplicities: &[u32],
-    flags: &[u32],
-    elements: &[u32],
-    challenges: &[u32],
-    table: &[u32],
-    r: usize,
-    ms: &mut [u32],
-    ds: &mut [u32],
-) -> Verdict
-    requires { ⌜ Ready p w (now lookups) (now tuples) (now multiplicities) (now flags) (now elements) (now challenges) (now table)
-        × Evaluable p (lent-traces shape (now main) (now preprocessed) (now «public_values»)) (now nodes) × (r < shape .height)
-        × (length (now ms) ≡ length (now tuples)) × (length (now ds) ≡ 4 * length (now tuples)) ⌝ }
-    ensures { λ v. ⌜ (refusal v ≡ row-fault p w (lent-lookups (now (lookups .entry)) [] (now (tuples .entry)) (now (multiplicities .entry)) (now (flags .entry)) (now (elements .entry))) (now (challenges .entry)) (lent-values p shape (now (main .entry)) (now (preprocessed .entry)) (now («public_values» .entry)) (now (nodes .entry))) r)
-        × (now (ms .exit) ≡ row-multiplicities p w (lent-lookups (now (lookups .entry)) [] (now (tuples .entry)) (now (multiplicities .entry)) (now (flags .entry)) (now (elements .entry))) (now (challenges .entry)) (lent-values p shape (now (main .entry)) (now (preprocessed .entry)) (now («public_values» .entry)) (now (nodes .entry))) r)
-        × (now (ds .exit) ≡ row-denominators p w (lent-lookups (now (lookups .entry)) [] (now (tuples .entry)) (now (multiplicities .entry)) (now (flags .entry)) (now (elements .entry))) (now (challenges .entry)) (lent-values p shape (now (main .entry)) (now (preprocessed .entry)) (now («public_values» .entry)) (now (nodes .entry))) r) ⌝ }
-{
-    let mut vals = [0u32; 1024];
-    traits::row_values(
-        p,
-        shape,
-        main,
-        preprocessed,
-        public_values,
-        nodes,
-        r,
-        &mut vals,
-    );
-    let count = nodes.len() / 3;
-    write_shares(
-        p,
-        w,
-        lookups,
-        tuples,
-        multiplicities,
-        flags,
-        elements,
-        challenges,
-        table,
-        &vals[0..count],
-        r,
-        ms,
-        ds,
-    )
 }

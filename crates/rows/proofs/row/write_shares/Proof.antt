@@ -1,7 +1,11 @@
-use Rattle.rows.proofs.Lining.{Lining, lining-begins, ms-part, ds-part, lining-turn, lining-ends}
+use Rattle.rows.proofs.Lining.{Lining, lining-begins, ms-part, ds-part, lining-turn, lining-ends, no-fault}
 use native.Mathlib.Omega.{arith}
 use Prim.Native.Nat.{_-_}
-use mathlib.Core.Path.{refl}
+use mathlib.Core.Path.{_≡_, refl, ap, _∙_}
+use mathlib.Core.Logic.{⊎-elim}
+use Rattle.lists.specs.Count.{or-else}
+use Rattle.expression.specs.Refusal.{refusal}
+use Rattle.logup.specs.Rows.{fault-refusal}
 use borrow.Author.Needs.{needs}
 use Rattle.rows.proofs.row.write_shares.Statement.{statement}
 use Rattle.rows.proofs.row.write_shares.Tie as tie
@@ -58,13 +62,16 @@ first-requires : tie.Need-first-requires Inv-loop μ-loop
 first-requires c κs = search needs
 
 add-i : tie.Need-add-i Inv-loop μ-loop
-add-i c = omega (arith, c .before .before .before .before .before .before .before .before .before .before .before .loop .inv .few, c .before .before .before .before .before .before .before .before .before .before .loop-test .taken)
+add-i c = omega (arith, c .before .before .before .before .before .before .before .before .before .before .loop .inv .few, c .before .before .before .before .before .before .before .before .before .loop-test .taken)
 
 loop-less : tie.Need-loop-less Inv-loop μ-loop
 loop-less c = search needs
 
 loop-again : tie.Need-loop-again Inv-loop μ-loop
-loop-again c = lining-turn (c .before .before .before .before .before .before .before .before .before .before .before .loop .inv) (c .before .before .before .before .before .before .before .before .before .next-starts .ensures) _ _ (c .before .verdict-of .result) (c .before .before .before .before .before .before .before .before .before .before .loop-test .taken) (c .before .before .before .before .before .before .one .ensures) (c .before .verdict-of .ensures) (c .first .ensures)
+loop-again c =
+    let e : refusal (c .if1 .verdict) ≡ or-else (refusal (c .before .before .before .before .before .before .before .before .before .before .loop .verdict)) (fault-refusal (c .before .before .before .before .before .one .result) (c .before .before .before .before .before .before .before .before .before .before .before .before .before .before .before .before .before .before .before .before .before .args .r) (c .before .before .before .before .before .before .before .before .before .before .loop .i)) =
+        ⊎-elim (λ w. ap refusal (w .3) ∙ w .2 .ensures ∙ ap (or-else (refusal (c .before .before .before .before .before .before .before .before .before .before .loop .verdict))) (w .1 .ensures)) (λ w. ap refusal (w .1) ∙ no-fault _ _ _ _ (w .0 .left)) (c .if1 .came) in
+    lining-turn (c .before .before .before .before .before .before .before .before .before .before .loop .inv) (c .before .before .before .before .before .before .before .before .next-starts .ensures) {verdict′ = c .if1 .verdict} _ _ (c .before .before .before .before .before .before .before .before .before .loop-test .taken) (c .before .before .before .before .before .one .ensures) e
 
 same-length : tie.Need-same-length Inv-loop μ-loop
 same-length c = search needs

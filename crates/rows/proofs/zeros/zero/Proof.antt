@@ -1,10 +1,10 @@
 use native.Mathlib.Omega.{arith}
 use Prim.Native.Nat.{_-_}
 use lib.ListN.{length}
-use Rattle.parts.proofs.Parting.{Zeroed, zero-begins, zero-turn, zero-ends}
+use Rattle.rows.proofs.Zeroing.{Zeroed, zero-begins, zero-turn, zero-ends}
 use borrow.Author.Needs.{needs}
-use Rattle.parts.proofs.trace.zero.Statement.{statement}
-use Rattle.parts.proofs.trace.zero.Tie as tie
+use Rattle.rows.proofs.zeros.zero.Statement.{statement}
+use Rattle.rows.proofs.zeros.zero.Tie as tie
 
 abbrev Inv-loop : tie.InvT-loop
 Inv-loop out₀ j₀ out j = Zeroed out₀ out j
