@@ -1,9 +1,9 @@
 -- The turns of the loop that multiplies the denominators and of the loop that divides.
 use mathlib.Core.Path.{_≡_, refl, sym, ap, ap₂, _∙_, subst}
 use mathlib.Core.Bool.{true, false}
-use mathlib.Core.List.{List, _++_}
-use Prim.Native.Nat.{ℕ, zero, suc, _+_, _*_, _-_, _<_, _≤_, zero-le}
-use native.Mathlib.Nat.{zero-add}
+use mathlib.Core.List.{List, [], _∷_, _++_}
+use Prim.Native.Nat.{ℕ, zero, suc, _+_, _*_, _-_, _%_, _<_, _≤_, zero-le}
+use native.Mathlib.Nat.{zero-add, one-mul, mod-eq-of-lt}
 use native.Mathlib.Numerals.{add-one}
 use native.Mathlib.Omega.{arith}
 use lib.ListN.{length, take, drop, length-append}
@@ -17,7 +17,7 @@ use Rattle.field.specs.declared.extension.Ext.{Ext}
 use Rattle.field.specs.Ext.{ws}
 use Rattle.field.specs.Modulus.{Modulus, Certificate}
 use Rattle.field.specs.Element.{at, Word4, zero4, one4, mul4, scale4, product4, element}
-use Rattle.field.specs.laws.Element.{word-lift, word-mul4, mul4-one}
+use Rattle.field.specs.laws.Element.{word-lift, word-mul4, mul4-comm, mul4-one}
 use Rattle.field.specs.laws.Extension.{h}
 use Rattle.field.specs.laws.Slice.{word-element}
 use Rattle.batch.specs.Quotients.{quotient, quotient-at, left-out, factor, from-last, Divisible}
@@ -39,11 +39,19 @@ step-out p w m d q v C k i e = (
   quotient-out p w C m (d .c0) (d .c1) (d .c2) (d .c3) (sym e),
 )
 
+-- a multiplicity of 1
+pub count-one : (p m : ℕ) (a : Ext) → m ≡ 1 → Word4 p (ws a) → ws a ≡ scale4 p m (ws a)
+unfolding scale4
+count-one p m a e k = rw e (λ i. once (a .c0) (k .w0) i ∷ once (a .c1) (k .w1) i ∷ once (a .c2) (k .w2) i ∷ once (a .c3) (k .w3) i ∷ [])
+  where
+    once : (x : ℕ) → x < p → x ≡ (1 * x) % p
+    once x l = sym (mod-eq-of-lt l) ∙ ap (λ (n : ℕ). n % p) (sym (one-mul x))
+
 pub step-in : {r s v′ : List ℕ} (p w m : ℕ) (d q v : Ext) → Certificate p w → Modulus p → mul4 p w (mul4 p w (ws q) (factor m (ws d))) (ws v) ≡ one4 → false ≡ left-out m (ws d)
-    → r ≡ mul4 p w (ws q) (ws v) → s ≡ scale4 p m r → v′ ≡ mul4 p w (ws d) (ws v) → (mul4 p w (ws q) v′ ≡ one4) × (s ≡ quotient p w m (ws d))
+    → r ≡ mul4 p w (ws v) (ws q) → s ≡ scale4 p m r → v′ ≡ mul4 p w (ws v) (ws d) → (mul4 p w (ws q) v′ ≡ one4) × (s ≡ quotient p w m (ws d))
 step-in p w m d q v C o i e er es ev = (
-  ap (mul4 p w (ws q)) ev ∙ inverts-rest p w C (ws q) (ws d) (ws v) whole,
-  es ∙ ap (scale4 p m) er ∙ quotient-in p w C (ws q) (ws d) (ws v) m o whole,
+  ap (mul4 p w (ws q)) (ev ∙ mul4-comm p w C (ws v) (ws d)) ∙ inverts-rest p w C (ws q) (ws d) (ws v) whole,
+  es ∙ ap (scale4 p m) (er ∙ mul4-comm p w C (ws v) (ws q)) ∙ quotient-in p w C (ws q) (ws d) (ws v) m o whole,
 )
   where
     whole : mul4 p w (mul4 p w (ws q) (ws d)) (ws v) ≡ one4

@@ -4,7 +4,7 @@ ghost use Prim.Native.Nat.{_<_, _≤_, _*_};
 ghost use lib.ListN.{length};
 ghost use Rattle.lists.specs.Count.{joined};
 ghost use Rattle.field.specs.Modulus.{Modulus, Certificate};
-ghost use Rattle.field.specs.Element.{Word4, one4, mul4, product4};
+ghost use Rattle.field.specs.Element.{Word4, one4, mul4, scale4, product4};
 ghost use Rattle.field.specs.Ext.{ws};
 ghost use Rattle.batch.specs.Quotients.{quotient, quotient-at, left-out, factor, from-last, Divisible};
 use field::extension;
@@ -58,6 +58,17 @@ fn products(p: u32, w: u32, ms: &[u32], ds: &[u32], before: &mut [u32]) -> Ext
     product
 }
 
+// m·a. Most multiplicities are 1, and need no product.
+fn times_count(p: u32, m: u32, a: Ext) -> Ext
+    requires { ⌜ Modulus p × (m < p) × Word4 p (ws a) ⌝ }
+    ensures { λ r. ⌜ ws r ≡ scale4 p m (ws a) ⌝ }
+{
+    if m == 1 {
+        return a;
+    }
+    extension::scale(p, m, a)
+}
+
 // m ÷ d and the inverse of q, from the inverse of the product of q and d.
 fn step(p: u32, w: u32, m: u32, d: Ext, q: Ext, inverse: Ext) -> Split
     requires { ⌜ Modulus p × (w < p) × Certificate p w × (m < p) × Word4 p (ws d) × Word4 p (ws q) × Word4 p (ws inverse)
@@ -75,9 +86,10 @@ fn step(p: u32, w: u32, m: u32, d: Ext, q: Ext, inverse: Ext) -> Split
             inverse,
         };
     }
+    // `inverse` is the first factor of both products, so that w times its words is computed once.
     Split {
-        quotient: extension::scale(p, m, extension::mul(p, w, q, inverse)),
-        inverse: extension::mul(p, w, d, inverse),
+        quotient: times_count(p, m, extension::mul(p, w, inverse, q)),
+        inverse: extension::mul(p, w, inverse, d),
     }
 }
 
