@@ -1,10 +1,13 @@
 -- The turns of the loop over a tuple's elements.
 use mathlib.Core.Path.{_≡_, refl, sym, ap, ap₂, _∙_, subst}
 use mathlib.Core.List.{List, [], _∷_, map}
+use mathlib.Core.Logic.{_⊎_, inl, inr}
 use Prim.Native.Nat.{ℕ, zero, suc, _+_, _-_, _<_, _≤_, zero-le}
+use native.Mathlib.Nat.{eq-or-lt-of-le}
 use native.Mathlib.Numerals.{add-one}
 use native.Mathlib.Omega.{arith}
 use lib.ListN.{length, getD}
+use Rattle.algebra.specs.laws.Primality.{lt-or-le}
 use Rattle.field.specs.declared.extension.Ext.{Ext}
 use Rattle.delayed.specs.declared.sum.Sum.{Sum}
 use Rattle.delayed.specs.Sum.{residues, Room}
@@ -19,18 +22,20 @@ use Rattle.column.specs.laws.Powers.{power-at, power-word}
 abbrev term : ℕ → ℕ → List ℕ → List ℕ → ℕ → List ℕ
 term p w beta es j = scale4 p (word es j) (power4 p w beta (exponent (length es) j))
 
+-- the first j elements are added; the sum was reduced before the fifth, so what fits is counted from there
 pub record Combining (p w : ℕ) (ps : List (List ℕ)) (vals nodes : List ℕ) (k j : ℕ) (sum : Sum) : Type 0 where
   pub powers : Powers p w ps
   pub small : k ≤ 8
   pub size : k ≡ length nodes
   pub within : j ≤ k
-  pub room : Room p sum
+  pub first-four : j ≤ 4 → Room (4 - j) sum
+  pub last-four : 4 < j → Room (8 - j) sum
   pub sum≡ : residues p sum ≡ sum4 p (term p w (beta-of ps) (map (word vals) nodes)) j
 
-pub combining-begins : {p w : ℕ} {ps : List (List ℕ)} {vals nodes : List ℕ} {k : ℕ} {sum : Sum} → Powers p w ps → k ≤ 8 → k ≡ length nodes → Room p sum × (residues p sum ≡ zero4)
+pub combining-begins : {p w : ℕ} {ps : List (List ℕ)} {vals nodes : List ℕ} {k : ℕ} {sum : Sum} → Powers p w ps → k ≤ 8 → k ≡ length nodes → Room 4 sum × (residues p sum ≡ zero4)
     → Combining p w ps vals nodes k 0 sum
 unfolding sum4
-combining-begins pw sm l (r, e) = record { powers = pw; small = sm; size = l; within = zero-le; room = r; sum≡ = e }
+combining-begins pw sm l (r, e) = record { powers = pw; small = sm; size = l; within = zero-le; first-four = λ _. r; last-four = λ h. absurd (omega arith); sum≡ = e }
 
 map-length : (f : ℕ → ℕ) (l : List ℕ) → length (map f l) ≡ length l
 map-length f [] = refl
@@ -45,18 +50,48 @@ map-at f (x ∷ l) (suc j) h = map-at f l j (omega arith)
 abbrev words : List ℕ → List ℕ
 words l = at l 0 ∷ at l 1 ∷ at l 2 ∷ at l 3 ∷ []
 
-pub combining-turn : {p w : ℕ} {ps : List (List ℕ)} {vals nodes : List ℕ} {k j v : ℕ} {sum next : Sum} {m : List ℕ} → Combining p w ps vals nodes k j sum → j < k
-    → v ≡ word vals (word nodes j) → m ≡ words (getD ps (k - 1 - j) []) → Room p next × (residues p next ≡ add4 p (residues p sum) (scale4 p v m))
-    → Combining p w ps vals nodes k (j + 1) next
+-- what `ready` makes of the sum before element j
+abbrev pub Ready : ℕ → ℕ → Sum → Sum → Type 0
+Ready p j sum held = (j ≡ 4 → Room 4 held) × ((n : ℕ) → Room n sum → Room n held) × (residues p held ≡ residues p sum)
+
+-- element j's product fits, and those after it up to the fourth or the eighth
+module _ {p w : ℕ} {ps : List (List ℕ)} {vals nodes : List ℕ} {k j : ℕ} {sum held : Sum} (s : Combining p w ps vals nodes k j sum) (h : j < k) (q : Ready p j sum held) where
+  low : j < 4 → Room (1 + (3 - j)) held
+  low l =
+      let e : 4 - j ≡ 1 + (3 - j) = omega arith in q .1 (1 + (3 - j)) (subst (λ (n : ℕ). Room n sum) e (s .first-four (omega arith)))
+
+  high : 4 ≤ j → Room (1 + (7 - j)) held
+  high l = go (eq-or-lt-of-le l)
+    where
+      go : (4 ≡ j) ⊎ (4 < j) → Room (1 + (7 - j)) held
+      go (inl e) = let n : 4 ≡ 1 + (7 - j) = omega arith in subst (λ (n : ℕ). Room n held) n (q .0 (sym e))
+      go (inr g) =
+          let e : 8 - j ≡ 1 + (7 - j) = omega (arith, s .small) in
+          q .1 (1 + (7 - j)) (subst (λ (n : ℕ). Room n sum) e (s .last-four g))
+
+  pub one-fits : Room 1 held
+  one-fits = go (lt-or-le j 4)
+    where
+      fewer : (n : ℕ) → Room (1 + n) held → Room 1 held
+      fewer n r = record { r0 = omega (arith, r .r0); r1 = omega (arith, r .r1); r2 = omega (arith, r .r2); r3 = omega (arith, r .r3) }
+
+      go : (j < 4) ⊎ (4 ≤ j) → Room 1 held
+      go (inl l) = fewer (3 - j) (low l)
+      go (inr l) = fewer (7 - j) (high l)
+
+pub combining-turn : {p w : ℕ} {ps : List (List ℕ)} {vals nodes : List ℕ} {k j v : ℕ} {sum held next : Sum} {m : List ℕ} → Combining p w ps vals nodes k j sum → j < k
+    → v ≡ word vals (word nodes j) → m ≡ words (getD ps (k - 1 - j) []) → Ready p j sum held
+    → ((n : ℕ) → Room (1 + n) held → Room n next) × (residues p next ≡ add4 p (residues p held) (scale4 p v m)) → Combining p w ps vals nodes k (j + 1) next
 unfolding sum4 scale4
-combining-turn {p} {w} {ps} {vals} {nodes} {k} {j} {v} {sum} {next} {m} s h ev em (q, e) =
+combining-turn {p} {w} {ps} {vals} {nodes} {k} {j} {v} {sum} {held} {next} {m} s h ev em q (r, e) =
     record {
       powers = s .powers;
       small = s .small;
       size = s .size;
       within = omega arith;
-      room = q;
-      sum≡ = rw (add-one j) (e ∙ ap₂ (add4 p) (s .sum≡) (ap (scale4 p v) em ∙ ap₂ (scale4 p) value power));
+      first-four = λ l. let n : 3 - j ≡ 4 - (j + 1) = omega arith in subst (λ (n : ℕ). Room n next) n (r (3 - j) (low s h q (omega arith)));
+      last-four = λ l. let n : 7 - j ≡ 8 - (j + 1) = omega arith in subst (λ (n : ℕ). Room n next) n (r (7 - j) (high s h q (omega arith)));
+      sum≡ = rw (add-one j) (e ∙ ap₂ (add4 p) (q .2 ∙ s .sum≡) (ap (scale4 p v) em ∙ ap₂ (scale4 p) value power));
     }
   where
     len : length (map (word vals) nodes) ≡ k

@@ -1,18 +1,20 @@
 // A tuple: beta's powers, the combined value and the denominator.
 ghost use mathlib.Core.Path.{_≡_};
 ghost use mathlib.Core.List.{[], _∷_, map};
-ghost use Prim.Native.Nat.{_<_, _≤_, _+_, _*_};
+ghost use Prim.Native.Nat.{ℕ, _<_, _≤_, _+_, _*_};
 ghost use lib.ListN.{length};
 ghost use Rattle.lists.specs.Count.{joined};
 ghost use Rattle.lists.specs.Tab.{tab};
 ghost use Rattle.field.specs.Modulus.{Modulus};
 ghost use Rattle.field.specs.Element.{at, Word4, power4, element};
 ghost use Rattle.field.specs.Ext.{ws};
+ghost use Rattle.delayed.specs.Sum.{residues, Room};
 ghost use Rattle.expression.specs.Words.{word};
 ghost use Rattle.logup.specs.Tuple.{combine, denominator};
 ghost use Rattle.column.specs.Powers.{beta-of, Powers};
 ghost use Rattle.column.specs.Own.{Able};
 use delayed::sum;
+use delayed::sum::Sum;
 use field::extension;
 use field::extension::Ext;
 
@@ -71,6 +73,15 @@ fn element(power: [u32; 4]) -> Ext
     Ext { c0, c1, c2, c3 }
 }
 
+// A tuple's sum before element j is added. A sum takes four products before it must be reduced, and a tuple has at most eight: the sum is
+// reduced once, before the fifth.
+fn ready(p: u32, sum: Sum, j: usize) -> Sum
+    requires { ⌜ Modulus p ⌝ }
+    ensures { λ r. ⌜ (j ≡ 4 → Room 4 r) × ((n : ℕ) → Room n sum → Room n r) × (residues p r ≡ residues p sum) ⌝ }
+{
+    if j == 4 { sum::reduced(p, sum) } else { sum }
+}
+
 // The combined value of a tuple: `nodes` are its nodes, and element j of k goes with power k - 1 - j.
 pub fn combine(p: u32, w: u32, powers: [[u32; 4]; 8], vals: &[u32], nodes: &[u32]) -> Ext
     requires { ⌜ Able p w (now vals) × Powers p w powers × (length (now nodes) ≤ 8) ⌝ }
@@ -82,7 +93,7 @@ pub fn combine(p: u32, w: u32, powers: [[u32; 4]; 8], vals: &[u32], nodes: &[u32
     while j < k {
         let v = value(vals, nodes[j]);
         let power = powers[k - 1 - j];
-        sum = sum::more(p, sum, v, element(power));
+        sum = sum::more(p, ready(p, sum, j), v, element(power));
         j += 1;
     }
     sum::total(p, sum)

@@ -1,1 +1,1 @@
-pub mod Gather
+pub mod Sum

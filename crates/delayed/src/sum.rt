@@ -1,8 +1,8 @@
-// A word times an element, added up for several words and elements: four sums of products, reduced at the end.
+// A word times an element, added up for several words and elements: four sums of products in 64 bits, four products to a sum before it
+// must be reduced.
 ghost use mathlib.Core.Path.{_≡_};
-ghost use Prim.Native.Nat.{_<_, _*_, _%_};
+ghost use Prim.Native.Nat.{ℕ, _+_, _<_};
 ghost use Rattle.field.specs.Modulus.{Modulus};
-ghost use Rattle.field.specs.Word.{addM, mulM};
 ghost use Rattle.field.specs.Element.{Word4, zero4, add4, scale4};
 ghost use Rattle.field.specs.Ext.{ws};
 ghost use Rattle.delayed.specs.Sum.{residues, Room};
@@ -19,7 +19,7 @@ pub struct Sum {
 // The sum of nothing.
 pub fn none(p: u32) -> Sum
     requires { ⌜ Modulus p ⌝ }
-    ensures { λ r. ⌜ Room p r × (residues p r ≡ zero4) ⌝ }
+    ensures { λ r. ⌜ Room 4 r × (residues p r ≡ zero4) ⌝ }
 {
     Sum {
         s0: 0,
@@ -29,26 +29,29 @@ pub fn none(p: u32) -> Sum
     }
 }
 
-// s + a·b, less p · 2^32 where it is as large: the same modulo p, and so small that the next product fits 64 bits again.
-fn gather(p: u32, s: u64, a: u32, b: u32) -> u64
-    requires { ⌜ Modulus p × (s < p * 4294967296) × (a < p) × (b < p) ⌝ }
-    ensures { λ r. ⌜ (r < p * 4294967296) × (r % p ≡ addM p (s % p) (mulM p a b)) ⌝ }
-{
-    let n = s + word::product(p, a, b);
-    let top = (p as u64) * 4294967296;
-    if n < top { n } else { n - top }
-}
-
-// s + z·a
+// s + z·a, with room for one product less.
 pub fn more(p: u32, s: Sum, z: u32, a: Ext) -> Sum
-    requires { ⌜ Modulus p × Room p s × (z < p) × Word4 p (ws a) ⌝ }
-    ensures { λ r. ⌜ Room p r × (residues p r ≡ add4 p (residues p s) (scale4 p z (ws a))) ⌝ }
+    requires { ⌜ Modulus p × Room 1 s × (z < p) × Word4 p (ws a) ⌝ }
+    ensures { λ r. ⌜ ((n : ℕ) → Room (1 + n) s → Room n r) × (residues p r ≡ add4 p (residues p s) (scale4 p z (ws a))) ⌝ }
 {
     Sum {
-        s0: gather(p, s.s0, z, a.c0),
-        s1: gather(p, s.s1, z, a.c1),
-        s2: gather(p, s.s2, z, a.c2),
-        s3: gather(p, s.s3, z, a.c3),
+        s0: s.s0 + word::product(p, z, a.c0),
+        s1: s.s1 + word::product(p, z, a.c1),
+        s2: s.s2 + word::product(p, z, a.c2),
+        s3: s.s3 + word::product(p, z, a.c3),
+    }
+}
+
+// The same modulo p, with room for four products again.
+pub fn reduced(p: u32, s: Sum) -> Sum
+    requires { ⌜ Modulus p ⌝ }
+    ensures { λ r. ⌜ Room 4 r × (residues p r ≡ residues p s) ⌝ }
+{
+    Sum {
+        s0: word::reduce(p, s.s0) as u64,
+        s1: word::reduce(p, s.s1) as u64,
+        s2: word::reduce(p, s.s2) as u64,
+        s3: word::reduce(p, s.s3) as u64,
     }
 }
 

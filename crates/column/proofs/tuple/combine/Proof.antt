@@ -1,7 +1,7 @@
 use native.Mathlib.Omega.{arith}
 use Prim.Native.Nat.{ℕ, _-_, _<_}
 use mathlib.Core.Path.{refl, sym, subst}
-use Rattle.column.proofs.Combining.{Combining, combining-begins, combining-turn, combining-ends, power-taken}
+use Rattle.column.proofs.Combining.{Combining, combining-begins, combining-turn, combining-ends, one-fits, power-taken}
 use borrow.Author.Needs.{needs}
 use Rattle.column.proofs.tuple.combine.Statement.{statement}
 use Rattle.column.proofs.tuple.combine.Tie as tie
@@ -39,15 +39,18 @@ mul-power c = search needs
 array-copy-out-power : tie.Need-array-copy-out-power Inv-loop μ-loop
 array-copy-out-power c = search needs
 
+ready-requires : tie.Need-ready-requires Inv-loop μ-loop
+ready-requires c κs = search needs
+
 element-requires : tie.Need-element-requires Inv-loop μ-loop
 element-requires c κs = search needs
 
 more-requires : tie.Need-more-requires Inv-loop μ-loop
 more-requires c κs = (
-  c .before .before .before .before .before .before .before .before .before .pre .0 .modulus,
-  c .before .before .before .before .before .loop .inv .room,
-  subst (λ (n : ℕ). n < c .before .before .before .before .before .before .before .before .before .args .p) (sym (c .before .before .value .ensures)) (c .before .before .before .before .before .before .before .before .before .pre .0 .below .each _),
-  power-taken (c .before .before .before .before .before .loop .inv) (omega (arith, c .before .before .before .before .before .before .before .before .before .pre .0 .modulus .big)) (search needs) (c .element .ensures),
+  c .before .before .before .before .before .before .before .before .before .before .pre .0 .modulus,
+  one-fits (c .before .before .before .before .before .before .loop .inv) (search needs) (c .before .ready .ensures),
+  subst (λ (n : ℕ). n < c .before .before .before .before .before .before .before .before .before .before .args .p) (sym (c .before .before .before .value .ensures)) (c .before .before .before .before .before .before .before .before .before .before .pre .0 .below .each _),
+  power-taken (c .before .before .before .before .before .before .loop .inv) (omega (arith, c .before .before .before .before .before .before .before .before .before .before .pre .0 .modulus .big)) (search needs) (c .element .ensures),
 )
 
 add-j : tie.Need-add-j Inv-loop μ-loop
@@ -57,7 +60,9 @@ loop-less : tie.Need-loop-less Inv-loop μ-loop
 loop-less c = search needs
 
 loop-again : tie.Need-loop-again Inv-loop μ-loop
-loop-again c = combining-turn (c .before .before .before .before .before .before .loop .inv) (search needs) (c .before .before .before .value .ensures) (c .before .element .ensures) (c .more .ensures)
+loop-again c =
+    combining-turn (c .before .before .before .before .before .before .before .loop .inv) (search needs) (c .before .before .before .before .value .ensures) (c .before .element .ensures)
+    (c .before .before .ready .ensures) (c .more .ensures)
 
 total-requires : tie.Need-total-requires Inv-loop μ-loop
 total-requires c κs = search needs
@@ -80,6 +85,7 @@ combine-spec =
     sub-power-2
     mul-power
     array-copy-out-power
+    ready-requires
     element-requires
     more-requires
     add-j

@@ -1,39 +1,56 @@
 use mathlib.Core.List.{[], _∷_}
 use Rattle.field.specs.Element.{add4, scale4}
+use Rattle.delayed.specs.laws.Sum.{later}
 use borrow.Author.Needs.{needs}
 use Rattle.delayed.proofs.sum.more.Statement.{statement}
 use Rattle.delayed.proofs.sum.more.Tie as tie
 
-gather-requires : tie.Need-gather-requires
-gather-requires c κs = search needs
+product-requires : tie.Need-product-requires
+product-requires c κs = search needs
 
-gather-requires-2 : tie.Need-gather-requires-2
-gather-requires-2 c κs = search needs
+add-t6 : tie.Need-add-t6
+add-t6 c = search needs
 
-gather-requires-3 : tie.Need-gather-requires-3
-gather-requires-3 c κs = search needs
+product-requires-2 : tie.Need-product-requires-2
+product-requires-2 c κs = search needs
 
-gather-requires-4 : tie.Need-gather-requires-4
-gather-requires-4 c κs = search needs
+add-t8 : tie.Need-add-t8
+add-t8 c = search needs
+
+product-requires-3 : tie.Need-product-requires-3
+product-requires-3 c κs = search needs
+
+add-t10 : tie.Need-add-t10
+add-t10 c = search needs
+
+product-requires-4 : tie.Need-product-requires-4
+product-requires-4 c κs = search needs
+
+add-t12 : tie.Need-add-t12
+add-t12 c = search needs
 
 returns : tie.Need-returns
 unfolding add4 scale4
 returns c = (
-  record {
-    r0 = c .before .before .before .gather .ensures .0;
-    r1 = c .before .before .gather2 .ensures .0;
-    r2 = c .before .gather3 .ensures .0;
-    r3 = c .gather4 .ensures .0;
-  },
+  search needs,
   λ i.
-      c .before .before .before .gather .ensures .1 i
-      ∷ c .before .before .gather2 .ensures .1 i
-      ∷ c .before .gather3 .ensures .1 i
-      ∷ c .gather4 .ensures .1 i
+      later (c .before .before .before .before .before .before .before .before .args .p) (c .before .before .before .before .before .before .before .before .args .s .s0) (c .before .before .before .before .before .before .before .before .args .z) (c .before .before .before .before .before .before .before .before .args .a .c0) (c .before .before .before .before .before .before .before .product .ensures .0) i
+      ∷ later (c .before .before .before .before .before .before .before .before .args .p) (c .before .before .before .before .before .before .before .before .args .s .s1) (c .before .before .before .before .before .before .before .before .args .z) (c .before .before .before .before .before .before .before .before .args .a .c1) (c .before .before .before .before .before .product2 .ensures .0) i
+      ∷ later (c .before .before .before .before .before .before .before .before .args .p) (c .before .before .before .before .before .before .before .before .args .s .s2) (c .before .before .before .before .before .before .before .before .args .z) (c .before .before .before .before .before .before .before .before .args .a .c2) (c .before .before .before .product3 .ensures .0) i
+      ∷ later (c .before .before .before .before .before .before .before .before .args .p) (c .before .before .before .before .before .before .before .before .args .s .s3) (c .before .before .before .before .before .before .before .before .args .z) (c .before .before .before .before .before .before .before .before .args .a .c3) (c .before .product4 .ensures .0) i
       ∷ [],
 )
 
 pub more-spec : {M : Type 1} → statement M
 more-spec =
     tie.close
-    (tie.spec gather-requires gather-requires-2 gather-requires-3 gather-requires-4 returns)
+    (tie.spec
+    product-requires
+    add-t6
+    product-requires-2
+    add-t8
+    product-requires-3
+    add-t10
+    product-requires-4
+    add-t12
+    returns)

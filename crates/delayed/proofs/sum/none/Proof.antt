@@ -2,14 +2,14 @@ use mathlib.Core.Path.{_≡_}
 use mathlib.Core.List.{[], _∷_}
 use Prim.Native.Nat.{ℕ, _%_}
 use native.Mathlib.Nat.{zero-mod}
-use native.Mathlib.Omega.{arith}
+use borrow.Author.Needs.{needs}
 use Rattle.delayed.proofs.sum.none.Statement.{statement}
 use Rattle.delayed.proofs.sum.none.Tie as tie
 
 returns : tie.Need-returns
 returns c =
     let z : 0 % c .args .p ≡ 0 = zero-mod (c .args .p) in (
-      record { r0 = omega (arith, c .pre .big); r1 = omega (arith, c .pre .big); r2 = omega (arith, c .pre .big); r3 = omega (arith, c .pre .big) },
+      search needs,
       λ i. z i ∷ z i ∷ z i ∷ z i ∷ [],
     )
 
