@@ -69,7 +69,16 @@ fn fill(
     while j < k {
         let end = at + size;
         let r = from + j;
-        row_values(p, shape, main, preprocessed, public_values, nodes, r, &mut vals);
+        row_values(
+            p,
+            shape,
+            main,
+            preprocessed,
+            public_values,
+            nodes,
+            r,
+            &mut vals,
+        );
         let fault = write_shares(
             p,
             w,

@@ -103,9 +103,9 @@ loop-less : tie.Need-loop-less Inv-loop μ-loop
 loop-less c = omega (arith, c .before .before .before .before .before .before .before .before .before .before .before .before .before .before .before .loop-test .taken)
 
 loop-again : tie.Need-loop-again Inv-loop μ-loop
-loop-again c = 
+loop-again c =
     let e : refusal (c .match .verdict) ≡ or-else (refusal (c .before .before .before .before .before .before .before .before .before .before .before .before .before .before .before .before .loop .verdict)) (refusal (c .before .before .before .before .before .before .before .before .write-shares .result)) =
-        ⊎-elim (λ w. ap refusal (w .2) ∙ nothing-refused _ _ (w .1 .given .1)) (λ w. ap refusal (w .3) ∙ w .2 .ensures) (c .match .came) in (
+    ⊎-elim (λ w. ap refusal (w .2) ∙ nothing-refused _ _ (w .1 .given .1)) (λ w. ap refusal (w .3) ∙ w .2 .ensures) (c .match .came) in (
       filling-turn (c .before .before .before .before .before .before .before .before .before .before .before .before .before .before .before .before .loop .inv .0) (c .before .before .before .before .before .before .before .before .before .before .before .before .before .before .before .loop-test .taken) {verdict′ = c .match .verdict} _ _ (c .before .before .before .before .before .before .before .before .write-shares .result) (row-is _ _ _ _ _ _ _ (c .before .before .before .before .before .before .before .before .write-shares .result) (c .before .before .before .before .before .before .before .before .before .before .before .before .before .row-values .ensures .1) (c .before .before .before .before .before .before .before .before .write-shares .ensures)) e,
       cleared _ _ _ _ (c .before .before .before .before .before .before .before .before .before .before .before .before .before .row-values .ensures .1) (c .before .before .zero .ensures) (c .before .before .before .before .before .before .before .before .before .before .before .before .before .before .before .before .before .before .before .before .before .before .before .before .before .before .before .before .before .before .pre .1 .few),
     )

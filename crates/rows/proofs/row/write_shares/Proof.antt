@@ -70,7 +70,7 @@ loop-less c = search needs
 loop-again : tie.Need-loop-again Inv-loop μ-loop
 loop-again c =
     let e : refusal (c .if1 .verdict) ≡ or-else (refusal (c .before .before .before .before .before .before .before .before .before .before .loop .verdict)) (fault-refusal (c .before .before .before .before .before .one .result) (c .before .before .before .before .before .before .before .before .before .before .before .before .before .before .before .before .before .before .before .before .before .args .r) (c .before .before .before .before .before .before .before .before .before .before .loop .i)) =
-        ⊎-elim (λ w. ap refusal (w .3) ∙ w .2 .ensures ∙ ap (or-else (refusal (c .before .before .before .before .before .before .before .before .before .before .loop .verdict))) (w .1 .ensures)) (λ w. ap refusal (w .1) ∙ no-fault _ _ _ _ (w .0 .left)) (c .if1 .came) in
+    ⊎-elim (λ w. ap refusal (w .3) ∙ w .2 .ensures ∙ ap (or-else (refusal (c .before .before .before .before .before .before .before .before .before .before .loop .verdict))) (w .1 .ensures)) (λ w. ap refusal (w .1) ∙ no-fault _ _ _ _ (w .0 .left)) (c .if1 .came) in
     lining-turn (c .before .before .before .before .before .before .before .before .before .before .loop .inv) (c .before .before .before .before .before .before .before .before .next-starts .ensures) {verdict′ = c .if1 .verdict} _ _ (c .before .before .before .before .before .before .before .before .before .loop-test .taken) (c .before .before .before .before .before .one .ensures) e
 
 same-length : tie.Need-same-length Inv-loop μ-loop
