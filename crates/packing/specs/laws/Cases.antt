@@ -81,6 +81,18 @@ five =
 abbrev two-two-one : List ℕ
 two-two-one = 1 ∷ 1 ∷ 2 ∷ 0 ∷ 0 ∷ 2 ∷ 2 ∷ 0 ∷ 1 ∷ 1 ∷ 2 ∷ 1 ∷ 0 ∷ 2 ∷ 2 ∷ 0 ∷ 1 ∷ 1 ∷ 1 ∷ 2 ∷ 0 ∷ 1 ∷ 1 ∷ 0 ∷ []
 
+-- three lookups, on the buses "b", "a" and "b"
+abbrev b-a-b : Lookups
+b-a-b =
+    record {
+      lookups = 1 ∷ 1 ∷ 1 ∷ 0 ∷ 0 ∷ 1 ∷ 1 ∷ 0 ∷ 1 ∷ 1 ∷ 1 ∷ 1 ∷ 0 ∷ 1 ∷ 1 ∷ 0 ∷ 1 ∷ 1 ∷ 1 ∷ 2 ∷ 0 ∷ 1 ∷ 1 ∷ 0 ∷ [];
+      names = 98 ∷ 97 ∷ 98 ∷ [];
+      tuples = replicate 3 1;
+      multiplicities = replicate 3 0;
+      flags = [];
+      elements = replicate 3 0;
+    }
+
 -- row 6: the bus "mem", widths 2 and 3
 abbrev mem : Lookups
 mem =
@@ -143,6 +155,16 @@ pub cases :
     × (packed-with 0 five room .lists ≡ five)
     × (packed-with 0 five room .answer
     ≡ Packed (record { lookups = 40; names = 5; tuples = 5; multiplicities = 5; flags = 0; elements = 5 }))
+    -- "each bus by its first additive lookup": "b" before "a", whatever their names
+    × (packed-with 3 b-a-b b-a-b .lists
+    ≡ record {
+      lookups = 1 ∷ 1 ∷ 2 ∷ 0 ∷ 0 ∷ 2 ∷ 2 ∷ 0 ∷ 1 ∷ 1 ∷ 1 ∷ 1 ∷ 0 ∷ 1 ∷ 1 ∷ 0 ∷ 1 ∷ 1 ∷ 1 ∷ 2 ∷ 0 ∷ 1 ∷ 1 ∷ 0 ∷ [];
+      names = 98 ∷ 97 ∷ 98 ∷ [];
+      tuples = replicate 3 1;
+      multiplicities = replicate 3 0;
+      flags = [];
+      elements = replicate 3 0;
+    })
     -- exclusives share no column, whatever the limit
     × (packed-with 9 branches branches .lists ≡ branches)
     -- a lent list that is too small is 1; two lookups do not fit where five do not merge
@@ -156,4 +178,4 @@ pub cases :
     × (packed-with 2 heavy room .answer
     ≡ Packed (record { lookups = 16; names = 2; tuples = 2; multiplicities = 2; flags = 0; elements = 2 }))
 unfolding total every first tab flatMap zipWith all-below all-within cabinet decode node node-degree degrees nodes-within nodes-fit constants-below nodes-known degrees-low name-start tuple-start multiplicity-start flag-start element-start tuple-width multiplicity-node flag-node tuple-nodes lookup-at lookups-of lookups-within lookups-fit lengths-agree nodes-present lists-agree sum-of largest-of greatest tuple-degree denominator-degree numerator-degree additive-degree exclusive-degree lookup-degree columns-within form-sizes nodes-refusal lists-refusal form-refusal shape-of degree-refusal degree-answer keep position by-place numbers same name-at alone-at same-bus place arranged width-in-lookup width-in-table expected by-bus lookup-refusal table-refusal widths-refusal widest-in-lookup widest-in-table widest size-start table-at tables-of lists-fit table-fits all-fit widths-answer in-order fill filled renumbered packed overweight lookup-words words-of holds columns packing-refusal packing
-cases = (refl, refl, refl, refl, refl, refl, refl, refl, refl, refl, refl, refl)
+cases = (refl, refl, refl, refl, refl, refl, refl, refl, refl, refl, refl, refl, refl)
