@@ -4,14 +4,12 @@ use mathlib.Core.Bool.{cond, _&&_}
 use mathlib.Core.List.{List, [], _∷_, map}
 use Rattle.field.specs.Modulus.{babybear}
 use Rattle.expression.specs.Limits.{cabinet}
-use Rattle.expression.specs.Refusal.{answer-number, answer-details}
 use Rattle.expression.specs.declared.refusal.Refusal.the-variants.{SizeAtOdds}
 use Rattle.lookup.specs.Lookups.{Lookups, lent-lookups}
 use Rattle.lookup.specs.declared.entry.Columns.{Columns}
 use Rattle.packing.specs.Door.{Outcome, packing}
 use Rattle.packing.specs.declared.door.PackingAnswer.{PackingAnswer}
 use Rattle.packing.specs.declared.door.PackingAnswer.the-variants.{Refused}
-use Rattle.telling.specs.Packing.{packing-refused, packing-used}
 use Rattle.wire.specs.Wire.{words-of, bytes-of}
 use Rattle.rooms.specs.Rooms.{all-fit, list}
 
@@ -58,22 +56,3 @@ unfoldable pub on-bytes : ℕ → Columns → List ℕ → List (List ℕ) → L
 on-bytes limit columns names lists rooms names-out outputs output-rooms =
     cond (all-fit lists rooms && all-fit outputs output-rooms) (on-decoded limit columns names lists names-out outputs)
     (gives (Refused SizeAtOdds) names-out outputs rooms output-rooms)
-
--- the same with the answer as numbers
-pub record Told : Type 0 where
-  pub number : ℕ
-  pub details : List ℕ
-  pub used : List ℕ
-  pub names : List ℕ
-  pub outputs : List (List ℕ)
-  pub rooms : List (List ℕ)
-  pub output-rooms : List (List ℕ)
-
-abbrev pub tells : ℕ → List ℕ → List ℕ → List ℕ → List (List ℕ) → List (List ℕ) → List (List ℕ) → Told
-tells number details used names outputs rooms output-rooms =
-    record { number = number; details = details; used = used; names = names; outputs = outputs; rooms = rooms; output-rooms = output-rooms }
-
-abbrev pub told : Given → Told
-told g =
-    tells (answer-number (packing-refused (g .answer))) (answer-details (packing-refused (g .answer))) (packing-used (g .answer)) (g .names)
-    (g .outputs) (g .rooms) (g .output-rooms)

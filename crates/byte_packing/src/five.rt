@@ -8,22 +8,22 @@ ghost use mathlib.Core.List.{[], _∷_, map};
 ghost use Prim.Native.Nat.{_*_};
 ghost use lib.ListN.{length};
 ghost use Rattle.wire.specs.Wire.{words-of, bytes-of};
-ghost use Rattle.rooms.specs.Rooms.{all-fit};
+ghost use Rattle.rooms.specs.Rooms.{sizes-fit, all-fit};
 
-// Each list fits its room.
+// Each list fits its room: how many bytes each has, and how many words each room.
 pub fn five_fit(
-    lookups_out: &[u8],
-    tuples_out: &[u8],
-    multiplicities_out: &[u8],
-    flags_out: &[u8],
-    elements_out: &[u8],
-    lookups_out_room: &[u32],
-    tuples_out_room: &[u32],
-    multiplicities_out_room: &[u32],
-    flags_out_room: &[u32],
-    elements_out_room: &[u32],
+    lookups_out: usize,
+    tuples_out: usize,
+    multiplicities_out: usize,
+    flags_out: usize,
+    elements_out: usize,
+    lookups_out_room: usize,
+    tuples_out_room: usize,
+    multiplicities_out_room: usize,
+    flags_out_room: usize,
+    elements_out_room: usize,
 ) -> bool
-    ensures { λ r. ⌜ r ≡ all-fit (now («lookups_out» .entry) ∷ now («tuples_out» .entry) ∷ now («multiplicities_out» .entry) ∷ now («flags_out» .entry) ∷ now («elements_out» .entry) ∷ []) (now («lookups_out_room» .entry) ∷ now («tuples_out_room» .entry) ∷ now («multiplicities_out_room» .entry) ∷ now («flags_out_room» .entry) ∷ now («elements_out_room» .entry) ∷ []) ⌝ }
+    ensures { λ r. ⌜ r ≡ sizes-fit («lookups_out» ∷ «tuples_out» ∷ «multiplicities_out» ∷ «flags_out» ∷ «elements_out» ∷ []) («lookups_out_room» ∷ «tuples_out_room» ∷ «multiplicities_out_room» ∷ «flags_out_room» ∷ «elements_out_room» ∷ []) ⌝ }
 {
     fits(lookups_out, lookups_out_room)
         & (fits(tuples_out, tuples_out_room)

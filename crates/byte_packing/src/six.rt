@@ -5,24 +5,24 @@ ghost use mathlib.Core.Path.{_≡_};
 ghost use mathlib.Core.Bool.{true};
 ghost use mathlib.Core.List.{[], _∷_, map};
 ghost use Rattle.wire.specs.Wire.{words-of};
-ghost use Rattle.rooms.specs.Rooms.{all-fit};
+ghost use Rattle.rooms.specs.Rooms.{sizes-fit, all-fit};
 
-// Each list fits its room.
+// Each list fits its room: how many bytes each has, and how many words each room.
 pub fn six_fit(
-    nodes: &[u8],
-    lookups: &[u8],
-    tuples: &[u8],
-    multiplicities: &[u8],
-    flags: &[u8],
-    elements: &[u8],
-    nodes_room: &[u32],
-    lookups_room: &[u32],
-    tuples_room: &[u32],
-    multiplicities_room: &[u32],
-    flags_room: &[u32],
-    elements_room: &[u32],
+    nodes: usize,
+    lookups: usize,
+    tuples: usize,
+    multiplicities: usize,
+    flags: usize,
+    elements: usize,
+    nodes_room: usize,
+    lookups_room: usize,
+    tuples_room: usize,
+    multiplicities_room: usize,
+    flags_room: usize,
+    elements_room: usize,
 ) -> bool
-    ensures { λ r. ⌜ r ≡ all-fit (now (nodes .entry) ∷ now (lookups .entry) ∷ now (tuples .entry) ∷ now (multiplicities .entry) ∷ now (flags .entry) ∷ now (elements .entry) ∷ []) (now («nodes_room» .entry) ∷ now («lookups_room» .entry) ∷ now («tuples_room» .entry) ∷ now («multiplicities_room» .entry) ∷ now («flags_room» .entry) ∷ now («elements_room» .entry) ∷ []) ⌝ }
+    ensures { λ r. ⌜ r ≡ sizes-fit (nodes ∷ lookups ∷ tuples ∷ multiplicities ∷ flags ∷ elements ∷ []) («nodes_room» ∷ «lookups_room» ∷ «tuples_room» ∷ «multiplicities_room» ∷ «flags_room» ∷ «elements_room» ∷ []) ⌝ }
 {
     fits(nodes, nodes_room)
         & (fits(lookups, lookups_room)

@@ -1,4 +1,4 @@
-use Rattle.rooms.specs.Rooms.{all-fit}
+use Rattle.rooms.specs.Rooms.{sizes-fit}
 use Rattle.rooms.specs.laws.Rooms.{and-true}
 use borrow.Author.Needs.{needs}
 use Rattle.byte_packing.proofs.five.five_fit.Statement.{statement}
@@ -20,7 +20,7 @@ fits-requires-5 : tie.Need-fits-requires-5
 fits-requires-5 c κs = search needs
 
 returns : tie.Need-returns
-unfolding all-fit
+unfolding sizes-fit
 returns c = rw (c .before .before .before .before .fits2 .ensures, c .before .before .before .fits3 .ensures, c .before .before .fits4 .ensures, c .before .fits5 .ensures, c .fits6 .ensures, and-true)
 
 pub five-fit-spec : {M : Type 1} → statement M

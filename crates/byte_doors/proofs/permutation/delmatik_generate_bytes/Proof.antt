@@ -1,8 +1,8 @@
 use mathlib.Core.Path.{_∙_}
-use Rattle.byte_generation.specs.laws.Permutation.{told-gives}
+use Rattle.byte_doors.specs.laws.Permutation.{told-gives}
 use borrow.Author.Needs.{needs}
-use Rattle.byte_generation.proofs.permutation.generate_told.Statement.{statement}
-use Rattle.byte_generation.proofs.permutation.generate_told.Tie as tie
+use Rattle.byte_doors.proofs.permutation.delmatik_generate_bytes.Statement.{statement}
+use Rattle.byte_doors.proofs.permutation.delmatik_generate_bytes.Tie as tie
 
 generate-bytes-requires : tie.Need-generate-bytes-requires
 generate-bytes-requires c κs = search needs
@@ -58,8 +58,8 @@ same-length-12 c = c .before .before .before .before .before .before .before .tr
 returns : tie.Need-returns
 returns c = told-gives (c .before .before .before .before .before .before .before .before .before .before .before .before .before .before .before .before .before .before .before .before .before .before .before .before .before .before .before .before .before .before .generate-bytes .ensures) (c .number .ensures) (c .before .write-details .ensures ∙ c .before .before .before .details .ensures) (c .before .before .before .before .write-terminal .ensures)
 
-pub generate-told-spec : {M : Type 1} → statement M
-generate-told-spec =
+pub delmatik-generate-bytes-spec : {M : Type 1} → statement M
+delmatik-generate-bytes-spec =
     tie.close
     (tie.spec
     generate-bytes-requires

@@ -1,9 +1,9 @@
 use mathlib.Core.Path.{ap, _∙_}
 use Rattle.expression.specs.Refusal.{answer-number, answer-details}
-use Rattle.byte_packing.specs.laws.Pack.{told-gives}
+use Rattle.byte_doors.specs.laws.Pack.{told-gives}
 use borrow.Author.Needs.{needs}
-use Rattle.byte_packing.proofs.pack.pack_told.Statement.{statement}
-use Rattle.byte_packing.proofs.pack.pack_told.Tie as tie
+use Rattle.byte_doors.proofs.pack.delmatik_pack_bytes.Statement.{statement}
+use Rattle.byte_doors.proofs.pack.delmatik_pack_bytes.Tie as tie
 
 pack-bytes-requires : tie.Need-pack-bytes-requires
 pack-bytes-requires c κs = search needs
@@ -71,8 +71,8 @@ same-length-17 c = c .before .before .before .before .before .before .elements-o
 returns : tie.Need-returns
 returns c = told-gives (c .before .before .before .before .before .before .before .before .before .before .before .before .before .before .before .before .before .before .before .before .before .before .before .before .before .before .before .before .before .before .before .before .before .before .before .before .before .before .before .pack-bytes .ensures) (c .tell .ensures .0 ∙ ap answer-number (c .before .before .packing-verdict .ensures)) (c .tell .ensures .1 ∙ ap answer-details (c .before .before .packing-verdict .ensures)) (c .before .before .before .write-used .ensures)
 
-pub pack-told-spec : {M : Type 1} → statement M
-pack-told-spec =
+pub delmatik-pack-bytes-spec : {M : Type 1} → statement M
+delmatik-pack-bytes-spec =
     tie.close
     (tie.spec
     pack-bytes-requires

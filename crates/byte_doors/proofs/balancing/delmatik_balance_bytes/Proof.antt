@@ -1,7 +1,7 @@
-use Rattle.byte_balance.specs.laws.Balancing.{told-gives}
+use Rattle.byte_doors.specs.laws.Balancing.{told-gives}
 use borrow.Author.Needs.{needs}
-use Rattle.byte_balance.proofs.balancing.check_told.Statement.{statement}
-use Rattle.byte_balance.proofs.balancing.check_told.Tie as tie
+use Rattle.byte_doors.proofs.balancing.delmatik_balance_bytes.Statement.{statement}
+use Rattle.byte_doors.proofs.balancing.delmatik_balance_bytes.Tie as tie
 
 check-bytes-requires : tie.Need-check-bytes-requires
 check-bytes-requires c κs = search needs
@@ -48,8 +48,8 @@ same-length-12 c = c .before .before .before .workspace-room .given
 returns : tie.Need-returns
 returns c = told-gives (c .before .before .before .before .before .before .before .before .before .before .before .before .before .before .before .before .before .before .before .before .before .before .before .before .before .before .check-bytes .ensures) (c .tell .ensures .0) (c .tell .ensures .1)
 
-pub check-told-spec : {M : Type 1} → statement M
-check-told-spec =
+pub delmatik-balance-bytes-spec : {M : Type 1} → statement M
+delmatik-balance-bytes-spec =
     tie.close
     (tie.spec
     check-bytes-requires
