@@ -3,7 +3,7 @@ use Prim.Native.Nat.{ℕ}
 use mathlib.Core.List.{List}
 use Rattle.expression.specs.Refusal.{answer-number, answer-details}
 use Rattle.telling.specs.Packing.{packing-refused, packing-used}
-use Rattle.byte_packing.specs.Pack.{Given}
+use Rattle.decoded_packing.specs.Pack.{Given}
 
 pub record Told : Type 0 where
   pub number : ℕ

@@ -5,7 +5,7 @@ use mathlib.Core.List.{List}
 use Rattle.expression.specs.Refusal.{answer-number, answer-details}
 use Rattle.packing.specs.declared.door.PackingAnswer.{PackingAnswer}
 use Rattle.telling.specs.Packing.{packing-refused, packing-used}
-use Rattle.byte_packing.specs.Pack.{Given, gives}
+use Rattle.decoded_packing.specs.Pack.{Given, gives}
 use Rattle.byte_doors.specs.Pack.{tells, told}
 
 -- the answer as numbers

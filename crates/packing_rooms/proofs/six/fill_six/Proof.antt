@@ -1,7 +1,7 @@
 use native.Mathlib.Omega.{arith}
 use Rattle.rooms.specs.laws.Rooms.{fit-at}
-use Rattle.byte_packing.proofs.six.fill_six.Statement.{statement}
-use Rattle.byte_packing.proofs.six.fill_six.Tie as tie
+use Rattle.packing_rooms.proofs.six.fill_six.Statement.{statement}
+use Rattle.packing_rooms.proofs.six.fill_six.Tie as tie
 
 fill-requires : tie.Need-fill-requires
 fill-requires c κs = fit-at _ _ 0 (c .before .before .before .before .before .before .before .before .before .before .before .before .before .pre) (omega arith)

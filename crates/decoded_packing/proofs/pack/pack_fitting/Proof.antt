@@ -2,10 +2,10 @@ use mathlib.Core.Path.{_∙_}
 use mathlib.Core.List.{[], _∷_}
 use native.Mathlib.Omega.{arith}
 use Rattle.rooms.specs.laws.Rooms.{fits-whole, fit-at}
-use Rattle.byte_packing.specs.laws.Pack.{decoded-gives}
+use Rattle.decoded_packing.specs.laws.Pack.{decoded-gives}
 use borrow.Author.Needs.{needs}
-use Rattle.byte_packing.proofs.pack.pack_fitting.Statement.{statement}
-use Rattle.byte_packing.proofs.pack.pack_fitting.Tie as tie
+use Rattle.decoded_packing.proofs.pack.pack_fitting.Statement.{statement}
+use Rattle.decoded_packing.proofs.pack.pack_fitting.Tie as tie
 
 fill-six-requires : tie.Need-fill-six-requires
 fill-six-requires c κs = c .before .before .before .before .before .before .before .before .before .before .before .before .before .before .before .before .before .before .before .before .before .before .before .before .before .before .before .before .before .before .pre .0

@@ -1,5 +1,5 @@
-use Rattle.byte_packing.proofs.five.give_back_five.Statement.{statement}
-use Rattle.byte_packing.proofs.five.give_back_five.Tie as tie
+use Rattle.packing_rooms.proofs.five.give_back_five.Statement.{statement}
+use Rattle.packing_rooms.proofs.five.give_back_five.Tie as tie
 
 give-back-requires : tie.Need-give-back-requires
 give-back-requires c κs = c .before .before .before .before .before .before .before .before .before .before .before .pre .0
