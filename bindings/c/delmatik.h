@@ -1,7 +1,8 @@
 /*
  * Delmatik's doors for C: a verified LogUp lookup argument over the field of p = 2013265921 and its extension of degree 4 (X^4 = 11).
  *
- * Build the library with `rt staticlib doors` and link target/staticlib/libdoors.a. A first call is in first.c.
+ * Build the library with `rt staticlib doors` and link target/staticlib/libdoors.a. A first call is in first.c. The functions whose names end
+ * in _bytes are in a library of their own: `rt staticlib byte_doors`, target/staticlib/libbyte_doors.a. A program may link both.
  *
  * - Words are below p. An extension element is four words, c0 to c3.
  * - A list is a pointer and a length; the pointer of an empty list may be any that is not NULL. A door takes any words and lengths: it tests

@@ -5,7 +5,6 @@ use mathlib.Core.Option.{Option, some}
 use mathlib.Core.List.{List, map}
 use Rattle.field.specs.Modulus.{babybear}
 use Rattle.expression.specs.Limits.{cabinet}
-use Rattle.expression.specs.Refusal.{answer-number, answer-details}
 use Rattle.expression.specs.declared.refusal.Refusal.{Refusal}
 use Rattle.expression.specs.declared.refusal.Refusal.the-variants.{SizeAtOdds}
 use Rattle.balance.specs.Valid.{lent-lists}
@@ -45,18 +44,3 @@ unfoldable pub on-bytes : List ℕ → List (List ℕ) → List (List ℕ) → L
 on-bytes names lists rooms workspace workspace-room =
     cond (all-fit lists rooms && fits workspace workspace-room) (on-decoded names lists workspace)
     (gives (some SizeAtOdds) workspace rooms workspace-room)
-
--- the same with the answer as numbers
-pub record Told : Type 0 where
-  pub number : ℕ
-  pub details : List ℕ
-  pub workspace : List ℕ
-  pub rooms : List (List ℕ)
-  pub workspace-room : List ℕ
-
-abbrev pub tells : ℕ → List ℕ → List ℕ → List (List ℕ) → List ℕ → Told
-tells number details workspace rooms workspace-room =
-    record { number = number; details = details; workspace = workspace; rooms = rooms; workspace-room = workspace-room }
-
-abbrev pub told : Given → Told
-told g = tells (answer-number (g .refusal)) (answer-details (g .refusal)) (g .workspace) (g .rooms) (g .workspace-room)

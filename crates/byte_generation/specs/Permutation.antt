@@ -7,7 +7,6 @@ use Rattle.expression.specs.Limits.{cabinet}
 use Rattle.expression.specs.declared.sizes.Shape.{Shape}
 use Rattle.expression.specs.declared.refusal.Refusal.the-variants.{SizeAtOdds}
 use Rattle.logup.specs.Generation.{Answer, refused, Outcome, generation}
-use Rattle.telling.specs.Generation.{answer-number, answer-details, answer-terminal}
 use Rattle.wire.specs.Wire.{words-of, bytes-of}
 use Rattle.lookup.specs.Lookups.{lent-lookups}
 use Rattle.lookup.specs.Table.{Table, lent-table}
@@ -46,19 +45,3 @@ on-decoded shape names lists trace =
 unfoldable pub on-bytes : Shape → List ℕ → List (List ℕ) → List (List ℕ) → List ℕ → List ℕ → Given
 on-bytes shape names lists rooms trace trace-room =
     cond (all-fit lists rooms && fits trace trace-room) (on-decoded shape names lists trace) (gives (refused SizeAtOdds) trace rooms trace-room)
-
--- the same with the answer as numbers
-pub record Told : Type 0 where
-  pub number : ℕ
-  pub details : List ℕ
-  pub terminal : List ℕ
-  pub trace : List ℕ
-  pub rooms : List (List ℕ)
-  pub trace-room : List ℕ
-
-abbrev pub tells : ℕ → List ℕ → List ℕ → List ℕ → List (List ℕ) → List ℕ → Told
-tells number details terminal trace rooms trace-room =
-    record { number = number; details = details; terminal = terminal; trace = trace; rooms = rooms; trace-room = trace-room }
-
-abbrev pub told : Given → Told
-told g = tells (answer-number (g .answer)) (answer-details (g .answer)) (answer-terminal (g .answer)) (g .trace) (g .rooms) (g .trace-room)

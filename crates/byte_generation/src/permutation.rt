@@ -8,17 +8,12 @@ use rooms::single::fits;
 use rooms::single::give_back;
 use rooms::ten::fill_ten;
 use rooms::ten::ten_fit;
-use telling::answer::write_details;
-use telling::generated::details;
-use telling::generated::number;
-use telling::generated::write_terminal;
 ghost use mathlib.Core.Path.{_≡_};
 ghost use mathlib.Core.Bool.{true};
 ghost use mathlib.Core.List.{[], _∷_};
 ghost use Rattle.logup.specs.Generation.{answer-of};
-ghost use Rattle.telling.specs.Generation.{shape-of};
 ghost use Rattle.rooms.specs.Rooms.{fits, all-fit};
-ghost use Rattle.byte_generation.specs.Permutation.{gives, on-decoded, on-bytes, tells, told};
+ghost use Rattle.byte_generation.specs.Permutation.{gives, on-decoded, on-bytes};
 
 // The lists are decoded into their rooms, and the trace buffer is encoded again.
 fn generate_fitting(
@@ -122,28 +117,28 @@ pub fn generate_bytes(
     ensures { λ r. ⌜ gives (answer-of r) (now (trace .exit)) (now («main_room» .exit) ∷ now («preprocessed_room» .exit) ∷ now («public_values_room» .exit) ∷ now («nodes_room» .exit) ∷ now («lookups_room» .exit) ∷ now («tuples_room» .exit) ∷ now («multiplicities_room» .exit) ∷ now («flags_room» .exit) ∷ now («elements_room» .exit) ∷ now («challenges_room» .exit) ∷ []) (now («trace_room» .exit)) ≡ on-bytes shape (now (names .entry)) (now (main .entry) ∷ now (preprocessed .entry) ∷ now («public_values» .entry) ∷ now (nodes .entry) ∷ now (lookups .entry) ∷ now (tuples .entry) ∷ now (multiplicities .entry) ∷ now (flags .entry) ∷ now (elements .entry) ∷ now (challenges .entry) ∷ []) (now («main_room» .entry) ∷ now («preprocessed_room» .entry) ∷ now («public_values_room» .entry) ∷ now («nodes_room» .entry) ∷ now («lookups_room» .entry) ∷ now («tuples_room» .entry) ∷ now («multiplicities_room» .entry) ∷ now («flags_room» .entry) ∷ now («elements_room» .entry) ∷ now («challenges_room» .entry) ∷ []) (now (trace .entry)) (now («trace_room» .entry)) ⌝ }
 {
     let fit = ten_fit(
-        main,
-        preprocessed,
-        public_values,
-        nodes,
-        lookups,
-        tuples,
-        multiplicities,
-        flags,
-        elements,
-        challenges,
-        main_room,
-        preprocessed_room,
-        public_values_room,
-        nodes_room,
-        lookups_room,
-        tuples_room,
-        multiplicities_room,
-        flags_room,
-        elements_room,
-        challenges_room,
+        main.len(),
+        preprocessed.len(),
+        public_values.len(),
+        nodes.len(),
+        lookups.len(),
+        tuples.len(),
+        multiplicities.len(),
+        flags.len(),
+        elements.len(),
+        challenges.len(),
+        main_room.len(),
+        preprocessed_room.len(),
+        public_values_room.len(),
+        nodes_room.len(),
+        lookups_room.len(),
+        tuples_room.len(),
+        multiplicities_room.len(),
+        flags_room.len(),
+        elements_room.len(),
+        challenges_room.len(),
     );
-    if fit & fits(trace, trace_room) {
+    if fit & fits(trace.len(), trace_room.len()) {
         generate_fitting(
             shape,
             main,
@@ -173,74 +168,4 @@ pub fn generate_bytes(
     } else {
         Generated::Refused(Refusal::SizeAtOdds)
     }
-}
-
-// The same with the answer as numbers: the number of the refusal is returned, 0 where there is none; its details and the terminal are written.
-pub fn generate_told(
-    main_width: usize,
-    height: usize,
-    pre_width: usize,
-    pre_height: usize,
-    main: &[u8],
-    preprocessed: &[u8],
-    public_values: &[u8],
-    nodes: &[u8],
-    lookups: &[u8],
-    names: &[u8],
-    tuples: &[u8],
-    multiplicities: &[u8],
-    flags: &[u8],
-    elements: &[u8],
-    challenges: &[u8],
-    trace: &mut [u8],
-    main_room: &mut [u32],
-    preprocessed_room: &mut [u32],
-    public_values_room: &mut [u32],
-    nodes_room: &mut [u32],
-    lookups_room: &mut [u32],
-    tuples_room: &mut [u32],
-    multiplicities_room: &mut [u32],
-    flags_room: &mut [u32],
-    elements_room: &mut [u32],
-    challenges_room: &mut [u32],
-    trace_room: &mut [u32],
-    terminal: &mut [u32; 5],
-    details_out: &mut [u64; 3],
-) -> u32
-    ensures { λ r. ⌜ tells r (now («details_out» .exit)) (now (terminal .exit)) (now (trace .exit)) (now («main_room» .exit) ∷ now («preprocessed_room» .exit) ∷ now («public_values_room» .exit) ∷ now («nodes_room» .exit) ∷ now («lookups_room» .exit) ∷ now («tuples_room» .exit) ∷ now («multiplicities_room» .exit) ∷ now («flags_room» .exit) ∷ now («elements_room» .exit) ∷ now («challenges_room» .exit) ∷ []) (now («trace_room» .exit)) ≡ told (on-bytes (shape-of «main_width» height «pre_width» «pre_height») (now (names .entry)) (now (main .entry) ∷ now (preprocessed .entry) ∷ now («public_values» .entry) ∷ now (nodes .entry) ∷ now (lookups .entry) ∷ now (tuples .entry) ∷ now (multiplicities .entry) ∷ now (flags .entry) ∷ now (elements .entry) ∷ now (challenges .entry) ∷ []) (now («main_room» .entry) ∷ now («preprocessed_room» .entry) ∷ now («public_values_room» .entry) ∷ now («nodes_room» .entry) ∷ now («lookups_room» .entry) ∷ now («tuples_room» .entry) ∷ now («multiplicities_room» .entry) ∷ now («flags_room» .entry) ∷ now («elements_room» .entry) ∷ now («challenges_room» .entry) ∷ []) (now (trace .entry)) (now («trace_room» .entry))) ⌝ }
-{
-    let g = generate_bytes(
-        Shape {
-            main_width,
-            height,
-            pre_width,
-            pre_height,
-        },
-        main,
-        preprocessed,
-        public_values,
-        nodes,
-        lookups,
-        names,
-        tuples,
-        multiplicities,
-        flags,
-        elements,
-        challenges,
-        trace,
-        main_room,
-        preprocessed_room,
-        public_values_room,
-        nodes_room,
-        lookups_room,
-        tuples_room,
-        multiplicities_room,
-        flags_room,
-        elements_room,
-        challenges_room,
-        trace_room,
-    );
-    write_terminal(g, terminal);
-    write_details(details(g), details_out);
-    number(g)
 }

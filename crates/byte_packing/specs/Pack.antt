@@ -1,79 +1,15 @@
 -- Packing for a caller that holds bytes: what is answered, and what stands in the lent bytes and rooms afterwards, for every input.
 use Prim.Native.Nat.{ℕ}
 use mathlib.Core.Bool.{cond, _&&_}
-use mathlib.Core.List.{List, [], _∷_, map}
-use Rattle.field.specs.Modulus.{babybear}
-use Rattle.expression.specs.Limits.{cabinet}
-use Rattle.expression.specs.Refusal.{answer-number, answer-details}
+use mathlib.Core.List.{List}
 use Rattle.expression.specs.declared.refusal.Refusal.the-variants.{SizeAtOdds}
-use Rattle.lookup.specs.Lookups.{Lookups, lent-lookups}
 use Rattle.lookup.specs.declared.entry.Columns.{Columns}
-use Rattle.packing.specs.Door.{Outcome, packing}
-use Rattle.packing.specs.declared.door.PackingAnswer.{PackingAnswer}
 use Rattle.packing.specs.declared.door.PackingAnswer.the-variants.{Refused}
-use Rattle.telling.specs.Packing.{packing-refused, packing-used}
-use Rattle.wire.specs.Wire.{words-of, bytes-of}
-use Rattle.rooms.specs.Rooms.{all-fit, list}
-
-pub record Given : Type 0 where
-  pub answer : PackingAnswer
-  -- the lists that packing writes: the names, and the bytes of the others
-  pub names : List ℕ
-  pub outputs : List (List ℕ)
-  -- the words in the rooms of the lists that it reads, and of those that it writes
-  pub rooms : List (List ℕ)
-  pub output-rooms : List (List ℕ)
-
-abbrev pub gives : PackingAnswer → List ℕ → List (List ℕ) → List (List ℕ) → List (List ℕ) → Given
-gives answer names outputs rooms output-rooms =
-    record { answer = answer; names = names; outputs = outputs; rooms = rooms; output-rooms = output-rooms }
-
--- the six lists that are read: nodes, lookups, tuples, multiplicities, flags, elements
-abbrev pub read-lookups : List ℕ → List (List ℕ) → Lookups
-read-lookups names lists = lent-lookups (list lists 1) names (list lists 2) (list lists 3) (list lists 4) (list lists 5)
-
--- the five that are written: lookups, tuples, multiplicities, flags, elements
-abbrev pub lent-outputs : List ℕ → List (List ℕ) → Lookups
-lent-outputs names outputs = lent-lookups (list outputs 0) names (list outputs 1) (list outputs 2) (list outputs 3) (list outputs 4)
-
-abbrev pub output-lists : Lookups → List (List ℕ)
-output-lists l = l .lookups ∷ l .tuples ∷ l .multiplicities ∷ l .flags ∷ l .elements ∷ []
-
--- packing on words
-abbrev pub on-words : ℕ → Columns → List ℕ → List (List ℕ) → List ℕ → List (List ℕ) → Outcome
-on-words limit columns names lists names-out outputs =
-    packing cabinet babybear limit columns (list lists 0) (read-lookups names lists) (lent-outputs names-out outputs)
-
--- what a packing's outcome says of the lent lists
-abbrev pub shown : Outcome → List (List ℕ) → Given
-shown o rooms = gives (o .answer) (o .lists .names) (map bytes-of (output-lists (o .lists))) rooms (output-lists (o .lists))
-
--- packing on the decoded words; what is written as bytes
-abbrev pub on-decoded : ℕ → Columns → List ℕ → List (List ℕ) → List ℕ → List (List ℕ) → Given
-on-decoded limit columns names lists names-out outputs =
-    shown (on-words limit columns names (map words-of lists) names-out (map words-of outputs)) (map words-of lists)
+use Rattle.rooms.specs.Rooms.{all-fit}
+use Rattle.decoded_packing.specs.Pack.{Given, gives, on-decoded}
 
 -- refusal 1, and nothing is written, where bytes are not whole words or a room has another number of words
 unfoldable pub on-bytes : ℕ → Columns → List ℕ → List (List ℕ) → List (List ℕ) → List ℕ → List (List ℕ) → List (List ℕ) → Given
 on-bytes limit columns names lists rooms names-out outputs output-rooms =
     cond (all-fit lists rooms && all-fit outputs output-rooms) (on-decoded limit columns names lists names-out outputs)
     (gives (Refused SizeAtOdds) names-out outputs rooms output-rooms)
-
--- the same with the answer as numbers
-pub record Told : Type 0 where
-  pub number : ℕ
-  pub details : List ℕ
-  pub used : List ℕ
-  pub names : List ℕ
-  pub outputs : List (List ℕ)
-  pub rooms : List (List ℕ)
-  pub output-rooms : List (List ℕ)
-
-abbrev pub tells : ℕ → List ℕ → List ℕ → List ℕ → List (List ℕ) → List (List ℕ) → List (List ℕ) → Told
-tells number details used names outputs rooms output-rooms =
-    record { number = number; details = details; used = used; names = names; outputs = outputs; rooms = rooms; output-rooms = output-rooms }
-
-abbrev pub told : Given → Told
-told g =
-    tells (answer-number (packing-refused (g .answer))) (answer-details (packing-refused (g .answer))) (packing-used (g .answer)) (g .names)
-    (g .outputs) (g .rooms) (g .output-rooms)

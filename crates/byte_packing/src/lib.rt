@@ -1,4 +1,2 @@
 // Packing for callers that hold bytes: words of four bytes, the least byte first, decoded into rooms that the caller lends.
-pub mod five;
 pub mod pack;
-pub mod six;

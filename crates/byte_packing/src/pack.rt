@@ -1,112 +1,14 @@
 // Packing for callers that hold bytes.
-use crate::five::fill_five;
-use crate::five::five_fit;
-use crate::five::give_back_five;
-use crate::six::fill_six;
-use crate::six::six_fit;
+use decoded_packing::pack::pack_fitting;
 use expression::refusal::Refusal;
 use lookup::entry::Columns;
-use packer::door::pack_same_bus;
 use packing::door::PackingAnswer;
-use telling::answer::tell;
-use telling::packed::packing_verdict;
-use telling::packed::write_used;
+use packing_rooms::five::five_fit;
+use packing_rooms::six::six_fit;
 ghost use mathlib.Core.Path.{_≡_};
-ghost use mathlib.Core.Bool.{true};
 ghost use mathlib.Core.List.{[], _∷_};
-ghost use Rattle.rooms.specs.Rooms.{all-fit};
-ghost use Rattle.telling.specs.Types.{columns-of};
-ghost use Rattle.byte_packing.specs.Pack.{gives, on-decoded, on-bytes, tells, told};
-
-// The lists are decoded into their rooms, and the lists that packing writes are encoded again.
-fn pack_fitting(
-    limit: u64,
-    columns: Columns,
-    nodes: &[u8],
-    lookups: &[u8],
-    names: &[u8],
-    tuples: &[u8],
-    multiplicities: &[u8],
-    flags: &[u8],
-    elements: &[u8],
-    lookups_out: &mut [u8],
-    names_out: &mut [u8],
-    tuples_out: &mut [u8],
-    multiplicities_out: &mut [u8],
-    flags_out: &mut [u8],
-    elements_out: &mut [u8],
-    nodes_room: &mut [u32],
-    lookups_room: &mut [u32],
-    tuples_room: &mut [u32],
-    multiplicities_room: &mut [u32],
-    flags_room: &mut [u32],
-    elements_room: &mut [u32],
-    lookups_out_room: &mut [u32],
-    tuples_out_room: &mut [u32],
-    multiplicities_out_room: &mut [u32],
-    flags_out_room: &mut [u32],
-    elements_out_room: &mut [u32],
-) -> PackingAnswer
-    requires { ⌜ (all-fit (now nodes ∷ now lookups ∷ now tuples ∷ now multiplicities ∷ now flags ∷ now elements ∷ []) (now «nodes_room» ∷ now «lookups_room» ∷ now «tuples_room» ∷ now «multiplicities_room» ∷ now «flags_room» ∷ now «elements_room» ∷ []) ≡ true) × (all-fit (now «lookups_out» ∷ now «tuples_out» ∷ now «multiplicities_out» ∷ now «flags_out» ∷ now «elements_out» ∷ []) (now «lookups_out_room» ∷ now «tuples_out_room» ∷ now «multiplicities_out_room» ∷ now «flags_out_room» ∷ now «elements_out_room» ∷ []) ≡ true) ⌝ }
-    ensures { λ r. ⌜ gives r (now («names_out» .exit)) (now («lookups_out» .exit) ∷ now («tuples_out» .exit) ∷ now («multiplicities_out» .exit) ∷ now («flags_out» .exit) ∷ now («elements_out» .exit) ∷ []) (now («nodes_room» .exit) ∷ now («lookups_room» .exit) ∷ now («tuples_room» .exit) ∷ now («multiplicities_room» .exit) ∷ now («flags_room» .exit) ∷ now («elements_room» .exit) ∷ []) (now («lookups_out_room» .exit) ∷ now («tuples_out_room» .exit) ∷ now («multiplicities_out_room» .exit) ∷ now («flags_out_room» .exit) ∷ now («elements_out_room» .exit) ∷ []) ≡ on-decoded limit columns (now (names .entry)) (now (nodes .entry) ∷ now (lookups .entry) ∷ now (tuples .entry) ∷ now (multiplicities .entry) ∷ now (flags .entry) ∷ now (elements .entry) ∷ []) (now («names_out» .entry)) (now («lookups_out» .entry) ∷ now («tuples_out» .entry) ∷ now («multiplicities_out» .entry) ∷ now («flags_out» .entry) ∷ now («elements_out» .entry) ∷ []) ⌝ }
-{
-    fill_six(
-        nodes,
-        lookups,
-        tuples,
-        multiplicities,
-        flags,
-        elements,
-        nodes_room,
-        lookups_room,
-        tuples_room,
-        multiplicities_room,
-        flags_room,
-        elements_room,
-    );
-    fill_five(
-        lookups_out,
-        tuples_out,
-        multiplicities_out,
-        flags_out,
-        elements_out,
-        lookups_out_room,
-        tuples_out_room,
-        multiplicities_out_room,
-        flags_out_room,
-        elements_out_room,
-    );
-    let a = pack_same_bus(
-        limit,
-        columns,
-        nodes_room,
-        lookups_room,
-        names,
-        tuples_room,
-        multiplicities_room,
-        flags_room,
-        elements_room,
-        lookups_out_room,
-        names_out,
-        tuples_out_room,
-        multiplicities_out_room,
-        flags_out_room,
-        elements_out_room,
-    );
-    give_back_five(
-        lookups_out_room,
-        tuples_out_room,
-        multiplicities_out_room,
-        flags_out_room,
-        elements_out_room,
-        lookups_out,
-        tuples_out,
-        multiplicities_out,
-        flags_out,
-        elements_out,
-    );
-    a
-}
+ghost use Rattle.decoded_packing.specs.Pack.{gives};
+ghost use Rattle.byte_packing.specs.Pack.{on-bytes};
 
 // `pack_same_bus` on bytes: words of four bytes, the least byte first.
 pub fn pack_bytes(
@@ -140,30 +42,30 @@ pub fn pack_bytes(
     ensures { λ r. ⌜ gives r (now («names_out» .exit)) (now («lookups_out» .exit) ∷ now («tuples_out» .exit) ∷ now («multiplicities_out» .exit) ∷ now («flags_out» .exit) ∷ now («elements_out» .exit) ∷ []) (now («nodes_room» .exit) ∷ now («lookups_room» .exit) ∷ now («tuples_room» .exit) ∷ now («multiplicities_room» .exit) ∷ now («flags_room» .exit) ∷ now («elements_room» .exit) ∷ []) (now («lookups_out_room» .exit) ∷ now («tuples_out_room» .exit) ∷ now («multiplicities_out_room» .exit) ∷ now («flags_out_room» .exit) ∷ now («elements_out_room» .exit) ∷ []) ≡ on-bytes limit columns (now (names .entry)) (now (nodes .entry) ∷ now (lookups .entry) ∷ now (tuples .entry) ∷ now (multiplicities .entry) ∷ now (flags .entry) ∷ now (elements .entry) ∷ []) (now («nodes_room» .entry) ∷ now («lookups_room» .entry) ∷ now («tuples_room» .entry) ∷ now («multiplicities_room» .entry) ∷ now («flags_room» .entry) ∷ now («elements_room» .entry) ∷ []) (now («names_out» .entry)) (now («lookups_out» .entry) ∷ now («tuples_out» .entry) ∷ now («multiplicities_out» .entry) ∷ now («flags_out» .entry) ∷ now («elements_out» .entry) ∷ []) (now («lookups_out_room» .entry) ∷ now («tuples_out_room» .entry) ∷ now («multiplicities_out_room» .entry) ∷ now («flags_out_room» .entry) ∷ now («elements_out_room» .entry) ∷ []) ⌝ }
 {
     let fit = six_fit(
-        nodes,
-        lookups,
-        tuples,
-        multiplicities,
-        flags,
-        elements,
-        nodes_room,
-        lookups_room,
-        tuples_room,
-        multiplicities_room,
-        flags_room,
-        elements_room,
+        nodes.len(),
+        lookups.len(),
+        tuples.len(),
+        multiplicities.len(),
+        flags.len(),
+        elements.len(),
+        nodes_room.len(),
+        lookups_room.len(),
+        tuples_room.len(),
+        multiplicities_room.len(),
+        flags_room.len(),
+        elements_room.len(),
     );
     let out_fit = five_fit(
-        lookups_out,
-        tuples_out,
-        multiplicities_out,
-        flags_out,
-        elements_out,
-        lookups_out_room,
-        tuples_out_room,
-        multiplicities_out_room,
-        flags_out_room,
-        elements_out_room,
+        lookups_out.len(),
+        tuples_out.len(),
+        multiplicities_out.len(),
+        flags_out.len(),
+        elements_out.len(),
+        lookups_out_room.len(),
+        tuples_out_room.len(),
+        multiplicities_out_room.len(),
+        flags_out_room.len(),
+        elements_out_room.len(),
     );
     if fit & out_fit {
         pack_fitting(
@@ -197,76 +99,4 @@ pub fn pack_bytes(
     } else {
         PackingAnswer::Refused(Refusal::SizeAtOdds)
     }
-}
-
-// The same with the answer as numbers: the number of the refusal is returned, 0 where there is none; its details are written, and how many words,
-// or bytes of names, of each list were written.
-pub fn pack_told(
-    limit: u64,
-    main_width: usize,
-    pre_width: usize,
-    public_values: usize,
-    nodes: &[u8],
-    lookups: &[u8],
-    names: &[u8],
-    tuples: &[u8],
-    multiplicities: &[u8],
-    flags: &[u8],
-    elements: &[u8],
-    lookups_out: &mut [u8],
-    names_out: &mut [u8],
-    tuples_out: &mut [u8],
-    multiplicities_out: &mut [u8],
-    flags_out: &mut [u8],
-    elements_out: &mut [u8],
-    nodes_room: &mut [u32],
-    lookups_room: &mut [u32],
-    tuples_room: &mut [u32],
-    multiplicities_room: &mut [u32],
-    flags_room: &mut [u32],
-    elements_room: &mut [u32],
-    lookups_out_room: &mut [u32],
-    tuples_out_room: &mut [u32],
-    multiplicities_out_room: &mut [u32],
-    flags_out_room: &mut [u32],
-    elements_out_room: &mut [u32],
-    used: &mut [u64; 6],
-    details: &mut [u64; 3],
-) -> u32
-    ensures { λ r. ⌜ tells r (now (details .exit)) (now (used .exit)) (now («names_out» .exit)) (now («lookups_out» .exit) ∷ now («tuples_out» .exit) ∷ now («multiplicities_out» .exit) ∷ now («flags_out» .exit) ∷ now («elements_out» .exit) ∷ []) (now («nodes_room» .exit) ∷ now («lookups_room» .exit) ∷ now («tuples_room» .exit) ∷ now («multiplicities_room» .exit) ∷ now («flags_room» .exit) ∷ now («elements_room» .exit) ∷ []) (now («lookups_out_room» .exit) ∷ now («tuples_out_room» .exit) ∷ now («multiplicities_out_room» .exit) ∷ now («flags_out_room» .exit) ∷ now («elements_out_room» .exit) ∷ []) ≡ told (on-bytes limit (columns-of «main_width» «pre_width» «public_values») (now (names .entry)) (now (nodes .entry) ∷ now (lookups .entry) ∷ now (tuples .entry) ∷ now (multiplicities .entry) ∷ now (flags .entry) ∷ now (elements .entry) ∷ []) (now («nodes_room» .entry) ∷ now («lookups_room» .entry) ∷ now («tuples_room» .entry) ∷ now («multiplicities_room» .entry) ∷ now («flags_room» .entry) ∷ now («elements_room» .entry) ∷ []) (now («names_out» .entry)) (now («lookups_out» .entry) ∷ now («tuples_out» .entry) ∷ now («multiplicities_out» .entry) ∷ now («flags_out» .entry) ∷ now («elements_out» .entry) ∷ []) (now («lookups_out_room» .entry) ∷ now («tuples_out_room» .entry) ∷ now («multiplicities_out_room» .entry) ∷ now («flags_out_room» .entry) ∷ now («elements_out_room» .entry) ∷ [])) ⌝ }
-{
-    let a = pack_bytes(
-        limit,
-        Columns {
-            main: main_width,
-            preprocessed: pre_width,
-            public_values,
-        },
-        nodes,
-        lookups,
-        names,
-        tuples,
-        multiplicities,
-        flags,
-        elements,
-        lookups_out,
-        names_out,
-        tuples_out,
-        multiplicities_out,
-        flags_out,
-        elements_out,
-        nodes_room,
-        lookups_room,
-        tuples_room,
-        multiplicities_room,
-        flags_room,
-        elements_room,
-        lookups_out_room,
-        tuples_out_room,
-        multiplicities_out_room,
-        flags_out_room,
-        elements_out_room,
-    );
-    write_used(a, used);
-    tell(packing_verdict(a), details)
 }

@@ -1,7 +1,6 @@
-// Functions for other languages: numbers and slices of words or bytes in, a refusal's number and details out. Each forwards to an entry.
+// Functions for other languages: numbers and slices of words in, a refusal's number and details out. Each forwards to an entry.
 pub mod balancing;
 pub mod build;
-pub mod byte_slices;
 pub mod element;
 pub mod eval;
 pub mod pack;

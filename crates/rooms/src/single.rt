@@ -6,13 +6,13 @@ ghost use mathlib.Core.Bool.{true};
 ghost use Prim.Native.Nat.{_*_};
 ghost use lib.ListN.{length};
 ghost use Rattle.wire.specs.Wire.{words-of, bytes-of};
-ghost use Rattle.rooms.specs.Rooms.{fits};
+ghost use Rattle.rooms.specs.Rooms.{size-fits, fits};
 
-// The bytes are whole words, and the room has as many words.
-pub fn fits(bytes: &[u8], room: &[u32]) -> bool
-    ensures { λ r. ⌜ r ≡ fits (now (bytes .entry)) (now (room .entry)) ⌝ }
+// So many bytes are whole words, and a room of so many words has as many: sizes alone, so that nothing is lent for the test.
+pub fn fits(bytes: usize, room: usize) -> bool
+    ensures { λ r. ⌜ r ≡ size-fits bytes room ⌝ }
 {
-    (bytes.len() % 4 == 0) & (bytes.len() / 4 == room.len())
+    (bytes % 4 == 0) & (bytes / 4 == room)
 }
 
 // The words of the bytes fill their room.

@@ -5,32 +5,32 @@ ghost use mathlib.Core.Path.{_≡_};
 ghost use mathlib.Core.Bool.{true};
 ghost use mathlib.Core.List.{[], _∷_, map};
 ghost use Rattle.wire.specs.Wire.{words-of};
-ghost use Rattle.rooms.specs.Rooms.{all-fit};
+ghost use Rattle.rooms.specs.Rooms.{sizes-fit, all-fit};
 
-// Each list fits its room.
+// Each list fits its room: how many bytes each has, and how many words each room.
 pub fn ten_fit(
-    main: &[u8],
-    preprocessed: &[u8],
-    public_values: &[u8],
-    nodes: &[u8],
-    lookups: &[u8],
-    tuples: &[u8],
-    multiplicities: &[u8],
-    flags: &[u8],
-    elements: &[u8],
-    last: &[u8],
-    main_room: &[u32],
-    preprocessed_room: &[u32],
-    public_values_room: &[u32],
-    nodes_room: &[u32],
-    lookups_room: &[u32],
-    tuples_room: &[u32],
-    multiplicities_room: &[u32],
-    flags_room: &[u32],
-    elements_room: &[u32],
-    last_room: &[u32],
+    main: usize,
+    preprocessed: usize,
+    public_values: usize,
+    nodes: usize,
+    lookups: usize,
+    tuples: usize,
+    multiplicities: usize,
+    flags: usize,
+    elements: usize,
+    last: usize,
+    main_room: usize,
+    preprocessed_room: usize,
+    public_values_room: usize,
+    nodes_room: usize,
+    lookups_room: usize,
+    tuples_room: usize,
+    multiplicities_room: usize,
+    flags_room: usize,
+    elements_room: usize,
+    last_room: usize,
 ) -> bool
-    ensures { λ r. ⌜ r ≡ all-fit (now (main .entry) ∷ now (preprocessed .entry) ∷ now («public_values» .entry) ∷ now (nodes .entry) ∷ now (lookups .entry) ∷ now (tuples .entry) ∷ now (multiplicities .entry) ∷ now (flags .entry) ∷ now (elements .entry) ∷ now (last .entry) ∷ []) (now («main_room» .entry) ∷ now («preprocessed_room» .entry) ∷ now («public_values_room» .entry) ∷ now («nodes_room» .entry) ∷ now («lookups_room» .entry) ∷ now («tuples_room» .entry) ∷ now («multiplicities_room» .entry) ∷ now («flags_room» .entry) ∷ now («elements_room» .entry) ∷ now («last_room» .entry) ∷ []) ⌝ }
+    ensures { λ r. ⌜ r ≡ sizes-fit (main ∷ preprocessed ∷ «public_values» ∷ nodes ∷ lookups ∷ tuples ∷ multiplicities ∷ flags ∷ elements ∷ last ∷ []) («main_room» ∷ «preprocessed_room» ∷ «public_values_room» ∷ «nodes_room» ∷ «lookups_room» ∷ «tuples_room» ∷ «multiplicities_room» ∷ «flags_room» ∷ «elements_room» ∷ «last_room» ∷ []) ⌝ }
 {
     fits(main, main_room)
         & (fits(preprocessed, preprocessed_room)

@@ -4,13 +4,12 @@ use mathlib.Core.Path.{_≡_, ap, ap₂, _∙_}
 use mathlib.Core.Bool.{true, false, _&&_}
 use mathlib.Core.Option.{Option, some}
 use mathlib.Core.List.{List, map}
-use Rattle.expression.specs.Refusal.{answer-number, answer-details}
 use Rattle.expression.specs.declared.refusal.Refusal.{Refusal}
 use Rattle.expression.specs.declared.refusal.Refusal.the-variants.{SizeAtOdds}
 use Rattle.balance.specs.Balance.{Outcome}
 use Rattle.wire.specs.Wire.{words-of, bytes-of}
 use Rattle.rooms.specs.Rooms.{fits, all-fit}
-use Rattle.byte_balance.specs.Balancing.{Given, gives, on-words, on-decoded, on-bytes, tells, told}
+use Rattle.byte_balance.specs.Balancing.{gives, on-words, on-decoded, on-bytes}
 
 -- as the code computes it: the lists' words in their rooms, the workspace's in its own
 pub decoded-gives : {answer : Option Refusal} {workspace-after room-after words : List ℕ} {rooms : List (List ℕ)} (names : List ℕ) (lists : List (List ℕ)) (workspace : List ℕ)
@@ -32,9 +31,3 @@ module _ (names : List ℕ) (lists rooms : List (List ℕ)) (workspace room : Li
   pub bytes-odd : (all-fit lists rooms && fits workspace room) ≡ false → on-bytes names lists rooms workspace room ≡ gives (some SizeAtOdds) workspace rooms room
   unfolding on-bytes
   bytes-odd e = rw e
-
--- the answer as numbers
-pub told-gives : {answer : Option Refusal} {workspace room : List ℕ} {rooms : List (List ℕ)} {given : Given} {number : ℕ} {details : List ℕ}
-    → gives answer workspace rooms room ≡ given → number ≡ answer-number answer → details ≡ answer-details answer
-    → tells number details workspace rooms room ≡ told given
-told-gives {answer} {workspace} {room} {rooms} {given} {number} {details} e n d = (λ i. tells (n i) (d i) workspace rooms room) ∙ ap told e

@@ -8,8 +8,7 @@ use Rattle.expression.specs.declared.refusal.Refusal.the-variants.{SizeAtOdds}
 use Rattle.logup.specs.Generation.{Answer, refused, Outcome}
 use Rattle.wire.specs.Wire.{words-of, bytes-of}
 use Rattle.rooms.specs.Rooms.{fits, all-fit}
-use Rattle.telling.specs.Generation.{answer-number, answer-details, answer-terminal}
-use Rattle.byte_generation.specs.Permutation.{Given, gives, on-words, on-decoded, on-bytes, tells, told}
+use Rattle.byte_generation.specs.Permutation.{gives, on-words, on-decoded, on-bytes}
 
 -- as the code computes it: the lists' words in their rooms, the trace's in its own
 pub decoded-gives : {answer : Answer} {trace-after room-after words : List ℕ} {rooms : List (List ℕ)} (shape : Shape) (names : List ℕ) (lists : List (List ℕ)) (trace : List ℕ)
@@ -31,10 +30,3 @@ module _ (shape : Shape) (names : List ℕ) (lists rooms : List (List ℕ)) (tra
   pub bytes-odd : (all-fit lists rooms && fits trace room) ≡ false → on-bytes shape names lists rooms trace room ≡ gives (refused SizeAtOdds) trace rooms room
   unfolding on-bytes
   bytes-odd e = rw e
-
--- the answer as numbers
-pub told-gives : {answer : Answer} {trace room : List ℕ} {rooms : List (List ℕ)} {given : Given} {number : ℕ} {details terminal : List ℕ}
-    → gives answer trace rooms room ≡ given → number ≡ answer-number answer → details ≡ answer-details answer → terminal ≡ answer-terminal answer
-    → tells number details terminal trace rooms room ≡ told given
-told-gives {answer} {trace} {room} {rooms} {given} {number} {details} {terminal} e n d t =
-    (λ i. tells (n i) (d i) (t i) trace rooms room) ∙ ap told e

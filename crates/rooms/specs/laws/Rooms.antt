@@ -9,21 +9,21 @@ use lib.ListN.{length, drop}
 use borrow.Author.Tests.{eqb-true}
 use Rattle.lists.specs.laws.Tests.{both-left, both-right}
 use Rattle.wire.specs.Wire.{words-of, bytes-of}
-use Rattle.rooms.specs.Rooms.{fits, all-fit, list}
+use Rattle.rooms.specs.Rooms.{size-fits, sizes-fit, fits, all-fit, list}
 
 pub fits-words : (bytes room : List ℕ) → fits bytes room ≡ true → length bytes / 4 ≡ length room
-unfolding fits
+unfolding fits size-fits
 fits-words bytes room e = eqb-true (length bytes / 4) (length room) (both-right (eqb (length bytes % 4) 0) (eqb (length bytes / 4) (length room)) e)
 
 pub fits-whole : (bytes room : List ℕ) → fits bytes room ≡ true → length bytes ≡ 4 * length room
-unfolding fits
+unfolding fits size-fits
 fits-whole bytes room e =
     let whole : length bytes % 4 ≡ 0 = eqb-true (length bytes % 4) 0 (both-left (eqb (length bytes % 4) 0) (eqb (length bytes / 4) (length room)) e) in
     omega (arith, fits-words bytes room e, whole)
 
 -- each list fits
 pub fit-at : (lists rooms : List (List ℕ)) (k : ℕ) → all-fit lists rooms ≡ true → k < length lists → fits (list lists k) (list rooms k) ≡ true
-unfolding all-fit
+unfolding fits all-fit sizes-fit
 fit-at [] rooms k e l = absurd (omega arith)
 fit-at (b ∷ lists) [] k e l = absurd (true≢false (sym e))
 fit-at (b ∷ lists) (r ∷ rooms) zero e l = both-left (fits b r) (all-fit lists rooms) e

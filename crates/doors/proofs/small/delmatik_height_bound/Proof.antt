@@ -1,3 +1,5 @@
+use mathlib.Core.Path.{ap, _∙_}
+use Rattle.expression.specs.Refusal.{answer-number, answer-details}
 use borrow.Author.Needs.{needs}
 use Rattle.doors.proofs.small.delmatik_height_bound.Statement.{statement}
 use Rattle.doors.proofs.small.delmatik_height_bound.Tie as tie
@@ -9,7 +11,7 @@ tell-requires : tie.Need-tell-requires
 tell-requires c κs = search needs
 
 returns : tie.Need-returns
-returns c = (cc, cc)
+returns c = (c .tell .ensures .0 ∙ ap answer-number (c .before .before .check-multiplicity-height-bound .ensures), c .tell .ensures .1 ∙ ap answer-details (c .before .before .check-multiplicity-height-bound .ensures))
 
 pub delmatik-height-bound-spec : {M : Type 1} → statement M
 delmatik-height-bound-spec =

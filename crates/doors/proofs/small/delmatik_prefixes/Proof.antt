@@ -1,3 +1,5 @@
+use mathlib.Core.Path.{ap, _∙_}
+use Rattle.expression.specs.Refusal.{answer-number, answer-details}
 use borrow.Author.Needs.{needs}
 use Rattle.doors.proofs.small.delmatik_prefixes.Statement.{statement}
 use Rattle.doors.proofs.small.delmatik_prefixes.Tie as tie
@@ -12,7 +14,11 @@ same-length : tie.Need-same-length
 same-length c = search needs
 
 returns : tie.Need-returns
-returns c = (cc, cc, cc)
+returns c = (
+  c .tell .ensures .0 ∙ ap answer-number (c .before .before .before .before .new .ensures .0),
+  c .tell .ensures .1 ∙ ap answer-details (c .before .before .before .before .new .ensures .0),
+  cc,
+)
 
 pub delmatik-prefixes-spec : {M : Type 1} → statement M
 delmatik-prefixes-spec = tie.close (tie.spec new-requires tell-requires same-length returns)

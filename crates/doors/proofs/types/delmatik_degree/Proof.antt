@@ -1,3 +1,8 @@
+use Prim.Native.Nat.{ℕ}
+use mathlib.Core.List.{[], _∷_}
+use mathlib.Core.Path.{ap, _∙_}
+use Rattle.expression.specs.Refusal.{answer-number, answer-details}
+use Rattle.telling.specs.Types.{degree-refused, degree-value}
 use borrow.Author.Needs.{needs}
 use Rattle.doors.proofs.types.delmatik_degree.Statement.{statement}
 use Rattle.doors.proofs.types.delmatik_degree.Tie as tie
@@ -18,7 +23,11 @@ tell-requires : tie.Need-tell-requires
 tell-requires c κs = search needs
 
 returns : tie.Need-returns
-returns c = (cc, cc, cc)
+returns c = (
+  c .tell .ensures .0 ∙ ap answer-number (c .before .before .degree-verdict .ensures ∙ ap degree-refused (c .before .before .before .before .before .before .constraint-degree .ensures)),
+  c .tell .ensures .1 ∙ ap answer-details (c .before .before .degree-verdict .ensures ∙ ap degree-refused (c .before .before .before .before .before .before .constraint-degree .ensures)),
+  c .before .before .before .write-value .ensures ∙ ap (λ (n : ℕ). n ∷ []) (c .before .before .before .before .before .degree-value .ensures ∙ ap degree-value (c .before .before .before .before .before .before .constraint-degree .ensures)),
+)
 
 pub delmatik-degree-spec : {M : Type 1} → statement M
 delmatik-degree-spec =

@@ -1,3 +1,8 @@
+use Prim.Native.Nat.{ℕ}
+use mathlib.Core.List.{[], _∷_}
+use mathlib.Core.Path.{ap, _∙_}
+use Rattle.expression.specs.Refusal.{answer-number, answer-details}
+use Rattle.telling.specs.Types.{widths-refused, widest-value}
 use borrow.Author.Needs.{needs}
 use Rattle.doors.proofs.types.delmatik_widths.Statement.{statement}
 use Rattle.doors.proofs.types.delmatik_widths.Tie as tie
@@ -18,7 +23,11 @@ tell-requires : tie.Need-tell-requires
 tell-requires c κs = search needs
 
 returns : tie.Need-returns
-returns c = (cc, cc, cc)
+returns c = (
+  c .tell .ensures .0 ∙ ap answer-number (c .before .before .widths-verdict .ensures ∙ ap widths-refused (c .before .before .before .before .before .before .check-bus-widths .ensures)),
+  c .tell .ensures .1 ∙ ap answer-details (c .before .before .widths-verdict .ensures ∙ ap widths-refused (c .before .before .before .before .before .before .check-bus-widths .ensures)),
+  c .before .before .before .write-value .ensures ∙ ap (λ (n : ℕ). n ∷ []) (c .before .before .before .before .before .widest-value .ensures ∙ ap widest-value (c .before .before .before .before .before .before .check-bus-widths .ensures)),
+)
 
 pub delmatik-widths-spec : {M : Type 1} → statement M
 delmatik-widths-spec =

@@ -1,4 +1,4 @@
-use Rattle.rooms.specs.Rooms.{all-fit}
+use Rattle.rooms.specs.Rooms.{sizes-fit}
 use Rattle.rooms.specs.laws.Rooms.{and-true}
 use borrow.Author.Needs.{needs}
 use Rattle.rooms.proofs.ten.ten_fit.Statement.{statement}
@@ -35,7 +35,7 @@ fits-requires-10 : tie.Need-fits-requires-10
 fits-requires-10 c κs = search needs
 
 returns : tie.Need-returns
-unfolding all-fit
+unfolding sizes-fit
 returns c = rw (c .before .before .before .before .before .before .before .before .before .fits2 .ensures, c .before .before .before .before .before .before .before .before .fits3 .ensures, c .before .before .before .before .before .before .before .fits4 .ensures, c .before .before .before .before .before .before .fits5 .ensures, c .before .before .before .before .before .fits6 .ensures, c .before .before .before .before .fits7 .ensures, c .before .before .before .fits8 .ensures, c .before .before .fits9 .ensures, c .before .fits10 .ensures, c .fits11 .ensures, and-true)
 
 pub ten-fit-spec : {M : Type 1} → statement M

@@ -1,0 +1,4 @@
+pub mod Balancing
+pub mod Pack
+pub mod Permutation
+pub mod laws

@@ -1,0 +1,3 @@
+pub mod Balancing
+pub mod Pack
+pub mod Permutation

@@ -1,0 +1,2 @@
+// Packing on lists of bytes that fit their rooms.
+pub mod pack;
