@@ -66,7 +66,3 @@ tabling-ends {sizes} {m} {n} {t} r h =
     let e : t ≡ n = omega (arith, r .within) in
     let z : n - t ≡ 0 = omega arith in
     sym e ∙ ap (table-from sizes m t) (sym z) ∙ r .rest
-
--- so many units of words
-pub units-small : (u x b : ℕ) → u ≤ 8 → x ≤ b → u * x ≤ 8 * b
-units-small u x b h g = native.Mathlib.Nat.mul-le-mul h g

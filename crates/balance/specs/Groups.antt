@@ -3,9 +3,10 @@
 use Prim.Native.Nat.{ℕ}
 use mathlib.Core.Bool.{Bool, false, cond, not, _&&_, _||_}
 use mathlib.Core.List.{List, [], _∷_, _++_, map, flatMap}
+use Rattle.lists.specs.Same.{same-list}
 use Rattle.lookup.specs.Lookups.{Lookup, lookups-of}
 use Rattle.lookup.specs.Table.{Table}
-use Rattle.widths.specs.Order.{keep, same}
+use Rattle.widths.specs.Order.{keep}
 
 -- a lookup and its table
 pub record Member : Type 0 where
@@ -21,7 +22,7 @@ local m = m .lookup .local
 
 -- two lookups on one bus
 unfoldable pub same-bus : Member → Member → Bool
-same-bus m n = not (local m) && (not (local n) && same (m .lookup .name) (n .lookup .name))
+same-bus m n = not (local m) && (not (local n) && same-list (m .lookup .name) (n .lookup .name))
 
 -- whether one of them is on the bus of m
 unfoldable pub appears : Member → List Member → Bool

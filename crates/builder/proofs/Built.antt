@@ -8,6 +8,7 @@ use lib.ListN.{length, set}
 use borrow.Author.Tests.{lt-ltb, le-ltb}
 use Rattle.lists.specs.Count.{total}
 use Rattle.lists.specs.laws.Count.{total-in}
+use Rattle.lists.specs.laws.Writing.{eight-set}
 use Rattle.expression.specs.Words.{word}
 use Rattle.degree.specs.Sums.{greatest}
 use Rattle.building.specs.Building.{interaction-count, name-bytes, tuple-number, first-tuple, is-local, is-exclusive, weight-sum, weight-top, built-weight, built-words}
@@ -29,20 +30,6 @@ module _ (k : Kinds) (interactions weights : List ℕ) (i : ℕ) where
       → w ≡ built-weight k interactions weights i
   unfolding built-weight weight-top
   weight-other h es en ew = rw (le-ltb i (k .locals) h, ← es, ← en) ew
-
--- eight stores into eight words
-eight-set : (l : List ℕ) (a b c d e f g h : ℕ) → length l ≡ 8
-    → set (set (set (set (set (set (set (set l 0 a) 1 b) 2 c) 3 d) 4 e) 5 f) 6 g) 7 h ≡ a ∷ b ∷ c ∷ d ∷ e ∷ f ∷ g ∷ h ∷ []
-eight-set [] a b c d e f g h z = absurd (omega arith)
-eight-set (_ ∷ []) a b c d e f g h z = absurd (omega arith)
-eight-set (_ ∷ _ ∷ []) a b c d e f g h z = absurd (omega arith)
-eight-set (_ ∷ _ ∷ _ ∷ []) a b c d e f g h z = absurd (omega arith)
-eight-set (_ ∷ _ ∷ _ ∷ _ ∷ []) a b c d e f g h z = absurd (omega arith)
-eight-set (_ ∷ _ ∷ _ ∷ _ ∷ _ ∷ []) a b c d e f g h z = absurd (omega arith)
-eight-set (_ ∷ _ ∷ _ ∷ _ ∷ _ ∷ _ ∷ []) a b c d e f g h z = absurd (omega arith)
-eight-set (_ ∷ _ ∷ _ ∷ _ ∷ _ ∷ _ ∷ _ ∷ []) a b c d e f g h z = absurd (omega arith)
-eight-set (_ ∷ _ ∷ _ ∷ _ ∷ _ ∷ _ ∷ _ ∷ _ ∷ []) a b c d e f g h z = refl
-eight-set (_ ∷ _ ∷ _ ∷ _ ∷ _ ∷ _ ∷ _ ∷ _ ∷ _ ∷ l) a b c d e f g h z = absurd (omega arith)
 
 pub words-eight : (k : Kinds) (interactions weights : List ℕ) (i : ℕ) → length (built-words k interactions weights i) ≡ 8
 unfolding built-words

@@ -1,37 +1,21 @@
 -- The first refusal of the locals.
-use mathlib.Core.Path.{_≡_, refl, sym, ap, ap₂, _∙_}
+use mathlib.Core.Path.{_≡_, refl, sym, ap, _∙_}
 use mathlib.Core.Bool.{true, false, not}
 use mathlib.Core.Option.{Option, none, some}
 use mathlib.Core.List.{List}
-use Prim.Native.Nat.{ℕ, _+_, _<_, _≤_, zero-le}
+use Prim.Native.Nat.{ℕ, _+_, _<_, _≤_}
 use native.Mathlib.Omega.{arith}
 use native.Mathlib.Nat.{add-zero}
 use lib.Dec.{ltb}
 use lib.ListN.{length}
 use borrow.Author.Tests.{ltb-true, ltb-false, not-true, not-false}
-use Rattle.lists.specs.Count.{first, or-else}
-use Rattle.lists.specs.laws.Count.{first-one, total-in}
+use Rattle.lists.specs.Count.{first}
+use Rattle.lists.specs.laws.Count.{total-in}
 use Rattle.expression.specs.Words.{word}
 use Rattle.expression.specs.declared.refusal.Refusal.{Refusal}
 use Rattle.lookup.specs.Lookups.{lookup-count, tuple-count, tuple-start, tuple-width}
 use Rattle.widths.specs.Widths.{tuple-refusal}
 use Rattle.building.specs.Building.{local-refusal}
-
--- o is the first that is there of the first i
-pub record Finding {A : Type 0} (f : ℕ → Option A) (n i : ℕ) (o : Option A) : Type 0 where
-  pub within : i ≤ n
-  pub is : o ≡ first f i
-
-module _ {A : Type 0} where
-  pub find-begins : {f : ℕ → Option A} {n : ℕ} → Finding f n 0 none
-  unfolding first
-  find-begins = record { within = zero-le; is = refl }
-
-  pub find-turn : {f : ℕ → Option A} {n i : ℕ} {o o′ : Option A} (x : Option A) → Finding f n i o → i < n → o′ ≡ or-else o x → x ≡ f i → Finding f n (i + 1) o′
-  find-turn {f} {n} {i} {o} {o′} x s h e g = record { within = omega arith; is = e ∙ ap₂ or-else (s .is) g ∙ sym (first-one f i) }
-
-  pub find-ends : {f : ℕ → Option A} {n i : ℕ} {o : Option A} → Finding f n i o → n ≤ i → o ≡ first f n
-  find-ends {f} {n} {i} {o} s h = let e : i ≡ n = omega (arith, s .within) in s .is ∙ ap (first f) e
 
 -- the tuples of lookup i lie in the list
 pub tuples-in : (l t : List ℕ) (i : ℕ) → i < lookup-count l → tuple-start l (lookup-count l) ≤ length t → tuple-start l i + tuple-count l i ≤ length t

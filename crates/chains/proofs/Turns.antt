@@ -10,16 +10,17 @@ use lib.Dec.{eqb, leb, ltb}
 use lib.ListN.{length, take, drop, getD, set, replicate, length-set}
 use lib.Seq.{getD-set-other}
 use borrow.Author.Tests.{eq-eqb, ne-eqb, lt-ltb, le-ltb, le-leb, lt-leb}
+use Rattle.lists.specs.Same.{same-list}
 use Rattle.field.specs.Word.{addM}
 use Rattle.expression.specs.Words.{word}
-use Rattle.logup.specs.Ledger.{same-list}
 use Rattle.slots.specs.Work.{Work, find-slot, added-at, new-at, enter-at, step}
 use Rattle.slots.specs.laws.Entering.{made}
+use Rattle.slots.specs.laws.Room.{new-at-long}
 use Rattle.chains.specs.Hash.{mixed, hash}
 use Rattle.chains.specs.Chain.{last-before, hash-at, Chained, holds, plain, plain-work, Ready}
 use Rattle.chains.specs.declared.enter.Entered.{Entered}
 use Rattle.chains.specs.laws.Last.{last-le, last-hits, hash-same}
-use Rattle.chains.specs.laws.Plain.{plain-length, plain-none, plain-next, plain-linked, plain-added, plain-new, new-before, new-at-long}
+use Rattle.chains.specs.laws.Plain.{plain-length, plain-none, plain-next, plain-linked, plain-added, plain-new, new-before}
 use Rattle.chains.specs.laws.Chained.{chained-none, Alike, chained-alike, chained-next, match-linked, find-past, find-step, find-skips}
 
 -- words mixed from the front
@@ -108,7 +109,7 @@ pub new-linkable : {heads ws b : List ℕ} {l : ℕ} (t : List ℕ) (n c : ℕ) 
     → Chained heads b n × (10 * n + 10 ≤ length b)
 new-linkable {heads} {ws} {b} {l} t n c k h g r e =
     let q : l ≡ n = omega arith in
-    (rw q at (new-chained t n c k h r e .0), rw (e, new-at-long ws t n c r) r)
+    (rw q at (new-chained t n c k h r e .0), rw (e, new-at-long ws n t c r) r)
 
 pub new-linked : {heads ws b hs vs : List ℕ} {l v : ℕ} (t : List ℕ) (n c : ℕ) → Chained heads ws l → l ≤ n → n ≤ l → 10 * n + 10 ≤ length ws → b ≡ new-at ws n t c
     → Chained hs vs v × (plain vs v ≡ plain b n) × (n ≤ v) × (v ≤ n + 1) → Chained hs vs v × (plain vs v ≡ new-at (plain ws l) n t c) × (v ≤ n + 1)
@@ -243,7 +244,7 @@ enter-new {heads} {ws} {b} {hs} {v} {k} {l} p t count r e h g (c, eb, i) =
     let n : length P ≡ length ws = plain-length ws (v .linked) in
     let f : ltb (find-slot P t 0 (v .used)) (v .used) ≡ false = rw (sym e) (le-ltb k (v .used) h) in
     let m : leb (10 * v .used + 10) (length P) ≡ true = rw n (le-leb (10 * v .used + 10) (length ws) (omega (arith, r .room))) in
-    let z : length b ≡ length ws = sym (plain-length b l) ∙ ap length eb ∙ new-at-long P t (v .used) count (rw n (omega (arith, r .room))) ∙ n in
+    let z : length b ≡ length ws = sym (plain-length b l) ∙ ap length eb ∙ new-at-long P (v .used) t count (rw n (omega (arith, r .room))) ∙ n in
     (rw (f, m) (ap (λ (x : List ℕ). made x (v .used + 1) false) eb), record { chained = c; inside = i; room = rw z (omega (arith, r .room)) })
 
 -- the three ways of a step

@@ -6,9 +6,9 @@ use mathlib.Core.Bool.{Bool, cond, _&&_}
 use mathlib.Core.List.{List}
 use lib.Dec.{eqb, ltb}
 use lib.ListN.{length, take, drop}
+use Rattle.lists.specs.Same.{same-list}
 use Rattle.lists.specs.Tab.{tab}
 use Rattle.expression.specs.Words.{word}
-use Rattle.logup.specs.Ledger.{same-list}
 use Rattle.slots.specs.Work.{Work}
 use Rattle.chains.specs.Hash.{hash}
 use Rattle.chains.specs.declared.enter.Entered.{Entered}

@@ -3,7 +3,7 @@ use mathlib.Core.Path.{_≡_, refl, sym, ap, ap₂, _∙_, subst}
 use mathlib.Core.Bool.{Bool, true, false, cond, _&&_, _||_, not, true≢false, and-assoc}
 use mathlib.Core.Option.{Option, none, some}
 use mathlib.Core.List.{List, [], _∷_}
-use Prim.Native.Nat.{ℕ, zero, suc, _+_, _*_, _/_, _%_, _<_, _≤_}
+use Prim.Native.Nat.{ℕ, _+_, _*_, _/_, _%_, _<_, _≤_}
 use native.Mathlib.Nat.{mul-zero, mul-div-cancel, mul-mod-left, div-add-mod'}
 use native.Mathlib.Omega.{arith}
 use lib.Dec.{eqb, leb}
@@ -31,13 +31,10 @@ use Rattle.prepared.specs.Entry.{position-refusal, table-tests}
 use Rattle.prepared.specs.Ready.{Lists, Field}
 use Rattle.prepared.specs.Tested.{Tested}
 use Rattle.prepared.specs.laws.Entry.{stops, passes}
-use Rattle.prepared.specs.laws.Tested.{unless-none, tested-lookups, tested-lists, tested-traces}
+use Rattle.expression.specs.laws.Refusal.{unless-none}
+use Rattle.prepared.specs.laws.Tested.{tested-lookups, tested-lists, tested-traces}
 use Rattle.lines.specs.Line.{Traced}
 use Rattle.constraints.specs.Entry.{trace-sizes, trace-words, door-tests}
-
-pub positive : (h : ℕ) → (h ≡ 0 → ⊥) → 0 < h
-positive zero k = absurd (k refl)
-positive (suc h) k = omega arith
 
 -- the trace's size without a product
 pub fits-none : (h w n : ℕ) → h ≡ 0 → eqb n 0 ≡ eqb n (w * h * 4)

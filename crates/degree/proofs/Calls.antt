@@ -1,5 +1,5 @@
 -- The calls of the functions of one lookup, over plain lists and numbers.
-use mathlib.Core.Path.{_≡_, refl, sym, ap, ap₂, _∙_}
+use mathlib.Core.Path.{_≡_, sym, ap, ap₂, _∙_}
 use mathlib.Core.List.{List, [], _∷_, _++_}
 use Prim.Native.Nat.{ℕ, _+_, _-_, _<_, _≤_, max}
 use native.Mathlib.Omega.{arith}
@@ -8,7 +8,7 @@ use mathlib.Core.Bool.{Bool, true, false, not, _&&_}
 use mathlib.Core.Option.{none, some}
 use lib.Dec.{leb, ltb}
 use lib.ListN.{length, drop, replicate, length-append, length-replicate}
-use borrow.Author.Tests.{leb-true, ltb-true}
+use borrow.Author.Tests.{leb-true, ltb-true, not-true, not-false}
 use Rattle.lists.specs.Count.{total}
 use Rattle.lists.specs.Tab.{tab}
 use Rattle.lists.specs.laws.Tab.{tab-get}
@@ -87,31 +87,23 @@ degree-of-is {b} {d} {r} m nodes l t i f h eb ed er =
     ∙ degree-is (node-count nodes) l b d (f .fitting) (f .agreeing) (tuples-right (word b) (l .tuples) (l .elements) ed) i h
     ∙ ap (λ (deg : ℕ → ℕ). lookup-degree deg (lookup-at l i)) (λ k a. (ap (λ (x : List ℕ). word x a) eb ∙ word-zeros (degrees t nodes (node-count nodes)) (1024 - node-count nodes) a) k)
 
-no : (b : Bool) → not b ≡ true → b ≡ false
-no true e = cc
-no false e = refl
-
-yes : (b : Bool) → not b ≡ false → b ≡ true
-yes true e = refl
-yes false e = cc
-
 -- the door's answers
 module _ (m : Limits) (p : ℕ) (c : Columns) (nodes : List ℕ) (l : Lookups) (i t : ℕ) where
   pub degree-size : not (leb t 1 && ltb i (lookup-count (l .lookups))) ≡ true → Refused SizeAtOdds ≡ degree-answer m p c nodes l i t
   unfolding degree-answer degree-refusal
-  degree-size e = rw (no (leb t 1 && ltb i (lookup-count (l .lookups))) e)
+  degree-size e = rw (not-true (leb t 1 && ltb i (lookup-count (l .lookups))) e)
 
   pub degree-asked : not (leb t 1 && ltb i (lookup-count (l .lookups))) ≡ false → (i < lookup-count (l .lookups)) × (t ≤ 1)
   degree-asked e =
-      let k = passed (leb t 1) (ltb i (lookup-count (l .lookups)) ∷ []) (yes (leb t 1 && ltb i (lookup-count (l .lookups))) e) in
+      let k = passed (leb t 1) (ltb i (lookup-count (l .lookups)) ∷ []) (not-false (leb t 1 && ltb i (lookup-count (l .lookups))) e) in
       (ltb-true i (lookup-count (l .lookups)) (k .1 .0), leb-true t 1 (k .0))
 
   pub degree-given : {v : Verdict} {d : ℕ} → not (leb t 1 && ltb i (lookup-count (l .lookups))) ≡ false → refusal v ≡ form-refusal m p c nodes l → v ≡ verdict.Accepted
       → d ≡ lookup-degree (node-degrees t nodes) (lookup-at l i) → Degree d ≡ degree-answer m p c nodes l i t
   unfolding degree-answer degree-refusal
-  degree-given {v} {d} e f g h = rw (yes (leb t 1 && ltb i (lookup-count (l .lookups))) e, sym f ∙ ap refusal g, h)
+  degree-given {v} {d} e f g h = rw (not-false (leb t 1 && ltb i (lookup-count (l .lookups))) e, sym f ∙ ap refusal g, h)
 
   pub degree-refused : {v : Verdict} {f : Refusal} → not (leb t 1 && ltb i (lookup-count (l .lookups))) ≡ false → refusal v ≡ form-refusal m p c nodes l → v ≡ verdict.Refused f
       → Refused f ≡ degree-answer m p c nodes l i t
   unfolding degree-answer degree-refusal
-  degree-refused {v} {f} e k g = rw (yes (leb t 1 && ltb i (lookup-count (l .lookups))) e, sym k ∙ ap refusal g)
+  degree-refused {v} {f} e k g = rw (not-false (leb t 1 && ltb i (lookup-count (l .lookups))) e, sym k ∙ ap refusal g)

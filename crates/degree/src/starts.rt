@@ -8,8 +8,9 @@ ghost use mathlib.Core.Path.{_≡_};
 ghost use Prim.Native.Nat.{_*_, _≤_};
 ghost use Rattle.lookup.specs.Lookups.{lookup-count, name-start, tuple-start, multiplicity-start, flag-start};
 
+// Balance takes the lists of all 16 tables as one: up to 1,024 lookups.
 pub fn name_start(lookups: &[u32], i: usize) -> usize
-    requires { ⌜ (i ≤ lookup-count (now lookups)) × (i ≤ 64) ⌝ }
+    requires { ⌜ (i ≤ lookup-count (now lookups)) × (i ≤ 1024) ⌝ }
     ensures { λ r. ⌜ (r ≡ name-start (now (lookups .entry)) i) × (r ≤ i * 4294967295) ⌝ }
 {
     let mut sum: usize = 0;

@@ -2,15 +2,14 @@
 use mathlib.Core.Path.{_≡_, refl, sym, ap, ap₂, _∙_}
 use mathlib.Core.Bool.{Bool, true, false, cond}
 use mathlib.Core.List.{List, [], _∷_, _++_, map}
-use Prim.Native.Nat.{ℕ, suc, _+_, _*_, _-_, _<_, _≤_, zero-le}
+use Prim.Native.Nat.{ℕ, _+_, _*_, _-_, _<_, _≤_, zero-le}
 use native.Mathlib.Nat.{zero-add, add-zero}
-use native.Mathlib.Numerals.{add-one}
 use native.Mathlib.Omega.{arith}
-use lib.ListN.{length, take, drop, set, replicate, length-take}
+use lib.ListN.{length, take, drop, set, replicate, length-take, length-map}
 use lib.Seq.{take-all, take-at}
 use Rattle.lists.specs.Count.{total, joined}
 use Rattle.lists.specs.Fold.{fold}
-use Rattle.lists.specs.laws.Count.{total-le, joined-one}
+use Rattle.lists.specs.laws.Count.{joined-one}
 use Rattle.lists.specs.laws.Parts.{take-one}
 use Rattle.lists.specs.laws.Filled.{Filled, filled-none, filled-one}
 use Rattle.field.specs.Word.{mulM}
@@ -22,6 +21,7 @@ use Rattle.expression.specs.laws.Below.{drop-zeros}
 use Rattle.expression.specs.Window.{Traces}
 use Rattle.expression.specs.Values.{row-values}
 use Rattle.lookup.specs.Lookups.{entry, exclusive, tuple-start, multiplicity-start, flag-start, element-start}
+use Rattle.lookup.specs.laws.Tested.{element-next, element-le}
 use Rattle.logup.specs.Ledger.{Entry}
 use Rattle.slots.specs.declared.enter.Use.{Use}
 use Rattle.slots.specs.Work.{Work, work, step}
@@ -60,18 +60,14 @@ value-ends {vals} {nodes} {out} {j} r h =
     r .out-is .is ∙ ap₂ (λ (l : List ℕ) (n : ℕ). map (word vals) l ++ drop n (replicate 8 0)) (take-all j nodes h) e
     ∙ ap (λ (l : List ℕ). map (word vals) nodes ++ l) (drop-zeros (length nodes) 8)
 
-map-long : (f : ℕ → ℕ) (xs : List ℕ) → length (map f xs) ≡ length xs
-map-long f [] = refl
-map-long f (x ∷ xs) = ap suc (map-long f xs)
-
 -- the tuple in the array's front
 pub tuple-front : {t : List ℕ} (vals nodes : List ℕ) → t ≡ map (word vals) nodes ++ replicate (8 - length nodes) 0 → take (length nodes - 0) (drop 0 t) ≡ map (word vals) nodes
 tuple-front {t} vals nodes e =
     let z : length nodes - 0 ≡ length nodes = omega arith in
-    ap₂ (λ (n : ℕ) (l : List ℕ). take n l) z e ∙ take-at (map (word vals) nodes) (replicate (8 - length nodes) 0) (length nodes) (map-long (word vals) nodes)
+    ap₂ (λ (n : ℕ) (l : List ℕ). take n l) z e ∙ take-at (map (word vals) nodes) (replicate (8 - length nodes) 0) (length nodes) (length-map nodes (word vals))
 
 pub front-narrow : {t : List ℕ} (vals nodes : List ℕ) → length nodes ≤ 8 → t ≡ map (word vals) nodes ++ replicate (8 - length nodes) 0 → length (take (length nodes - 0) (drop 0 t)) ≤ 8
-front-narrow {t} vals nodes h e = rw (ap length (tuple-front vals nodes e) ∙ map-long (word vals) nodes) h
+front-narrow {t} vals nodes h e = rw (ap length (tuple-front vals nodes e) ∙ length-map nodes (word vals)) h
 
 -- a count
 pub count-exclusive : {m f r i j : ℕ} (p : ℕ) (pl : Place) (mults flags vals : List ℕ) (k : ℕ) → pl .exclusive ≡ true → m ≡ word vals i → i ≡ word mults (pl .multiplicities + k)
@@ -84,14 +80,6 @@ unfolding placed-count
 count-additive p pl mults flags vals k x em ei = em ∙ ap (word vals) ei ∙ sym (ap (λ (b : Bool). cond b (mulM p (word vals (word mults (pl .multiplicities + k))) (word vals (word flags (pl .flags + k)))) (word vals (word mults (pl .multiplicities + k)))) x)
 
 -- where the elements of a tuple end
-element-next : (tuples : List ℕ) (j : ℕ) → element-start tuples (j + 1) ≡ element-start tuples j + word tuples j
-unfolding element-start total
-element-next tuples j = rw (add-one j)
-
-element-le : (tuples : List ℕ) (i j : ℕ) → i ≤ j → element-start tuples i ≤ element-start tuples j
-unfolding element-start
-element-le tuples i j h = total-le (word tuples) i j h
-
 pub tuple-ends : {pl : Place} {tuples mults flags elements : List ℕ} {k : ℕ} → Parted pl tuples mults flags elements → k < pl .count → element-start tuples (pl .tuples + k) + word tuples (pl .tuples + k) ≤ length elements
 tuple-ends {pl} {tuples} {mults} {flags} {elements} {k} r h =
     omega (arith, r .elements-in, element-next tuples (pl .tuples + k), element-le tuples (pl .tuples + k + 1) (pl .tuples + pl .count) (omega arith))

@@ -21,12 +21,12 @@ use Rattle.expression.specs.declared.sizes.Shape.{Shape}
 use Rattle.lookup.specs.Lookups.{Lookups, lent-lookups, lookup-count}
 use Rattle.lookup.specs.Table.{Table, lent-table}
 use Rattle.lookup.specs.Tests.{has-lookups}
-use Rattle.logup.specs.Rows.{row-sum, accumulator, row-words, trace, first-fault, used}
+use Rattle.logup.specs.Rows.{accumulator, row-words, trace, first-fault, used}
 use Rattle.logup.specs.Generation.{Answer, refused, absent, terminal, rows-outcome, entry-refusal, entry-outcome, generation}
 use Rattle.generation.specs.Entry.{rows-answer, cleared}
 use Rattle.prepared.specs.Ready.{lent-values}
 use Rattle.lists.specs.laws.Joined.{joined-length}
-use Rattle.rows.specs.laws.Lengths.{sum-four, fractions-length}
+use Rattle.rows.specs.laws.Lengths.{row-length}
 use Rattle.parts.specs.laws.Unnamed.{unnamed-accumulator, unnamed-trace, unnamed-first-fault}
 
 pub finish-none : (v : Verdict) (e b : List ℕ) (u : ℕ) → v ≡ Accepted → (terminal e ≡ rows-answer (refusal v) e) × (b ≡ cleared (refusal v) u b)
@@ -38,11 +38,6 @@ finish-some {zs} v f e b u k h z = (rw k, put-mid b 0 u (z ∙ ap (λ (x : ℕ).
   where
     size : length (take (u - 0) (drop 0 b)) ≡ u
     size = part-length b 0 u zero-le h ∙ omega arith
-
-row-length : (p w : ℕ) (l : Lookups) (cs : List ℕ) (values : ℕ → List ℕ) (r : ℕ) → length (row-words p w l cs values r) ≡ 4 * lookup-count (l .lookups) + 4
-unfolding row-words accumulator
-row-length p w l cs values r =
-    simp length-append (omega (arith, sum-four p (row-sum p w l cs values) r, fractions-length p w l cs values r (lookup-count (l .lookups))))
 
 trace-length : (p w : ℕ) (l : Lookups) (cs : List ℕ) (values : ℕ → List ℕ) (height : ℕ) → length (trace p w l cs values height) ≡ used (l .lookups) height
 unfolding trace used

@@ -2,8 +2,8 @@
 use mathlib.Core.Path.{_≡_, refl, sym, ap, ap₂, _∙_}
 use mathlib.Core.Bool.{Bool, true, false, cond, _&&_, _||_, true≢false}
 use mathlib.Core.List.{List, []}
-use Prim.Native.Nat.{ℕ, zero, suc, _+_, _*_, _-_, _/_, _<_, _≤_}
-use native.Mathlib.Nat.{suc-mul, mul-le-mul-right, div-mul-le-self, div-add-mod', mod-lt, le-trans}
+use Prim.Native.Nat.{ℕ, suc, _+_, _*_, _-_, _/_, _<_, _≤_}
+use native.Mathlib.Nat.{suc-mul, mul-le-mul-right, div-mul-le-self, div-add-mod', mod-lt, le-trans, pos-of-ne-zero}
 use native.Mathlib.Omega.{arith}
 use lib.Dec.{eqb, leb, ltb}
 use lib.ListN.{length, take, drop}
@@ -51,16 +51,12 @@ empty-second words n height r h =
     empty-where words n height r
     (λ has inside fits. let k : length words < r * ((n + 1) * 4) + (n + 1) * 4 = past-end (length words) ((n + 1) * 4) r (omega arith) h in omega (arith, one-row ((n + 1) * 4) r (length words) fits))
 
-pos-of : (n : ℕ) → (n ≡ 0 → ⊥) → 0 < n
-pos-of zero k = absurd (k refl)
-pos-of (suc n) k = omega arith
-
 -- what the first test leaves
 pub first-left : (len n height r : ℕ) → (eqb n 0 || leb (len / 4) n || leb height r) ≡ false → (0 < n) × ((n + 1) * 4 ≤ len) × (r < height)
 first-left len n height r e = go (eqb n 0) (leb (len / 4) n) (leb height r) refl refl refl e
   where
     go : (a b c : Bool) → eqb n 0 ≡ a → leb (len / 4) n ≡ b → leb height r ≡ c → (a || b || c) ≡ false → (0 < n) × ((n + 1) * 4 ≤ len) × (r < height)
-    go false false false p q s t = (omega (arith, pos-of n (eqb-false n 0 p)), omega (arith, leb-false (len / 4) n q), leb-false height r s)
+    go false false false p q s t = (omega (arith, pos-of-ne-zero (eqb-false n 0 p)), omega (arith, leb-false (len / 4) n q), leb-false height r s)
     go true false false p q s t = absurd (true≢false t)
     go true true false p q s t = absurd (true≢false t)
     go false true false p q s t = absurd (true≢false t)

@@ -28,7 +28,8 @@ use Rattle.prepared.specs.Entry.{position-refusal, table-tests}
 use Rattle.prepared.specs.Ready.{Lists, Field}
 use Rattle.prepared.specs.Tested.{Tested}
 use Rattle.prepared.specs.laws.Entry.{stops, passes}
-use Rattle.prepared.specs.laws.Tested.{unless-none, tested-height, tested-lookups, tested-lists, tested-traces}
+use Rattle.expression.specs.laws.Refusal.{unless-none}
+use Rattle.prepared.specs.laws.Tested.{tested-height, tested-lookups, tested-lists, tested-traces}
 use Rattle.generation.specs.Entry.{door-tests}
 
 pub entry-is : (m : Limits) (p w : ℕ) (t : Table) (cs buffer : List ℕ)

@@ -9,6 +9,7 @@ use native.Mathlib.Omega.{arith}
 use lib.Dec.{eqb}
 use lib.ListN.{length, take, drop}
 use borrow.Author.Tests.{not-true, not-false}
+use Rattle.lists.specs.Same.{same-list}
 use Rattle.lists.specs.Count.{every, total}
 use Rattle.lists.specs.Fold.{fold}
 use Rattle.lists.specs.laws.Count.{total-in}
@@ -18,7 +19,7 @@ use Rattle.logup.specs.Ledger.{Entry}
 use Rattle.slots.specs.Work.{Work, work, step}
 use Rattle.slots.specs.laws.Room.{Roomy, fold-roomy, fold-more}
 use Rattle.slots.specs.declared.enter.Use.{Use}
-use Rattle.widths.specs.Order.{same, name-at}
+use Rattle.widths.specs.Order.{name-at}
 use Rattle.balance.specs.Tables.{Lists}
 use Rattle.balance.specs.Entries.{member-entries, entries}
 use Rattle.balance.specs.Members.{member-at}
@@ -45,9 +46,9 @@ module _ (lookups names : List ℕ) (m k : ℕ) where
   unfolding joins
   joins-not {b} {d} e t f s = rw (sym e ∙ not-false b t, sym f ∙ not-true d s)
 
-  pub joins-named : {b d r : Bool} {x y : List ℕ} → b ≡ on-bus lookups m → not b ≡ false → d ≡ on-bus lookups k → not d ≡ false → x ≡ name-at lookups names m → y ≡ name-at lookups names k → r ≡ same x y → r ≡ joins lookups names m k
+  pub joins-named : {b d r : Bool} {x y : List ℕ} → b ≡ on-bus lookups m → not b ≡ false → d ≡ on-bus lookups k → not d ≡ false → x ≡ name-at lookups names m → y ≡ name-at lookups names k → r ≡ same-list x y → r ≡ joins lookups names m k
   unfolding joins
-  joins-named {b} {d} {r} e t f s ex ey er = rw (sym e ∙ not-false b t, sym f ∙ not-false d s) (er ∙ ap₂ same ex ey)
+  joins-named {b} {d} {r} e t f s ex ey er = rw (sym e ∙ not-false b t, sym f ∙ not-false d s) (er ∙ ap₂ same-list ex ey)
 
 -- `begins`
 module _ (lookups names : List ℕ) (m : ℕ) where

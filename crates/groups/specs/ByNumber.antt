@@ -4,9 +4,10 @@ use mathlib.Core.Bool.{Bool, cond, not, _&&_}
 use mathlib.Core.List.{List, [], _∷_, _++_}
 use lib.Dec.{eqb}
 use lib.ListN.{length}
+use Rattle.lists.specs.Same.{same-list}
 use Rattle.lists.specs.Count.{every}
 use Rattle.lookup.specs.Lookups.{lookup-count, on-bus, name-start}
-use Rattle.widths.specs.Order.{same, name-at}
+use Rattle.widths.specs.Order.{name-at}
 use Rattle.balance.specs.Tables.{Lists}
 use Rattle.balance.specs.Groups.{Member}
 use Rattle.balance.specs.Members.{member-at}
@@ -20,7 +21,7 @@ module _ {A : Type 0} where
 -- whether lookup k is in the group of lookup m: on m's bus, or m itself if m is local
 unfoldable pub joins : List ℕ → List ℕ → ℕ → ℕ → Bool
 joins lookups names m k =
-    cond (on-bus lookups m) (on-bus lookups k && same (name-at lookups names m) (name-at lookups names k)) (eqb m k)
+    cond (on-bus lookups m) (on-bus lookups k && same-list (name-at lookups names m) (name-at lookups names k)) (eqb m k)
 
 -- no lookup before m is in its group
 unfoldable pub leads : List ℕ → List ℕ → ℕ → Bool

@@ -1,27 +1,13 @@
 // Which lookups are in one group, the lists of all tables taken as one.
+use degree::starts::name_start;
 use expression::words::index;
 use lookup::types::name_length;
 use lookup::types::on_bus;
 use widths::order::same_bytes;
 ghost use mathlib.Core.Path.{_≡_};
-ghost use Prim.Native.Nat.{_*_, _<_, _≤_};
+ghost use Prim.Native.Nat.{_<_, _≤_};
 ghost use Rattle.lookup.specs.Lookups.{lookup-count, name-start};
 ghost use Rattle.groups.specs.ByNumber.{Named, joins, leads, begins};
-
-// Where the name of lookup i begins.
-pub fn name_start(lookups: &[u32], i: usize) -> usize
-    requires { ⌜ (i ≤ lookup-count (now lookups)) × (i ≤ 1024) ⌝ }
-    ensures { λ r. ⌜ (r ≡ name-start (now (lookups .entry)) i) × (r ≤ i * 4294967295) ⌝ }
-{
-    let mut sum: usize = 0;
-    let mut j = 0;
-    while j < i {
-        let w = index(name_length(lookups, j));
-        sum = sum + w;
-        j += 1;
-    }
-    sum
-}
 
 // Whether lookup k, whose name begins at b, is in the group of lookup m, whose name begins at a.
 pub fn joins(lookups: &[u32], names: &[u8], m: usize, a: usize, k: usize, b: usize) -> bool

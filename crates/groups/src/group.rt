@@ -1,7 +1,7 @@
 // What a group enters in the workspace.
 use crate::buses::joins;
-use crate::buses::name_start;
 use balance::member::enter_member;
+use degree::starts::name_start;
 use expression::words::index;
 use lookup::types::name_length;
 use slots::enter::Use;

@@ -4,11 +4,12 @@ use mathlib.Core.Bool.{Bool, true, false, cond, true≢false}
 use mathlib.Core.Option.{Option, none, some}
 use mathlib.Core.List.{List}
 use Prim.Native.Nat.{ℕ, _+_, _*_, _<_, _≤_, zero-le}
-use native.Mathlib.Nat.{add-zero, suc-mul, mul-le-mul-right, zero-mul}
+use native.Mathlib.Nat.{add-zero, suc-mul, zero-mul}
 use native.Mathlib.Numerals.{add-one}
 use native.Mathlib.Omega.{arith}
 use lib.Dec.{eqb, ltb}
 use lib.ListN.{length}
+use Rattle.lists.specs.laws.Writing.{next-times}
 use Rattle.lists.specs.Count.{or-else, first}
 use Rattle.lists.specs.laws.Count.{first-stop}
 use Rattle.field.specs.Element.{sub4, element}
@@ -18,9 +19,6 @@ use Rattle.logup.specs.Rows.{place}
 use Rattle.logup.specs.Constraints.{must-vanish, cell, cell-sum, lookup-constraint, step, binding, row-verdict}
 use Rattle.terms.specs.Constraint.{vanishing}
 use Rattle.lines.specs.Line.{line-sum, line-verdict, becomes, end-verdict, is-refused, Traced}
-
-next-times : (a b m : ℕ) → a < b → a * m + m ≤ b * m
-next-times a b m h = rw suc-mul at (mul-le-mul-right m h)
 
 -- where a row lies
 module _ {p height width n : ℕ} {words : List ℕ} {base : ℕ} (r : ℕ) (s : Traced p height width n words) (e : base ≡ r * width) where

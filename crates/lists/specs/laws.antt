@@ -6,5 +6,6 @@ pub mod Joined
 pub mod Parts
 pub mod Filled
 pub mod Tests
+pub mod Same
 pub mod Turns
 pub mod Writing

@@ -1,10 +1,11 @@
 -- The ledger of a table, and the sets of challenges at which two tables are compared. Document 01, Ledger.
 use Prim.Native.Nat.{ℕ, _<_}
 use mathlib.Core.Path.{_≡_}
-use mathlib.Core.Bool.{Bool, true, false, cond, _&&_, _||_}
+use mathlib.Core.Bool.{Bool, false, cond, _&&_, _||_}
 use mathlib.Core.List.{List, [], _∷_, _++_, List·Memᴰ}
 use lib.Dec.{eqb}
 use lib.ListN.{length}
+use Rattle.lists.specs.Same.{same-list}
 use Rattle.lists.specs.Count.{joined}
 use Rattle.lists.specs.Fold.{fold}
 use Rattle.field.specs.Word.{addM, mulM}
@@ -50,12 +51,6 @@ module _ (p : ℕ) (l : Lookups) where
 -- "It goes through every row, lookup and tuple."
 unfoldable pub entries : ℕ → Table → List Entry
 entries p t = joined (λ r. row-entries p (t .lookups) (row-values p (t .nodes) (t .traces) r)) 0 (t .traces .shape .height)
-
-unfoldable pub same-list : List ℕ → List ℕ → Bool
-same-list [] [] = true
-same-list [] (b ∷ m) = false
-same-list (a ∷ l) [] = false
-same-list (a ∷ l) (b ∷ m) = eqb a b && same-list l m
 
 -- "The count is added to that list's word, modulo p."
 unfoldable pub post : ℕ → (List ℕ → ℕ) → Entry → List ℕ → ℕ

@@ -1,2 +1,2 @@
-// LogUp: generation of the permutation trace, the row reader, and the constraints over a whole trace.
+// LogUp: the definitions of generation, of the row reader, of the constraints and of the ledger, and generation's answer. The crates above have the code.
 pub mod logup;

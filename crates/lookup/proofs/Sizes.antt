@@ -8,15 +8,14 @@ use lib.ListN.{length}
 use Rattle.lists.specs.laws.Tests.{passed}
 use Rattle.expression.specs.Limits.{Sane}
 use Rattle.expression.specs.Node.{node-count}
-use Rattle.expression.specs.Tests.{traces-within, nodes-within, traces-fit, nodes-fit}
+use Rattle.expression.specs.Tests.{traces-within, nodes-within, nodes-fit}
 use Rattle.expression.specs.Valid.{Small}
 use Rattle.expression.specs.declared.sizes.Shape.{Shape}
 use Rattle.expression.specs.declared.sizes.Limits.{Limits}
 use Rattle.lookup.specs.Lookups.{Lookups, lookup-count}
-use Rattle.lookup.specs.Table.{Table}
 use Rattle.lookup.specs.Entry.{columns-within, form-sizes}
 use Rattle.lookup.specs.declared.entry.Columns.{Columns}
-use Rattle.lookup.specs.Tests.{lookups-within, lookups-fit, sizes}
+use Rattle.lookup.specs.Tests.{lookups-within, lookups-fit}
 use Rattle.expression.specs.laws.Tested.{small-tested, few-tested}
 use Rattle.lookup.specs.laws.Tested.{lookups-few}
 
@@ -29,21 +28,7 @@ pub few : {m : Limits} {c : Bool} (lookups tuples : List ℕ) (a b : Bool) → S
 few {m} {c} lookups tuples a b g e h =
     let k = lookups-few m lookups tuples g (sym e ∙ passed a (b ∷ c ∷ []) h .1 .1 .0) in (omega (arith, k .0), omega (arith, k .1))
 
--- of a table that passed refusal 1
-pub few-nodes : (m : Limits) (t : Table) → Sane m → sizes m t ≡ true → node-count (t .nodes) ≤ 1024
-unfolding sizes
-few-nodes m t g h =
-    let k =
-    passed (traces-within m (t .traces .shape) (t .traces .public-values))
-    (nodes-within m (t .nodes)
-    ∷ lookups-within m (t .lookups .lookups) (t .lookups .tuples)
-    ∷ traces-fit (t .traces .shape) (t .traces .main) (t .traces .preprocessed)
-    ∷ nodes-fit (t .nodes)
-    ∷ lookups-fit (t .lookups)
-    ∷ [])
-    h in
-    few-tested m (t .nodes) g (k .1 .0)
-
+-- of a form that passed refusal 1
 pub form-few-nodes : (m : Limits) (c : Columns) (nodes : List ℕ) (l : Lookups) → Sane m → form-sizes m c nodes l ≡ true → node-count nodes ≤ 1024
 unfolding form-sizes
 form-few-nodes m c nodes l g h =

@@ -27,7 +27,7 @@ use Rattle.lookup.specs.laws.Tested.{limited}
 use Rattle.lookup.specs.declared.entry.Columns.{Columns}
 use Rattle.expression.specs.Tests.{nodes-within, nodes-fit}
 use Rattle.degree.specs.Formed.{Formed}
-use Rattle.degree.specs.laws.Formed.{unless-none}
+use Rattle.expression.specs.laws.Refusal.{unless-none}
 use Rattle.widths.specs.Widths.{width-in-lookup, width-in-table, expected, by-bus, lookup-refusal, table-refusal, widths-refusal}
 use Rattle.widths.specs.Asks.{bare}
 use Rattle.plan.specs.declared.columns.Plan.{Plan}

@@ -3,9 +3,10 @@ use mathlib.Core.Bool.{Bool, true, false, cond, not, _&&_, _||_}
 use mathlib.Core.List.{List, [], _∷_, _++_, map}
 use Prim.Native.Nat.{ℕ, suc, _+_}
 use lib.Dec.{leb, ltb}
+use Rattle.lists.specs.Same.{same-list}
 use Rattle.lookup.specs.Lookups.{Lookups, Lookup, lookup-count, lookup-at}
 use Rattle.degree.specs.Degree.{lookup-degree}
-use Rattle.widths.specs.Order.{same, arranged}
+use Rattle.widths.specs.Order.{arranged}
 
 -- "Locals and exclusives": they are never merged
 abbrev pub passes : Lookup → Bool
@@ -13,7 +14,7 @@ passes l = l .local || l .exclusive
 
 -- an additive lookup on the bus of this name
 abbrev pub additive-on : List ℕ → Lookup → Bool
-additive-on bus l = not (passes l) && same bus (l .name)
+additive-on bus l = not (passes l) && same-list bus (l .name)
 
 -- two additive lookups of one bus
 abbrev pub on-one-bus : Lookup → Lookup → Bool

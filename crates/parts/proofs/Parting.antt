@@ -4,7 +4,7 @@ use mathlib.Core.List.{List, _++_}
 use Prim.Native.Nat.{ℕ, zero, suc, _+_, _*_, _-_, _/_, _%_, _<_, _≤_, zero-le}
 use native.Mathlib.Nat.{add-zero, zero-add, mul-le-mul-right, zero-mul, mul-comm, mul-zero, mod-lt, div-add-mod, pos-of-ne-zero}
 use native.Mathlib.Omega.{arith}
-use lib.ListN.{length, take, drop, set, length-append, replicate, replicate-append-replicate}
+use lib.ListN.{length, take, drop, set, replicate, replicate-append-replicate}
 use borrow.Rule.Slice.PartMut.{putMid}
 use Rattle.lists.specs.Count.{first, joined}
 use Rattle.lists.specs.laws.Count.{joined-add}
@@ -15,10 +15,10 @@ use Rattle.field.specs.Element.{Word4, sum4}
 use Rattle.expression.specs.Refusal.{refusal}
 use Rattle.expression.specs.declared.refusal.Verdict.the-variants.{Accepted}
 use Rattle.lookup.specs.Lookups.{Lookups, lookup-count}
-use Rattle.logup.specs.Rows.{row-sum, accumulator, row-words, row-fault, trace, first-fault, used}
+use Rattle.logup.specs.Rows.{accumulator, row-words, row-fault, trace, first-fault, used}
 use Rattle.column.specs.laws.Powers.{word-zero}
 use Rattle.lists.specs.laws.Joined.{joined-length}
-use Rattle.rows.specs.laws.Lengths.{sum-four, fractions-length}
+use Rattle.rows.specs.laws.Lengths.{row-length}
 use Rattle.blocks.specs.declared.block.Progress.{Progress}
 use Rattle.blocks.specs.laws.Shares.{shifted}
 
@@ -67,11 +67,6 @@ pub starts-at-zero : {p w : ℕ} {l : Lookups} {cs : List ℕ} {values : ℕ →
 unfolding first sum4 accumulator
 starts-at-zero {p} {l = l} {height = height} {d = d} c lo ew er big =
     going-begins c (omega arith) ew (subst (λ (x : ℕ). x ≤ length d) (sym (used-is (l .lookups) height)) er) (word-zero p big) refl refl
-
-row-length : (p w : ℕ) (l : Lookups) (cs : List ℕ) (values : ℕ → List ℕ) (r : ℕ) → length (row-words p w l cs values r) ≡ 4 * lookup-count (l .lookups) + 4
-unfolding row-words accumulator
-row-length p w l cs values r =
-    simp length-append (omega (arith, sum-four p (row-sum p w l cs values) r, fractions-length p w l cs values r (lookup-count (l .lookups))))
 
 run-length : (p w : ℕ) (l : Lookups) (cs : List ℕ) (values : ℕ → List ℕ) (from n wd : ℕ) → wd ≡ 4 * lookup-count (l .lookups) + 4 → length (joined (row-words p w l cs values) from n) ≡ n * wd
 run-length p w l cs values from n wd e =

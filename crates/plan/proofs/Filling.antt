@@ -8,6 +8,7 @@ use native.Mathlib.Omega.{arith}
 use lib.ListN.{length, drop, set, drop-of-length-le}
 use lib.Seq.{drop-cons}
 use borrow.Author.Tests.{not-true, not-false}
+use Rattle.lists.specs.laws.Writing.{eight-set}
 use Rattle.expression.specs.Words.{word}
 use Rattle.expression.specs.Values.{bit}
 use Rattle.lookup.specs.Lookups.{lookup-count, on-bus, name-length, exclusive, tuple-count, tuple-start, multiplicity-start}
@@ -143,20 +144,6 @@ fill-stops {s} {xs} {k} {t} {i} {o} {a} {n} {f} g h ei ea en ef y =
 pub fill-ends : {s : Source} {xs : List ℕ} {k t : ℕ} {o : Open} → Filling s xs k o t → length xs ≤ t → Taken s xs k (record { numbers = o; end = t })
 fill-ends {s} {xs} {k} {t} {o} g h =
     record { is = g .is ∙ columns-done s o xs t h; above = g .above; within = g .within; head = g .head; small = small g }
-
--- eight stores into eight words
-pub eight-set : (l : List ℕ) (a b c d e f g h : ℕ) → length l ≡ 8
-    → set (set (set (set (set (set (set (set l 0 a) 1 b) 2 c) 3 d) 4 e) 5 f) 6 g) 7 h ≡ a ∷ b ∷ c ∷ d ∷ e ∷ f ∷ g ∷ h ∷ []
-eight-set [] a b c d e f g h z = absurd (omega arith)
-eight-set (_ ∷ []) a b c d e f g h z = absurd (omega arith)
-eight-set (_ ∷ _ ∷ []) a b c d e f g h z = absurd (omega arith)
-eight-set (_ ∷ _ ∷ _ ∷ []) a b c d e f g h z = absurd (omega arith)
-eight-set (_ ∷ _ ∷ _ ∷ _ ∷ []) a b c d e f g h z = absurd (omega arith)
-eight-set (_ ∷ _ ∷ _ ∷ _ ∷ _ ∷ []) a b c d e f g h z = absurd (omega arith)
-eight-set (_ ∷ _ ∷ _ ∷ _ ∷ _ ∷ _ ∷ []) a b c d e f g h z = absurd (omega arith)
-eight-set (_ ∷ _ ∷ _ ∷ _ ∷ _ ∷ _ ∷ _ ∷ []) a b c d e f g h z = absurd (omega arith)
-eight-set (_ ∷ _ ∷ _ ∷ _ ∷ _ ∷ _ ∷ _ ∷ _ ∷ []) a b c d e f g h z = refl
-eight-set (_ ∷ _ ∷ _ ∷ _ ∷ _ ∷ _ ∷ _ ∷ _ ∷ _ ∷ l) a b c d e f g h z = absurd (omega arith)
 
 pub merged-small : {s : Source} {xs : List ℕ} {k t : ℕ} {o a n : Open} → Filling s xs k o t → Within 549755813888 a → n ≡ merge o a → n .sum ≤ 70368744177664
 unfolding merge

@@ -1,6 +1,6 @@
 -- The turns of the plan: one column more.
 use mathlib.Core.Path.{_≡_, refl, sym, ap, ap₂, _∙_, subst}
-use mathlib.Core.Bool.{Bool, true, false, _||_}
+use mathlib.Core.Bool.{Bool, true, false, _||_, or-false, or-assoc}
 use mathlib.Core.List.{List, [], _∷_, _++_, append-nil, append-assoc, head-eq-of-cons-eq, tail-eq-of-cons-eq}
 use Prim.Native.Nat.{ℕ, zero, suc, _+_, _*_, _-_, _<_, _≤_, zero-le}
 use native.Mathlib.Numerals.{add-one}
@@ -36,15 +36,7 @@ heads-snoc (x ∷ os) o = ap (λ (l : List ℕ). x .head ∷ l) (heads-snoc os o
 over-snoc : (os : List Open) (o : Open) → over-of (os ++ (o ∷ [])) ≡ (over-of os || ltb 4294967295 (o .weight))
 unfolding over-of
 over-snoc [] o = or-false (ltb 4294967295 (o .weight))
-  where
-    or-false : (b : Bool) → (b || false) ≡ b
-    or-false true = refl
-    or-false false = refl
 over-snoc (x ∷ os) o = ap (λ (b : Bool). ltb 4294967295 (x .weight) || b) (over-snoc os o) ∙ sym (or-assoc (ltb 4294967295 (x .weight)) (over-of os) (ltb 4294967295 (o .weight)))
-  where
-    or-assoc : (a b c : Bool) → ((a || b) || c) ≡ (a || (b || c))
-    or-assoc true b c = refl
-    or-assoc false b c = refl
 
 words-snoc : (lookups : List ℕ) (k : ℕ) (os : List Open) (o : Open) → words-from lookups k (os ++ (o ∷ [])) ≡ words-from lookups k os ++ column-words lookups (k + length os) o
 unfolding words-from

@@ -16,7 +16,7 @@ use Rattle.lookup.specs.Entry.{nodes-refusal}
 use Rattle.lookup.specs.Table.{Table}
 use Rattle.lookup.specs.Tests.{sizes, words-below, known}
 use Rattle.prepared.specs.Entry.{position-refusal, table-tests}
-use Rattle.prepared.specs.laws.Tested.{few-nodes}
+use Rattle.lookup.specs.laws.Tested.{few-nodes}
 use Rattle.prepared.specs.laws.Entry.{stops, passes}
 
 module _ (m : Limits) (t : Table) (fit : Bool) {a : Bool} (ea : a ≡ sizes m t) (y : not (a && fit) ≡ false) where

@@ -4,11 +4,12 @@ use Prim.Native.Nat.{ℕ}
 use mathlib.Core.Path.{_≡_}
 use mathlib.Core.Bool.{Bool, not, _&&_}
 use mathlib.Core.List.{List, [], _∷_, map}
+use Rattle.lists.specs.Same.{same-list}
 use Rattle.expression.specs.declared.sizes.Limits.{Limits}
 use Rattle.lookup.specs.Lookups.{Lookup, lookups-of}
 use Rattle.lookup.specs.Table.{Table}
 use Rattle.degree.specs.Formed.{Formed}
-use Rattle.widths.specs.Order.{keep, same}
+use Rattle.widths.specs.Order.{keep}
 use Rattle.kept.specs.Entries.{packed-table}
 use Rattle.balance.specs.Groups.{Member, members, local, groups}
 use Rattle.balance.specs.Entries.{member-entries, entries}
@@ -17,7 +18,7 @@ use Rattle.balance.specs.laws.Passes.{Fits, AllGroups}
 
 -- a lookup on the bus of this name
 abbrev pub on : List ℕ → Member → Bool
-on bus m = not (local m) && same bus (m .lookup .name)
+on bus m = not (local m) && same-list bus (m .lookup .name)
 
 -- the lookups of a table
 abbrev pub own : Table → List Member

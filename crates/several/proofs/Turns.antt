@@ -25,10 +25,6 @@ use Rattle.several.specs.Spans.{spans-at}
 use Rattle.several.specs.laws.Spans.{Lies}
 use Rattle.several.specs.declared.spans.Spans.{Spans}
 
--- so many units of words
-pub units-small : (u x b : ℕ) → u ≤ 8 → x ≤ b → u * x ≤ 8 * b
-units-small u x b h g = native.Mathlib.Nat.mul-le-mul h g
-
 -- twenty numbers are the spans of table t
 pub spans-are : {x0 x1 x2 x3 x4 x5 x6 x7 x8 x9 x10 x11 x12 x13 x14 x15 x16 x17 x18 x19 : ℕ} (sizes : List ℕ) (t : ℕ)
     → x0 ≡ 1 * size-start sizes 4 t → x1 ≡ 1 * size-start sizes 4 t + 1 * size sizes 4 t

@@ -1,50 +1,20 @@
 -- The turns of finding a slot and of writing its words, over plain lists and numbers.
 use mathlib.Core.Path.{_≡_, refl, sym, ap, ap₂, _∙_}
-use mathlib.Core.Bool.{Bool, true, false, cond, _&&_}
+use mathlib.Core.Bool.{Bool, true, false, cond}
 use mathlib.Core.List.{List, [], _∷_, _++_}
 use Prim.Native.Nat.{ℕ, zero, suc, _+_, _*_, _-_, _%_, _<_, _≤_, zero-le}
 use native.Mathlib.Numerals.{add-one}
 use native.Mathlib.Omega.{arith}
-use lib.Dec.{eqb}
-use lib.ListN.{length, take, drop, getD, set, replicate, drop-of-length-le}
-use lib.Seq.{drop-cons}
+use lib.ListN.{length, take, drop, set, replicate}
 use borrow.Author.Tests.{eq-eqb, ne-eqb}
 use borrow.Rule.Slice.PartMut.{putMid}
+use Rattle.lists.specs.Same.{same-list}
 use Rattle.lists.specs.laws.Parts.{part-length}
 use Rattle.lists.specs.laws.Filled.{Filled, filled-none, filled-one, filled-whole, put-mid}
 use Rattle.lists.specs.Tab.{tab}
 use Rattle.lists.specs.laws.Tab.{tab-none, tab-one}
 use Rattle.expression.specs.Words.{word}
-use Rattle.logup.specs.Ledger.{same-list}
 use Rattle.slots.specs.Work.{match-at, find-slot, added-at, new-words, new-at}
-
--- two lists agree in their first i words
-pub record SameSoFar (x y : List ℕ) (i : ℕ) : Type 0 where
-  pub rest : same-list (drop i x) (drop i y) ≡ same-list x y
-  pub within : i ≤ length x
-  pub long : length x ≡ length y
-
-pub same-begins : {x y : List ℕ} → length x ≡ length y → SameSoFar x y 0
-same-begins e = record { rest = refl; within = zero-le; long = e }
-
-step-at : (x y : List ℕ) (i : ℕ) → i < length x → i < length y → same-list (drop i x) (drop i y) ≡ (eqb (getD x i 0) (getD y i 0) && same-list (drop (suc i) x) (drop (suc i) y))
-unfolding same-list
-step-at x y i h g = rw (drop-cons x i 0 h, drop-cons y i 0 g)
-
-pub same-turn : {x y : List ℕ} {i : ℕ} → SameSoFar x y i → i < length x → getD x i 0 ≡ getD y i 0 → SameSoFar x y (i + 1)
-same-turn {x} {y} {i} s h e =
-    record {
-      rest = rw (add-one i) (sym (rw (eq-eqb (getD x i 0) (getD y i 0) e) at (step-at x y i h (omega (arith, s .long)))) ∙ s .rest);
-      within = omega arith;
-      long = s .long;
-    }
-
-pub same-ends : {x y : List ℕ} {i : ℕ} → SameSoFar x y i → length x ≤ i → true ≡ same-list x y
-unfolding same-list
-same-ends {x} {y} {i} s h = rw (drop-of-length-le x {i = i} h, drop-of-length-le y {i = i} (omega (arith, s .long))) at (s .rest)
-
-pub same-differs : {x y : List ℕ} {i : ℕ} → SameSoFar x y i → i < length x → (getD x i 0 ≡ getD y i 0 → ⊥) → false ≡ same-list x y
-same-differs {x} {y} {i} s h n = sym (rw (ne-eqb (getD x i 0) (getD y i 0) n) at (step-at x y i h (omega (arith, s .long)))) ∙ s .rest
 
 -- a slot and a tuple
 pub match-no : {w : ℕ} (ws t : List ℕ) (k : ℕ) → w ≡ word ws (10 * k) → (w ≡ length t → ⊥) → false ≡ match-at ws t k

@@ -4,9 +4,10 @@ use Prim.Native.Nat.{ℕ}
 use mathlib.Core.Bool.{cond}
 use mathlib.Core.List.{List, [], _∷_}
 use lib.Dec.{eqb}
+use Rattle.lists.specs.Same.{same-list}
 use Rattle.lists.specs.Fold.{fold}
 use Rattle.field.specs.Word.{addM}
-use Rattle.logup.specs.Ledger.{Entry, same-list}
+use Rattle.logup.specs.Ledger.{Entry}
 
 -- a tuple, and the sum of its counts modulo p
 pub record Slot : Type 0 where

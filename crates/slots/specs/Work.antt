@@ -5,12 +5,13 @@ use mathlib.Core.Option.{Option, none, some}
 use mathlib.Core.List.{List, [], _∷_, _++_}
 use lib.Dec.{eqb, leb, ltb}
 use lib.ListN.{length, take, drop, set, replicate}
+use Rattle.lists.specs.Same.{same-list}
 use Rattle.lists.specs.Tab.{tab}
 use Rattle.field.specs.Word.{addM}
 use Rattle.expression.specs.Words.{word}
 use Rattle.expression.specs.declared.refusal.Refusal.{Refusal}
 use Rattle.expression.specs.declared.refusal.Refusal.the-variants.{WorkspaceFull, NetNotZero}
-use Rattle.logup.specs.Ledger.{Entry, same-list}
+use Rattle.logup.specs.Ledger.{Entry}
 use Rattle.texts.specs.Text.{tuple-less}
 use Rattle.slots.specs.Slots.{Slot}
 use Rattle.slots.specs.Workspace.{full, workspace}

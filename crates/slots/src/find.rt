@@ -3,7 +3,7 @@ use expression::words::index;
 ghost use mathlib.Core.Path.{_≡_};
 ghost use Prim.Native.Nat.{_+_, _*_, _-_, _≤_};
 ghost use lib.ListN.{length};
-ghost use Rattle.logup.specs.Ledger.{same-list};
+ghost use Rattle.lists.specs.Same.{same-list};
 ghost use Rattle.slots.specs.Work.{match-at, find-slot};
 
 pub fn same_words(x: &[u32], y: &[u32]) -> bool

@@ -1,7 +1,7 @@
 -- What a passed test says of an element's words.
 use mathlib.Core.Path.{_≡_, refl, sym, ap, _∙_, subst}
 use mathlib.Core.Bool.{Bool, true, false, cond, _&&_, false≢true}
-use mathlib.Core.List.{List, [], _∷_}
+use mathlib.Core.List.{List}
 use Prim.Native.Nat.{ℕ, zero, suc, _<_}
 use native.Mathlib.Omega.{arith}
 use lib.Dec.{eqb, ltb}
@@ -9,6 +9,7 @@ use lib.ListN.{length}
 use borrow.Author.Tests.{eqb-true, ltb-true}
 use Rattle.field.specs.Element.{at, Word4, element}
 use Rattle.field.specs.Modulus.{babybear}
+use Rattle.field.specs.laws.Slice.{element-whole}
 use Rattle.telling.specs.Element.{four-below, element-number, element-after}
 
 -- four words below p, and room for four
@@ -40,18 +41,8 @@ tested {n} a room e z = go (eqb (length a) 4) (eqb room 4) (four-below a) refl r
     go true false b ex ey eb k = absurd (omega arith)
     go false y b ex ey eb k = absurd (omega arith)
 
--- the element that is loaded is the list itself
-pub loaded : (a : List ℕ) → length a ≡ 4 → element a 0 ≡ a
-unfolding element
-loaded [] e = absurd (omega arith)
-loaded (w ∷ []) e = absurd (omega arith)
-loaded (w ∷ x ∷ []) e = absurd (omega arith)
-loaded (w ∷ x ∷ y ∷ []) e = absurd (omega arith)
-loaded (w ∷ x ∷ y ∷ z ∷ []) e = refl
-loaded (w ∷ x ∷ y ∷ z ∷ v ∷ l) e = absurd (omega arith)
-
 pub loaded-words : {e a : List ℕ} {room : ℕ} → Tested a room → e ≡ element a 0 → Word4 babybear e
-loaded-words {e} {a} t k = subst (Word4 babybear) (sym (k ∙ loaded a (t .size))) (t .words)
+loaded-words {e} {a} t k = subst (Word4 babybear) (sym (k ∙ element-whole a (t .size))) (t .words)
 
 -- a refused call leaves the output as it was
 pub untouched : (n : ℕ) (element before : List ℕ) → (n ≡ 0 → ⊥) → before ≡ element-after n element before

@@ -1,21 +1,22 @@
 -- The turns of the loops of the widths: the first of n, the largest of n, and what is read of one lookup.
-use mathlib.Core.Path.{_≡_, refl, sym, ap, ap₂, _∙_}
+use mathlib.Core.Path.{_≡_, sym, ap, _∙_}
 use mathlib.Core.Bool.{Bool, true, false, cond, not, _&&_}
 use mathlib.Core.Option.{Option, none, some}
 use mathlib.Core.List.{List, _++_}
-use Prim.Native.Nat.{ℕ, _+_, _*_, _-_, _<_, _≤_, zero-le, max}
+use Prim.Native.Nat.{ℕ, _+_, _*_, _-_, _<_, _≤_, max}
 use native.Mathlib.Numerals.{add-one}
 use native.Mathlib.Omega.{arith}
 use native.Mathlib.Nat.{add-zero}
 use lib.Dec.{eqb, ltb}
-use borrow.Author.Tests.{eq-eqb, ne-eqb, ltb-true}
+use borrow.Author.Tests.{eq-eqb, ne-eqb, ltb-true, not-true, not-false}
 use lib.ListN.{length, drop, getD, replicate}
-use Rattle.lists.specs.Count.{first, or-else}
-use Rattle.lists.specs.laws.Count.{first-one, total-in}
+use Rattle.lists.specs.Same.{same-list}
+use Rattle.lists.specs.Count.{first}
+use Rattle.lists.specs.laws.Count.{total-in}
 use Rattle.expression.specs.Words.{word}
 use Rattle.lookup.specs.Lookups.{lookup-count, on-bus, name-start, tuple-count, tuple-start, tuple-width}
 use Rattle.degree.specs.Sums.{greatest}
-use Rattle.widths.specs.Order.{same, name-at, alone-at, arranged}
+use Rattle.widths.specs.Order.{name-at, alone-at, arranged}
 use Rattle.widths.specs.laws.Order.{arranged-below}
 use Rattle.lists.specs.laws.Parts.{getD-pad}
 use Rattle.expression.specs.declared.refusal.Refusal.{Refusal}
@@ -26,22 +27,6 @@ use Rattle.widths.specs.Door.{size-start}
 use Rattle.widths.specs.declared.spans.Spans.{Spans}
 use Rattle.widths.specs.declared.seen.Seen.{Seen}
 use Rattle.widths.specs.declared.seen.Seen.the-variants.{Width}
-
--- o is the first that is there of the first i
-pub record Finding {A : Type 0} (f : ℕ → Option A) (n i : ℕ) (o : Option A) : Type 0 where
-  pub within : i ≤ n
-  pub is : o ≡ first f i
-
-module _ {A : Type 0} where
-  pub find-begins : {f : ℕ → Option A} {n : ℕ} → Finding f n 0 none
-  unfolding first
-  find-begins = record { within = zero-le; is = refl }
-
-  pub find-turn : {f : ℕ → Option A} {n i : ℕ} {o o′ : Option A} (x : Option A) → Finding f n i o → i < n → o′ ≡ or-else o x → x ≡ f i → Finding f n (i + 1) o′
-  find-turn {f} {n} {i} {o} {o′} x s h e g = record { within = omega arith; is = e ∙ ap₂ or-else (s .is) g ∙ sym (first-one f i) }
-
-  pub find-ends : {f : ℕ → Option A} {n i : ℕ} {o : Option A} → Finding f n i o → n ≤ i → o ≡ first f n
-  find-ends {f} {n} {i} {o} s h = let e : i ≡ n = omega (arith, s .within) in s .is ∙ ap (first f) e
 
 pub named : {l m t : List ℕ} → Listed l m t → Named l m
 named a = record { few = a .few; room = a .names-in }
@@ -55,45 +40,37 @@ pub width-is : {s : ℕ} (l t : List ℕ) (i k : ℕ) → s ≡ tuple-start l i 
 unfolding tuple-width
 width-is {s} l t i k e = ap (λ (a : ℕ). word t (a + k)) e
 
-no : (b : Bool) → not b ≡ true → b ≡ false
-no true e = cc
-no false e = refl
-
-yes-of : (b : Bool) → not b ≡ false → b ≡ true
-yes-of true e = refl
-yes-of false e = cc
-
 -- `width_in_lookup`, return by return
 module _ (bus l m t : List ℕ) (i : ℕ) where
   pub seen-local : {b : Bool} → b ≡ on-bus l i → not b ≡ true → none ≡ width-in-lookup bus (bare l m t) i
   unfolding width-in-lookup
-  seen-local {b} e z = rw (sym e ∙ no b z)
+  seen-local {b} e z = rw (sym e ∙ not-true b z)
 
-  pub seen-other : {b d : Bool} → b ≡ on-bus l i → not b ≡ false → d ≡ same bus (name-at l m i) → not d ≡ true → none ≡ width-in-lookup bus (bare l m t) i
+  pub seen-other : {b d : Bool} → b ≡ on-bus l i → not b ≡ false → d ≡ same-list bus (name-at l m i) → not d ≡ true → none ≡ width-in-lookup bus (bare l m t) i
   unfolding width-in-lookup
-  seen-other {b} {d} e z f y = rw (sym e ∙ yes-of b z, sym f ∙ no d y)
+  seen-other {b} {d} e z f y = rw (sym e ∙ not-false b z, sym f ∙ not-true d y)
 
-  pub seen-none : {b d : Bool} {n : ℕ} → b ≡ on-bus l i → not b ≡ false → d ≡ same bus (name-at l m i) → not d ≡ false → n ≡ tuple-count l i → not (ltb 0 n) ≡ true
+  pub seen-none : {b d : Bool} {n : ℕ} → b ≡ on-bus l i → not b ≡ false → d ≡ same-list bus (name-at l m i) → not d ≡ false → n ≡ tuple-count l i → not (ltb 0 n) ≡ true
       → none ≡ width-in-lookup bus (bare l m t) i
   unfolding width-in-lookup
-  seen-none {b} {d} {n} e z f y g x = rw (sym e ∙ yes-of b z, sym f ∙ yes-of d y, ← g, no (ltb 0 n) x)
+  seen-none {b} {d} {n} e z f y g x = rw (sym e ∙ not-false b z, sym f ∙ not-false d y, ← g, not-true (ltb 0 n) x)
 
-  pub seen-width : {b d : Bool} {n s : ℕ} → b ≡ on-bus l i → not b ≡ false → d ≡ same bus (name-at l m i) → not d ≡ false → n ≡ tuple-count l i → not (ltb 0 n) ≡ false → s ≡ tuple-start l i
+  pub seen-width : {b d : Bool} {n s : ℕ} → b ≡ on-bus l i → not b ≡ false → d ≡ same-list bus (name-at l m i) → not d ≡ false → n ≡ tuple-count l i → not (ltb 0 n) ≡ false → s ≡ tuple-start l i
       → some (word t s) ≡ width-in-lookup bus (bare l m t) i
   unfolding width-in-lookup
-  seen-width {b} {d} {n} {s} e z f y g x q = rw (sym e ∙ yes-of b z, sym f ∙ yes-of d y, ← g, yes-of (ltb 0 n) x) (ap some (ap (word t) (sym (add-zero s)) ∙ width-is l t i 0 q))
+  seen-width {b} {d} {n} {s} e z f y g x q = rw (sym e ∙ not-false b z, sym f ∙ not-false d y, ← g, not-false (ltb 0 n) x) (ap some (ap (word t) (sym (add-zero s)) ∙ width-is l t i 0 q))
 
 -- there is a tuple
 pub has-tuple : {n : ℕ} → not (ltb 0 n) ≡ false → 0 < n
-has-tuple {n} x = ltb-true 0 n (yes-of (ltb 0 n) x)
+has-tuple {n} x = ltb-true 0 n (not-false (ltb 0 n) x)
 
 pub widest-local : {b : Bool} (l m t : List ℕ) (i : ℕ) → b ≡ on-bus l i → not b ≡ true → 0 ≡ widest-in-lookup (bare l m t) i
 unfolding widest-in-lookup
-widest-local {b} l m t i e z = rw (sym e ∙ no b z)
+widest-local {b} l m t i e z = rw (sym e ∙ not-true b z)
 
 pub widest-bus : {b : Bool} {n r : ℕ} (l m t : List ℕ) (i : ℕ) → b ≡ on-bus l i → not b ≡ false → n ≡ tuple-count l i → r ≡ greatest (tuple-width l t i) n → r ≡ widest-in-lookup (bare l m t) i
 unfolding widest-in-lookup
-widest-bus {b} l m t i e z f g = rw (sym e ∙ yes-of b z, ← f) g
+widest-bus {b} l m t i e z f g = rw (sym e ∙ not-false b z, ← f) g
 
 -- `tuple_verdict`
 pub widths-same : {e : Seen} {x w : ℕ} (i : ℕ) → e ≡ Width x → w ≡ x → none ≡ tuple-refusal i (seen e) w
@@ -115,12 +92,12 @@ spans-is sizes t ea ew ec ev ee eu =
 module _ (ts : Tables) (l m t : List ℕ) (i : ℕ) where
   pub verdict-local : {b : Bool} → b ≡ on-bus l i → not b ≡ true → none ≡ lookup-refusal ts (bare l m t) i
   unfolding lookup-refusal
-  verdict-local {b} e z = rw (sym e ∙ no b z)
+  verdict-local {b} e z = rw (sym e ∙ not-true b z)
 
   pub verdict-bus : {b : Bool} {o : Option ℕ} {r : Option Refusal} → b ≡ on-bus l i → not b ≡ false → o ≡ expected ts (name-at l m i) → r ≡ first (λ k. tuple-refusal i o (tuple-width l t i k)) (tuple-count l i)
       → r ≡ lookup-refusal ts (bare l m t) i
   unfolding lookup-refusal
-  verdict-bus {b} e z f g = rw (sym e ∙ yes-of b z, ← f) g
+  verdict-bus {b} e z f g = rw (sym e ∙ not-false b z, ← f) g
 
 -- the order that the code fills is that of the definition
 pub bus-at : {i : ℕ} {b : List ℕ} (l m t : List ℕ) (k : ℕ) → b ≡ arranged (alone-at false l) (name-at l m) (lookup-count l) ++ drop (lookup-count l) (replicate 64 0) → i ≡ getD b k 0

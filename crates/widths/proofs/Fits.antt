@@ -1,5 +1,5 @@
 -- What the tests of the door say, and its answer.
-use mathlib.Core.Path.{_≡_, refl, sym, ap, ap₂, _∙_}
+use mathlib.Core.Path.{_≡_, sym, ap, ap₂, _∙_}
 use mathlib.Core.Bool.{Bool, true, false, not, _&&_}
 use mathlib.Core.Option.{Option, none, some}
 use mathlib.Core.List.{List, [], _∷_}
@@ -7,7 +7,7 @@ use Prim.Native.Nat.{ℕ, _+_, _*_, _/_, _%_, _<_, _≤_}
 use native.Mathlib.Omega.{arith}
 use lib.Dec.{eqb, leb}
 use lib.ListN.{length}
-use borrow.Author.Tests.{eqb-true, leb-true}
+use borrow.Author.Tests.{eqb-true, leb-true, not-true, not-false}
 use Rattle.lists.specs.Count.{every}
 use Rattle.lists.specs.laws.Tests.{passed, every-true}
 use Rattle.expression.specs.Limits.{Sane}
@@ -86,14 +86,6 @@ module _ (m : Limits) (l : Lookups) where
         tuples-in = omega (arith, eqb-true (length (l .tuples)) (tuple-start (l .lookups) (lookup-count (l .lookups))) (k .1 .1 .0));
       }
 
-no : (a : Bool) → not a ≡ true → a ≡ false
-no true e = cc
-no false e = refl
-
-yes : (a : Bool) → not a ≡ false → a ≡ true
-yes true e = refl
-yes false e = cc
-
 -- `all_fit` and the answer
 module _ (m : Limits) (l : Lists) where
   pub all-yes : {a b : Bool} → a ≡ lists-fit m l → a ≡ true → b ≡ every (λ t. table-fits m (table-at l t)) (table-count (l .sizes)) → b ≡ all-fit m l
@@ -107,7 +99,7 @@ module _ (m : Limits) (l : Lists) where
   pub tabled : {a : Bool} → Sane m → a ≡ all-fit m l → not a ≡ false → Tabled l
   unfolding all-fit
   tabled {a} g e z =
-      let k = passed (lists-fit m l) (every (λ t. table-fits m (table-at l t)) (table-count (l .sizes)) ∷ []) (sym e ∙ yes a z) in
+      let k = passed (lists-fit m l) (every (λ t. table-fits m (table-at l t)) (table-count (l .sizes)) ∷ []) (sym e ∙ not-false a z) in
       record {
         spanned = spanned m l g (k .0);
         each = λ t h. listed m (table-at l t) g (every-true (λ t. table-fits m (table-at l t)) (table-count (l .sizes)) t (k .1 .0) h);
@@ -115,13 +107,13 @@ module _ (m : Limits) (l : Lists) where
 
   pub answer-size : {a : Bool} → a ≡ all-fit m l → not a ≡ true → Refused SizeAtOdds ≡ widths-answer m l
   unfolding widths-answer
-  answer-size {a} e z = rw (sym e ∙ no a z)
+  answer-size {a} e z = rw (sym e ∙ not-true a z)
 
   pub answer-widest : {a : Bool} {v : Verdict} {w w′ : ℕ} → a ≡ all-fit m l → not a ≡ false → refusal v ≡ widths-refusal (tables-of l) → v ≡ verdict.Accepted → w ≡ widest (tables-of l) → w′ ≡ w
       → Widest w′ ≡ widths-answer m l
   unfolding widths-answer
-  answer-widest {a} {v} {w} {w′} e z f k ew ek = rw (sym e ∙ yes a z, sym f ∙ ap refusal k, ek ∙ ew)
+  answer-widest {a} {v} {w} {w′} e z f k ew ek = rw (sym e ∙ not-false a z, sym f ∙ ap refusal k, ek ∙ ew)
 
   pub answer-refused : {a : Bool} {v : Verdict} {f : Refusal} → a ≡ all-fit m l → not a ≡ false → refusal v ≡ widths-refusal (tables-of l) → v ≡ verdict.Refused f → Refused f ≡ widths-answer m l
   unfolding widths-answer
-  answer-refused {a} {v} {f} e z g k = rw (sym e ∙ yes a z, sym g ∙ ap refusal k)
+  answer-refused {a} {v} {f} e z g k = rw (sym e ∙ not-false a z, sym g ∙ ap refusal k)

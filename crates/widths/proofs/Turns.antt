@@ -1,6 +1,6 @@
 -- The turns of the loops of the order, over plain lists and numbers.
 use mathlib.Core.Path.{_≡_, refl, sym, ap, ap₂, _∙_}
-use mathlib.Core.Bool.{Bool, true, false, cond, not, _&&_, _||_}
+use mathlib.Core.Bool.{Bool, true, false, cond, not, _||_}
 use mathlib.Core.List.{List, [], _∷_, _++_, append-nil, append-assoc}
 use Prim.Native.Nat.{ℕ, zero, suc, _+_, _*_, _-_, _<_, _≤_, zero-le}
 use native.Mathlib.Numerals.{add-one}
@@ -10,6 +10,7 @@ use lib.Dec.{eqb, ltb}
 use lib.ListN.{length, take, drop, getD, set, replicate, length-append, take-append-drop, drop-of-length-le, List·getD-append}
 use lib.Seq.{drop-cons, getD-at, length-take-le, take-at, drop-at, drop-drop}
 use borrow.Author.Tests.{eq-eqb, ne-eqb}
+use Rattle.lists.specs.Same.{same-list}
 use Rattle.lists.specs.laws.Parts.{through-length, getD-pad}
 use Rattle.lists.specs.laws.Filled.{Filled, filled-none, filled-one}
 use Rattle.lists.specs.Tab.{tab}
@@ -18,47 +19,9 @@ use Rattle.lists.specs.Count.{total}
 use Rattle.lists.specs.laws.Count.{total-in}
 use Rattle.lookup.specs.Lookups.{lookup-count, name-length, name-start}
 use Rattle.degree.specs.Sums.{sum-of}
-use Rattle.widths.specs.Order.{same, position, keep, by-place, numbers, name-at, same-bus, place, arranged}
+use Rattle.widths.specs.Order.{position, keep, by-place, numbers, name-at, same-bus, place, arranged}
 use Rattle.widths.specs.Asks.{Named, of-place, order-of}
 use Rattle.widths.specs.laws.Order.{keep-append, sum-by-place, numbers-length, numbers-at, numbers-below, ones, by-place-cong, arranged-length}
-
--- two lists agree in their position i words
-pub record SameSoFar (x y : List ℕ) (i : ℕ) : Type 0 where
-  pub rest : same (drop i x) (drop i y) ≡ same x y
-  pub within : i ≤ length x
-  pub long : length x ≡ length y
-
-pub same-begins : {x y : List ℕ} → length x ≡ length y → SameSoFar x y 0
-same-begins e = record { rest = refl; within = zero-le; long = e }
-
-step-at : (x y : List ℕ) (i : ℕ) → i < length x → i < length y → same (drop i x) (drop i y) ≡ (eqb (getD x i 0) (getD y i 0) && same (drop (suc i) x) (drop (suc i) y))
-unfolding same
-step-at x y i h g = rw (drop-cons x i 0 h, drop-cons y i 0 g)
-
-pub same-turn : {x y : List ℕ} {i : ℕ} → SameSoFar x y i → i < length x → getD x i 0 ≡ getD y i 0 → SameSoFar x y (i + 1)
-same-turn {x} {y} {i} s h e = record {
-  rest = rw (add-one i) (sym (rw (eq-eqb (getD x i 0) (getD y i 0) e) at (step-at x y i h (omega (arith, s .long)))) ∙ s .rest);
-  within = omega arith;
-  long = s .long;
-}
-
-pub same-ends : {x y : List ℕ} {i : ℕ} → SameSoFar x y i → length x ≤ i → true ≡ same x y
-unfolding same
-same-ends {x} {y} {i} s h = (rw (drop-of-length-le x {i = i} h, drop-of-length-le y {i = i} (omega (arith, s .long))) at (s .rest))
-
-pub same-differs : {x y : List ℕ} {i : ℕ} → SameSoFar x y i → i < length x → (getD x i 0 ≡ getD y i 0 → ⊥) → false ≡ same x y
-same-differs {x} {y} {i} s h n = sym (rw (ne-eqb (getD x i 0) (getD y i 0) n) at (step-at x y i h (omega (arith, s .long)))) ∙ s .rest
-
-pub same-lengths : (x y : List ℕ) → (length x ≡ length y → ⊥) → false ≡ same x y
-unfolding same
-same-lengths [] [] n = absurd (n refl)
-same-lengths [] (b ∷ y) n = refl
-same-lengths (a ∷ x) [] n = refl
-same-lengths (a ∷ x) (b ∷ y) n = go (eqb a b) (same-lengths x y (λ e. n (ap suc e)))
-  where
-    go : (c : Bool) → false ≡ same x y → false ≡ (c && same x y)
-    go true e = e
-    go false e = refl
 
 -- the parts that lie in a list
 pub part-in : (f : ℕ → ℕ) (n i : ℕ) {a m z : ℕ} → total f n ≤ z → a ≡ total f i → m ≡ f i → i < n → a + m ≤ z
@@ -79,7 +42,7 @@ module _ (alone : ℕ → Bool) (name : ℕ → List ℕ) (i j : ℕ) where
   unfolding same-bus
   bus-second e z f y = rw (sym e ∙ z, sym f ∙ y)
 
-  pub bus-both : {t u r : Bool} → t ≡ alone i → t ≡ false → u ≡ alone j → u ≡ false → r ≡ same (name i) (name j) → r ≡ same-bus alone name i j
+  pub bus-both : {t u r : Bool} → t ≡ alone i → t ≡ false → u ≡ alone j → u ≡ false → r ≡ same-list (name i) (name j) → r ≡ same-bus alone name i j
   unfolding same-bus
   bus-both e z f y er = rw (sym e ∙ z, sym f ∙ y) er
 
@@ -87,7 +50,7 @@ pub name-is : {a c w : ℕ} (l m : List ℕ) (i : ℕ) → a ≡ name-start l i 
 unfolding name-at
 name-is {a} {c} {w} l m i ea ew ec = let k : c - a ≡ w = omega arith in ap₂ (λ (x y : ℕ). take x (drop y m)) (k ∙ ew) ea
 
--- a search: none of the position j passes
+-- a search: none of the first j passes
 pub record Searched (f : ℕ → Bool) (n j : ℕ) : Type 0 where
   pub rest : j + position f (drop j (numbers n)) ≡ position f (numbers n)
   pub within : j ≤ n

@@ -1,9 +1,10 @@
 -- The order in which packing and widths go through a table's lookups.
-use mathlib.Core.Bool.{Bool, true, false, cond, not, _&&_, _||_}
+use mathlib.Core.Bool.{Bool, cond, not, _&&_, _||_}
 use mathlib.Core.List.{List, [], _∷_, _++_}
 use Prim.Native.Nat.{ℕ, zero, suc}
 use lib.Dec.{eqb}
 use lib.ListN.{take, drop}
+use Rattle.lists.specs.Same.{same-list}
 use Rattle.lookup.specs.Lookups.{on-bus, exclusive, name-length, name-start}
 
 module _ {A : Type 0} where
@@ -27,13 +28,6 @@ unfoldable pub numbers : ℕ → List ℕ
 numbers zero = []
 numbers (suc n) = numbers n ++ (n ∷ [])
 
--- equal names: as many bytes, and the same ones
-unfoldable pub same : List ℕ → List ℕ → Bool
-same [] [] = true
-same [] (y ∷ ys) = false
-same (x ∷ xs) [] = false
-same (x ∷ xs) (y ∷ ys) = eqb x y && same xs ys
-
 -- the name of lookup i
 unfoldable pub name-at : List ℕ → List ℕ → ℕ → List ℕ
 name-at lookups names i = take (name-length lookups i) (drop (name-start lookups i) names)
@@ -45,7 +39,7 @@ alone-at packing lookups i = cond packing (not (on-bus lookups i) || exclusive l
 -- n lookups by bus; the lookups that are `alone` belong to none
 module _ (alone : ℕ → Bool) (name : ℕ → List ℕ) where
   unfoldable pub same-bus : ℕ → ℕ → Bool
-  same-bus i j = not (alone i) && (not (alone j) && same (name i) (name j))
+  same-bus i j = not (alone i) && (not (alone j) && same-list (name i) (name j))
 
   -- place 0 for those that are alone, place 1 + j for those on the bus whose first lookup is lookup j
   unfoldable pub place : ℕ → ℕ → ℕ

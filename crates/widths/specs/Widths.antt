@@ -5,13 +5,14 @@ use mathlib.Core.Option.{Option, none, some}
 use mathlib.Core.List.{List}
 use Prim.Native.Nat.{ℕ}
 use lib.Dec.{eqb, ltb}
+use Rattle.lists.specs.Same.{same-list}
 use Rattle.lists.specs.Count.{first}
 use Rattle.expression.specs.Words.{word}
 use Rattle.expression.specs.declared.refusal.Refusal.{Refusal}
 use Rattle.expression.specs.declared.refusal.Refusal.the-variants.{WidthsDiffer}
 use Rattle.lookup.specs.Lookups.{Lookups, lookup-count, on-bus, tuple-count, tuple-width}
 use Rattle.degree.specs.Sums.{greatest}
-use Rattle.widths.specs.Order.{same, name-at, alone-at, arranged}
+use Rattle.widths.specs.Order.{name-at, alone-at, arranged}
 
 -- several tables, of which only the lookups, names and tuples count here
 pub record Tables : Type 0 where
@@ -21,7 +22,7 @@ pub record Tables : Type 0 where
 -- the width of the first tuple of lookup i, if that is on the bus of this name and has tuples
 unfoldable pub width-in-lookup : List ℕ → Lookups → ℕ → Option ℕ
 width-in-lookup bus l i =
-    cond (on-bus (l .lookups) i && same bus (name-at (l .lookups) (l .names) i) && ltb 0 (tuple-count (l .lookups) i))
+    cond (on-bus (l .lookups) i && same-list bus (name-at (l .lookups) (l .names) i) && ltb 0 (tuple-count (l .lookups) i))
     (some (tuple-width (l .lookups) (l .tuples) i 0)) none
 
 unfoldable pub width-in-table : List ℕ → Lookups → Option ℕ

@@ -8,14 +8,15 @@ ghost use mathlib.Core.Path.{_≡_};
 ghost use mathlib.Core.List.{_++_};
 ghost use Prim.Native.Nat.{_+_, _*_, _<_, _≤_};
 ghost use lib.ListN.{length, take, drop, replicate};
+ghost use Rattle.lists.specs.Same.{same-list};
 ghost use Rattle.lists.specs.Tab.{tab};
 ghost use Rattle.lookup.specs.Lookups.{lookup-count};
-ghost use Rattle.widths.specs.Order.{same, name-at, alone-at, same-bus, place, arranged};
+ghost use Rattle.widths.specs.Order.{name-at, alone-at, same-bus, place, arranged};
 ghost use Rattle.widths.specs.Asks.{Named, of-place, order-of};
 
 // Whether two names are equal.
 pub fn same_bytes(x: &[u8], y: &[u8]) -> bool
-    ensures { λ r. ⌜ r ≡ same (now (x .entry)) (now (y .entry)) ⌝ }
+    ensures { λ r. ⌜ r ≡ same-list (now (x .entry)) (now (y .entry)) ⌝ }
 {
     if x.len() != y.len() {
         return false;

@@ -9,7 +9,7 @@ use Rattle.lists.specs.Count.{joined}
 use Rattle.lists.specs.Tab.{tab}
 use Rattle.lists.specs.laws.Tab.{tab-none, tab-one}
 use Rattle.lists.specs.laws.Filled.{Filled, filled-none, filled-one}
-use Rattle.wire.specs.Wire.{word-of, word-at, words-of, word-bytes}
+use Rattle.wire.specs.Wire.{word-of, word-at, words-of}
 
 -- the first i of n words are written
 pub record Decoding (bytes d : List ℕ) (n : ℕ) (out : List ℕ) (i : ℕ) : Type 0 where
@@ -41,7 +41,3 @@ pub word-read : (bytes : List ℕ) (i at a b c d r : ℕ) → at ≡ 4 * i → a
     → r ≡ word-of a b c d → r ≡ word-at bytes i
 unfolding word-at
 word-read bytes i at a b c d r e ea eb ec ed er = rw (er, ea, eb, ec, ed, e)
-
-pub four : (x : ℕ) → length (word-bytes x) ≡ 4
-unfolding word-bytes
-four x = refl

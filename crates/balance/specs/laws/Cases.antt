@@ -5,6 +5,7 @@ use mathlib.Core.Option.{none, some}
 use mathlib.Core.List.{List, [], _∷_, _++_, flatMap}
 use Prim.Native.Nat.{ℕ, _*_}
 use lib.ListN.{length, replicate}
+use Rattle.lists.specs.Same.{same-list}
 use Rattle.lists.specs.Count.{total, every, joined}
 use Rattle.lists.specs.Fold.{fold}
 use Rattle.lists.specs.Tab.{tab}
@@ -19,12 +20,11 @@ use Rattle.expression.specs.Tests.{traces-within, nodes-within, traces-fit, nod
 use Rattle.expression.specs.declared.refusal.Refusal.the-variants.{RowsMissing, WorkspaceFull, NetNotZero}
 use Rattle.lookup.specs.Lookups.{Lookups, name-start, tuple-start, multiplicity-start, flag-start, element-start, tuple-width, tuple-nodes, lookup-at, lookups-of}
 use Rattle.lookup.specs.Tests.{lookups-within, lookups-fit, sizes, words-below, known, lengths-agree, nodes-present, lists-agree, has-lookups, preprocessed-enough}
-use Rattle.logup.specs.Ledger.{same-list}
 use Rattle.texts.specs.Text.{digits, in-order, text-less}
 use Rattle.slots.specs.Slots.{enter, meet, slots}
 use Rattle.slots.specs.Workspace.{full, workspace}
 use Rattle.slots.specs.Named.{unbalanced, names-first, group-refusal}
-use Rattle.widths.specs.Order.{keep, same}
+use Rattle.widths.specs.Order.{keep}
 use Rattle.balance.specs.Tables.{Lists, size-start, part, shape-at, lookups-at, table-at, tables-of, lists-fit}
 use Rattle.balance.specs.Groups.{members, same-bus, appears, local-group, bus-group, bus-groups, groups}
 use Rattle.balance.specs.Entries.{count-of, entry-of, row-entries, member-entries, entries}
@@ -131,5 +131,5 @@ pub cases :
     -- "1" before "10" before "2"
     × (text-less 1 10 ≡ true)
     × (text-less 10 2 ≡ true)
-unfolding total every joined fold tab flatMap all-below all-within cabinet decode node row-of window node-value values row-values node-degree degrees traces-within nodes-within traces-fit nodes-fit traces-below constants-below nodes-known degrees-low name-start tuple-start multiplicity-start flag-start element-start tuple-width tuple-nodes lookup-at lookups-of lookups-within lookups-fit sizes words-below known lengths-agree nodes-present lists-agree has-lookups preprocessed-enough same-list digits in-order enter meet slots full workspace unbalanced names-first group-refusal keep same size-start part shape-at lookups-at table-at tables-of lists-fit members same-bus appears local-group bus-group bus-groups groups count-of entry-of row-entries member-entries entries all listed covered tables-refusal visit balance check
+unfolding total every joined fold tab flatMap all-below all-within cabinet decode node row-of window node-value values row-values node-degree degrees traces-within nodes-within traces-fit nodes-fit traces-below constants-below nodes-known degrees-low name-start tuple-start multiplicity-start flag-start element-start tuple-width tuple-nodes lookup-at lookups-of lookups-within lookups-fit sizes words-below known lengths-agree nodes-present lists-agree has-lookups preprocessed-enough same-list digits in-order enter meet slots full workspace unbalanced names-first group-refusal keep size-start part shape-at lookups-at table-at tables-of lists-fit members same-bus appears local-group bus-group bus-groups groups count-of entry-of row-entries member-entries entries all listed covered tables-refusal visit balance check
 cases = (refl, refl, refl, refl, refl, refl, refl, refl, refl, refl, refl, refl)

@@ -11,10 +11,11 @@ use lib.Seq.{getD-take, getD-drop}
 use Rattle.lists.specs.Count.{joined, total}
 use Rattle.lists.specs.Fold.{fold}
 use Rattle.lists.specs.Tab.{tab}
-use Rattle.lists.specs.laws.Tab.{tab-length}
+use Rattle.lists.specs.laws.Tab.{tab-length, tab-at, tab-cong, map-tab}
 use Rattle.lists.specs.laws.Tests.{passed, both-left, both-right}
+use Rattle.lists.specs.laws.Joined.{joined-singles}
 use Rattle.lists.specs.laws.Sums.{total-cong}
-use Rattle.lists.specs.laws.Tab.{map-tab}
+use Rattle.lists.specs.Same.{same-list}
 use Rattle.field.specs.Modulus.{Modulus}
 use Rattle.field.specs.Word.{mulM}
 use Rattle.expression.specs.Words.{word}
@@ -30,7 +31,7 @@ use Rattle.widths.specs.Order.{keep}
 use Rattle.widths.specs.laws.Order.{keep-all}
 use Rattle.balance.specs.Groups.{Member, members, local, same-bus, appears, local-group, bus-group, bus-groups, groups}
 use Rattle.balance.specs.Entries.{count-of, entry-of, row-entries, values-of, member-entries, entries}
-use Rattle.balance.specs.laws.Lists.{tab-in, tab-at, tab-same, joined-same, joined-singles, flat-tab}
+use Rattle.balance.specs.laws.Lists.{tab-in, joined-same, flat-tab}
 use Rattle.balance.specs.laws.Sums.{tally, net-tally, tally-joined, total-swap}
 
 -- a word of a part of a list
@@ -61,7 +62,7 @@ module _ (p : ℕ) (l : Lookups) (vals : List ℕ) (b : Below p vals) (i : ℕ) 
   unfolding row-entries logup.lookup-entries lookup-at
   lookup-entries-is =
       ap (tab (entry-of p (lookup-at l i) vals) 0) (tab-length (tuple-nodes l i) 0 (tuple-count (l .lookups) i))
-      ∙ tab-same (entry-of p (lookup-at l i) vals) (logup.entry p l vals i) (tuple-count (l .lookups) i) entry-is
+      ∙ tab-cong (entry-of p (lookup-at l i) vals) (logup.entry p l vals i) (tuple-count (l .lookups) i) entry-is
       ∙ sym (joined-singles (logup.entry p l vals i) (tuple-count (l .lookups) i))
 
 -- lookup i of a table
@@ -108,7 +109,7 @@ bus-not-local : (m n : Member) → same-bus m n ≡ true → local m ≡ false
 unfolding same-bus
 bus-not-local m n e = go (local m) e
   where
-    go : (b : Bool) → (not b && (not (local n) && Rattle.widths.specs.Order.same (m .lookup .name) (n .lookup .name))) ≡ true → b ≡ false
+    go : (b : Bool) → (not b && (not (local n) && same-list (m .lookup .name) (n .lookup .name))) ≡ true → b ≡ false
     go true q = sym q
     go false q = refl
 
@@ -148,7 +149,7 @@ ledger-group t o =
 net-below : (p : ℕ) → 0 < p → (es : List logup.Entry) (f : List ℕ → ℕ) (l : List ℕ) → f l < p → fold (logup.post p) f es l < p
 unfolding fold logup.post
 net-below p z [] f l h = h
-net-below p z (e ∷ es) f l h = net-below p z es (logup.post p f e) l (one (logup.same-list (e .tuple) l))
+net-below p z (e ∷ es) f l h = net-below p z es (logup.post p f e) l (one (same-list (e .tuple) l))
   where
     one : (b : Bool) → cond b ((f l + e .count) % p) (f l) < p
     one true = mod-lt (f l + e .count) z

@@ -1,16 +1,12 @@
 -- Lists that are made by a function, and lists of lists one after the other.
-use mathlib.Core.Path.{_≡_, refl, sym, ap, ap₂, _∙_}
+use mathlib.Core.Path.{_≡_, refl, sym, ap₂, _∙_}
 use mathlib.Core.List.{List, [], _∷_, _++_, append-assoc, append-nil, map, flatMap, List·Memᴰ, List·Memᴰ·head, List·Memᴰ·tail, List·Memᴰ·append-cases, List·Memᴰ·eq-of-singleton}
 use mathlib.Core.Logic.{_⊎_, inl, inr}
 use Prim.Native.Nat.{ℕ, zero, suc, _+_, _<_}
-use native.Mathlib.Nat.{zero-add}
 use native.Mathlib.Omega.{arith}
-use lib.ListN.{length, getD, List·getD-append}
-use lib.Seq.{getD-at}
+use lib.ListN.{length}
 use Rattle.lists.specs.Count.{joined}
 use Rattle.lists.specs.Tab.{tab}
-use Rattle.lists.specs.laws.Count.{last-or-below}
-use Rattle.lists.specs.laws.Tab.{tab-length}
 use Rattle.lists.specs.laws.Tab.{flat-append}
 
 module _ {A : Type 0} where
@@ -24,30 +20,11 @@ module _ {A : Type 0} where
       go ih (inl k) = ih k
       go ih (inr k) = (a + n, List·Memᴰ·eq-of-singleton k)
 
-  -- the j-th element
-  pub tab-at : (f : ℕ → A) (n j : ℕ) (z : A) → j < n → getD (tab f 0 n) j z ≡ f j
-  unfolding tab
-  tab-at f zero j z l = absurd (omega arith)
-  tab-at f (suc n) j z l =
-      last-or-below (λ j. getD (tab f 0 n ++ (f (0 + n) ∷ [])) j z ≡ f j) n j l
-      (getD-at (tab f 0 n) (f (0 + n)) [] z n (tab-length f 0 n) ∙ ap f (zero-add n))
-      (λ l. List·getD-append (tab f 0 n) (f (0 + n) ∷ []) z j (rw (tab-length f 0 n) l) ∙ tab-at f n j z l)
-
   -- functions that agree
-  pub tab-same : (f g : ℕ → A) (n : ℕ) → ((j : ℕ) → j < n → f j ≡ g j) → tab f 0 n ≡ tab g 0 n
-  unfolding tab
-  tab-same f g zero e = refl
-  tab-same f g (suc n) e = ap₂ (λ (l : List A) (x : A). l ++ (x ∷ [])) (tab-same f g n (λ j l. e j (omega arith))) (e (0 + n) (omega arith))
-
   pub joined-same : (f g : ℕ → List A) (n : ℕ) → ((j : ℕ) → j < n → f j ≡ g j) → joined f 0 n ≡ joined g 0 n
   unfolding joined
   joined-same f g zero e = refl
   joined-same f g (suc n) e = ap₂ (λ (l m : List A). l ++ m) (joined-same f g n (λ j l. e j (omega arith))) (e (0 + n) (omega arith))
-
-  pub joined-singles : (f : ℕ → A) (n : ℕ) → joined (λ k. f k ∷ []) 0 n ≡ tab f 0 n
-  unfolding joined tab
-  joined-singles f zero = refl
-  joined-singles f (suc n) = ap (λ (l : List A). l ++ (f (0 + n) ∷ [])) (joined-singles f n)
 
 module _ {A B : Type 0} where
   pub flat-in : (f : A → List B) (xs : List A) {y : B} → List·Memᴰ y (flatMap f xs) → (x : A) × List·Memᴰ x xs × List·Memᴰ y (f x)

@@ -13,8 +13,7 @@ use borrow.Author.Tests.{lt-ltb, le-ltb}
 use Rattle.lists.specs.Count.{total, joined}
 use Rattle.lists.specs.Tab.{tab}
 use Rattle.lists.specs.laws.Count.{total-le, total-in}
-use Rattle.lists.specs.laws.Tab.{tab-length, tab-add}
-use Rattle.lists.specs.laws.Tab.{map-tab}
+use Rattle.lists.specs.laws.Tab.{tab-length, tab-add, tab-cong, map-tab}
 use Rattle.expression.specs.Words.{word}
 use Rattle.lookup.specs.Lookups.{Lookups, Lookup, lookup-count, entry, on-bus, name-length, weight, column, exclusive, tuple-count, multiplicity-count, flag-count, name-start, tuple-start, multiplicity-start, flag-start, element-start, tuple-width, tuple-nodes, lookup-at, lookups-of}
 use Rattle.lookup.specs.Table.{Table}
@@ -23,17 +22,13 @@ use Rattle.lookup.specs.laws.Tested.{placed, tuple-placed}
 use Rattle.balance.specs.Tables.{Lists, table-count, size, size-start, part, lookups-at, table-at, tables-of}
 use Rattle.balance.specs.Groups.{Member, members}
 use Rattle.balance.specs.Members.{table-from, table-of, member-at}
-use Rattle.balance.specs.laws.Lists.{tab-same, joined-same, flat-tab}
+use Rattle.balance.specs.Valid.{Spanned}
+use Rattle.balance.specs.laws.Lists.{joined-same, flat-tab}
 use Rattle.balance.specs.laws.Ledger.{part-word}
 
--- The lists of the lookups are those of the tables, and each table's lists fit.
+-- The lists are those of the tables, and each table's lists of lookups fit.
 pub record Fitted (l : Lists) : Type 0 where
-  pub lookups : length (l .lookups .lookups) ≡ 8 * size-start (l .sizes) 8 (table-count (l .sizes))
-  pub names : length (l .lookups .names) ≡ 1 * size-start (l .sizes) 9 (table-count (l .sizes))
-  pub tuples : length (l .lookups .tuples) ≡ 1 * size-start (l .sizes) 10 (table-count (l .sizes))
-  pub multiplicities : length (l .lookups .multiplicities) ≡ 1 * size-start (l .sizes) 11 (table-count (l .sizes))
-  pub flags : length (l .lookups .flags) ≡ 1 * size-start (l .sizes) 12 (table-count (l .sizes))
-  pub elements : length (l .lookups .elements) ≡ 1 * size-start (l .sizes) 13 (table-count (l .sizes))
+  pub spanned : Spanned l
   pub each : (t : ℕ) → t < table-count (l .sizes) → Fitting (lookups-at l t)
 
 -- a table's part lies within its list
@@ -152,7 +147,7 @@ module _ (l : Lists) (f : Fitted l) where
   pub table-lookups : (t : ℕ) → t < N → lookup-count (T t .lookups) ≡ size (l .sizes) 8 t
   unfolding lookups-at
   table-lookups t h =
-      let e : length (part (l .sizes) 8 8 t (G .lookups)) ≡ 8 * size (l .sizes) 8 t = part-long (l .sizes) 8 8 t N (G .lookups) h (f .lookups) in
+      let e : length (part (l .sizes) 8 8 t (G .lookups)) ≡ 8 * size (l .sizes) 8 t = part-long (l .sizes) 8 8 t N (G .lookups) h (f .spanned .lookups) in
       omega (arith, e)
 
   -- a word of a lookup
@@ -178,25 +173,25 @@ module _ (l : Lists) (f : Fitted l) where
   unfolding name-start size-start lookups-at
   name-starts t i h g =
       starts (size (l .sizes) 8) (name-length (G .lookups)) (λ t. name-length (T t .lookups)) (size (l .sizes) 9) N (λ t j q r. name-of-table t j r)
-      (λ t q. own-size 9 t (G .names) (name-length (T t .lookups)) q (f .names) (f .each t q .names)) t i h g
+      (λ t q. own-size 9 t (G .names) (name-length (T t .lookups)) q (f .spanned .names) (f .each t q .names)) t i h g
 
   tuple-starts : (t i : ℕ) → t < N → i ≤ size (l .sizes) 8 t → tuple-start (G .lookups) (size-start (l .sizes) 8 t + i) ≡ size-start (l .sizes) 10 t + tuple-start (T t .lookups) i
   unfolding tuple-start size-start lookups-at
   tuple-starts t i h g =
       starts (size (l .sizes) 8) (tuple-count (G .lookups)) (λ t. tuple-count (T t .lookups)) (size (l .sizes) 10) N (λ t j q r. entry-of-table t j 5 r (omega arith))
-      (λ t q. own-size 10 t (G .tuples) (tuple-count (T t .lookups)) q (f .tuples) (f .each t q .tuples)) t i h g
+      (λ t q. own-size 10 t (G .tuples) (tuple-count (T t .lookups)) q (f .spanned .tuples) (f .each t q .tuples)) t i h g
 
   multiplicity-starts : (t i : ℕ) → t < N → i ≤ size (l .sizes) 8 t → multiplicity-start (G .lookups) (size-start (l .sizes) 8 t + i) ≡ size-start (l .sizes) 11 t + multiplicity-start (T t .lookups) i
   unfolding multiplicity-start size-start lookups-at
   multiplicity-starts t i h g =
       starts (size (l .sizes) 8) (multiplicity-count (G .lookups)) (λ t. multiplicity-count (T t .lookups)) (size (l .sizes) 11) N (λ t j q r. entry-of-table t j 6 r (omega arith))
-      (λ t q. own-size 11 t (G .multiplicities) (multiplicity-count (T t .lookups)) q (f .multiplicities) (f .each t q .multiplicities)) t i h g
+      (λ t q. own-size 11 t (G .multiplicities) (multiplicity-count (T t .lookups)) q (f .spanned .multiplicities) (f .each t q .multiplicities)) t i h g
 
   flag-starts : (t i : ℕ) → t < N → i ≤ size (l .sizes) 8 t → flag-start (G .lookups) (size-start (l .sizes) 8 t + i) ≡ size-start (l .sizes) 12 t + flag-start (T t .lookups) i
   unfolding flag-start size-start lookups-at
   flag-starts t i h g =
       starts (size (l .sizes) 8) (flag-count (G .lookups)) (λ t. flag-count (T t .lookups)) (size (l .sizes) 12) N (λ t j q r. entry-of-table t j 7 r (omega arith))
-      (λ t q. own-size 12 t (G .flags) (flag-count (T t .lookups)) q (f .flags) (f .each t q .flags)) t i h g
+      (λ t q. own-size 12 t (G .flags) (flag-count (T t .lookups)) q (f .spanned .flags) (f .each t q .flags)) t i h g
 
   -- a width of a table's tuple
   pub width-of-table : (t j : ℕ) → j < size (l .sizes) 10 t → word (G .tuples) (size-start (l .sizes) 10 t + j) ≡ word (T t .tuples) j
@@ -207,12 +202,12 @@ module _ (l : Lists) (f : Fitted l) where
 
   pub tuples-of-table : (t : ℕ) → t < N → length (T t .tuples) ≡ size (l .sizes) 10 t
   unfolding lookups-at
-  tuples-of-table t h = part-long (l .sizes) 10 1 t N (G .tuples) h (f .tuples) ∙ (let e : 1 * size (l .sizes) 10 t ≡ size (l .sizes) 10 t = omega arith in e)
+  tuples-of-table t h = part-long (l .sizes) 10 1 t N (G .tuples) h (f .spanned .tuples) ∙ (let e : 1 * size (l .sizes) 10 t ≡ size (l .sizes) 10 t = omega arith in e)
 
   elements-of-table : (t : ℕ) → t < N → size (l .sizes) 13 t ≡ total (word (T t .tuples)) (size (l .sizes) 10 t)
   unfolding lookups-at element-start
   elements-of-table t h =
-      let a : length (part (l .sizes) 13 1 t (G .elements)) ≡ 1 * size (l .sizes) 13 t = part-long (l .sizes) 13 1 t N (G .elements) h (f .elements) in
+      let a : length (part (l .sizes) 13 1 t (G .elements)) ≡ 1 * size (l .sizes) 13 t = part-long (l .sizes) 13 1 t N (G .elements) h (f .spanned .elements) in
       let b : total (word (T t .tuples)) (length (T t .tuples)) ≡ total (word (T t .tuples)) (size (l .sizes) 10 t) = ap (total (word (T t .tuples))) (tuples-of-table t h) in
       let q : length (part (l .sizes) 13 1 t (G .elements)) ≡ total (word (T t .tuples)) (length (T t .tuples)) = f .each t h .elements in
       omega (arith, a, b, q)
@@ -240,7 +235,7 @@ module _ (l : Lists) (f : Fitted l) where
     unfolding lookups-at
     name-is =
         ap₂ (λ (n a : ℕ). take n (drop a (G .names))) (name-of-table t i g) (name-starts t i h (omega arith))
-        ∙ sym (part-inner (l .sizes) 9 t (name-start (T t .lookups) i) (name-length (T t .lookups) i) (G .names) (omega (arith, own .names, length-of-table 9 t (G .names) h (f .names))))
+        ∙ sym (part-inner (l .sizes) 9 t (name-start (T t .lookups) i) (name-length (T t .lookups) i) (G .names) (omega (arith, own .names, length-of-table 9 t (G .names) h (f .spanned .names))))
 
     multiplicities-is : take (multiplicity-count (G .lookups) M) (drop (multiplicity-start (G .lookups) M) (G .multiplicities))
         ≡ take (multiplicity-count (T t .lookups) i) (drop (multiplicity-start (T t .lookups) i) (T t .multiplicities))
@@ -248,13 +243,13 @@ module _ (l : Lists) (f : Fitted l) where
     multiplicities-is =
         ap₂ (λ (n a : ℕ). take n (drop a (G .multiplicities))) (entry-of-table t i 6 g (omega arith)) (multiplicity-starts t i h (omega arith))
         ∙ sym (part-inner (l .sizes) 11 t (multiplicity-start (T t .lookups) i) (multiplicity-count (T t .lookups) i) (G .multiplicities)
-        (omega (arith, own .multiplicities, length-of-table 11 t (G .multiplicities) h (f .multiplicities))))
+        (omega (arith, own .multiplicities, length-of-table 11 t (G .multiplicities) h (f .spanned .multiplicities))))
 
     flags-is : take (flag-count (G .lookups) M) (drop (flag-start (G .lookups) M) (G .flags)) ≡ take (flag-count (T t .lookups) i) (drop (flag-start (T t .lookups) i) (T t .flags))
     unfolding lookups-at
     flags-is =
         ap₂ (λ (n a : ℕ). take n (drop a (G .flags))) (entry-of-table t i 7 g (omega arith)) (flag-starts t i h (omega arith))
-        ∙ sym (part-inner (l .sizes) 12 t (flag-start (T t .lookups) i) (flag-count (T t .lookups) i) (G .flags) (omega (arith, own .flags, length-of-table 12 t (G .flags) h (f .flags))))
+        ∙ sym (part-inner (l .sizes) 12 t (flag-start (T t .lookups) i) (flag-count (T t .lookups) i) (G .flags) (omega (arith, own .flags, length-of-table 12 t (G .flags) h (f .spanned .flags))))
 
     tuple-is : (k : ℕ) → k < tuple-count (T t .lookups) i → tuple-nodes G M k ≡ tuple-nodes (T t) i k
     unfolding tuple-nodes tuple-width lookups-at
@@ -266,10 +261,10 @@ module _ (l : Lists) (f : Fitted l) where
         let a : element-start (G .tuples) (tuple-start (G .lookups) M + k) ≡ size-start (l .sizes) 13 t + element-start (T t .tuples) J = ap (element-start (G .tuples)) s ∙ element-starts t J h (omega arith) in
         let r : element-start (T t .tuples) J + word (T t .tuples) J ≤ length (T t .elements) = tuple-placed (T t) (f .each t h) i k known q in
         ap₂ (λ (n x : ℕ). take n (drop x (G .elements))) w a
-        ∙ sym (part-inner (l .sizes) 13 t (element-start (T t .tuples) J) (word (T t .tuples) J) (G .elements) (omega (arith, r, length-of-table 13 t (G .elements) h (f .elements))))
+        ∙ sym (part-inner (l .sizes) 13 t (element-start (T t .tuples) J) (word (T t .tuples) J) (G .elements) (omega (arith, r, length-of-table 13 t (G .elements) h (f .spanned .elements))))
 
     tuples-is : tab (tuple-nodes G M) 0 (tuple-count (G .lookups) M) ≡ tab (tuple-nodes (T t) i) 0 (tuple-count (T t .lookups) i)
-    tuples-is = ap (tab (tuple-nodes G M) 0) (entry-of-table t i 5 g (omega arith)) ∙ tab-same (tuple-nodes G M) (tuple-nodes (T t) i) (tuple-count (T t .lookups) i) tuple-is
+    tuples-is = ap (tab (tuple-nodes G M) 0) (entry-of-table t i 5 g (omega arith)) ∙ tab-cong (tuple-nodes G M) (tuple-nodes (T t) i) (tuple-count (T t .lookups) i) tuple-is
 
     pub lookup-of-table : lookup-at G M ≡ lookup-at (T t) i
     unfolding lookup-at
@@ -291,14 +286,14 @@ module _ (l : Lists) (f : Fitted l) where
         made a n b c x u m y = λ j. record { local = a j; name = n j; weight = b j; column = c j; exclusive = x j; tuples = u j; multiplicities = m j; flags = y j }
 
   pub whole-count : lookup-count (G .lookups) ≡ size-start (l .sizes) 8 N
-  whole-count = omega (arith, f .lookups)
+  whole-count = omega (arith, f .spanned .lookups)
 
   -- the whole lists are as long as the lookups say
   whole-names : name-start (G .lookups) (size-start (l .sizes) 8 N) ≡ size-start (l .sizes) 9 N
   unfolding name-start size-start lookups-at
   whole-names =
       table-starts (size (l .sizes) 8) (name-length (G .lookups)) (λ t. name-length (T t .lookups)) (size (l .sizes) 9) N (λ t j q r. name-of-table t j r)
-      (λ t q. own-size 9 t (G .names) (name-length (T t .lookups)) q (f .names) (f .each t q .names)) N (omega arith)
+      (λ t q. own-size 9 t (G .names) (name-length (T t .lookups)) q (f .spanned .names) (f .each t q .names)) N (omega arith)
 
   -- a word f of each lookup, and the size g of each table that is its sum
   whole-sums : (k g : ℕ) → k < 8 → ((t : ℕ) → t < N → size (l .sizes) g t ≡ total (λ i. entry (T t .lookups) i k) (size (l .sizes) 8 t))
@@ -316,20 +311,20 @@ module _ (l : Lists) (f : Fitted l) where
   unfolding tuple-start multiplicity-start flag-start lookups-at
   whole-fitting =
       record {
-        lookups = omega (arith, f .lookups);
-        names = f .names ∙ one-time (size-start (l .sizes) 9 N) ∙ sym whole-names ∙ ap (name-start (G .lookups)) (sym whole-count);
+        lookups = omega (arith, f .spanned .lookups);
+        names = f .spanned .names ∙ one-time (size-start (l .sizes) 9 N) ∙ sym whole-names ∙ ap (name-start (G .lookups)) (sym whole-count);
         tuples =
-            f .tuples ∙ one-time (size-start (l .sizes) 10 N)
-            ∙ sym (whole-sums 5 10 (omega arith) (λ t q. own-size 10 t (G .tuples) (tuple-count (T t .lookups)) q (f .tuples) (f .each t q .tuples))) ∙ ap (total (tuple-count (G .lookups))) (sym whole-count);
+            f .spanned .tuples ∙ one-time (size-start (l .sizes) 10 N)
+            ∙ sym (whole-sums 5 10 (omega arith) (λ t q. own-size 10 t (G .tuples) (tuple-count (T t .lookups)) q (f .spanned .tuples) (f .each t q .tuples))) ∙ ap (total (tuple-count (G .lookups))) (sym whole-count);
         multiplicities =
-            f .multiplicities ∙ one-time (size-start (l .sizes) 11 N)
-            ∙ sym (whole-sums 6 11 (omega arith) (λ t q. own-size 11 t (G .multiplicities) (multiplicity-count (T t .lookups)) q (f .multiplicities) (f .each t q .multiplicities))) ∙ ap (total (multiplicity-count (G .lookups))) (sym whole-count);
+            f .spanned .multiplicities ∙ one-time (size-start (l .sizes) 11 N)
+            ∙ sym (whole-sums 6 11 (omega arith) (λ t q. own-size 11 t (G .multiplicities) (multiplicity-count (T t .lookups)) q (f .spanned .multiplicities) (f .each t q .multiplicities))) ∙ ap (total (multiplicity-count (G .lookups))) (sym whole-count);
         flags =
-            f .flags ∙ one-time (size-start (l .sizes) 12 N)
-            ∙ sym (whole-sums 7 12 (omega arith) (λ t q. own-size 12 t (G .flags) (flag-count (T t .lookups)) q (f .flags) (f .each t q .flags))) ∙ ap (total (flag-count (G .lookups))) (sym whole-count);
+            f .spanned .flags ∙ one-time (size-start (l .sizes) 12 N)
+            ∙ sym (whole-sums 7 12 (omega arith) (λ t q. own-size 12 t (G .flags) (flag-count (T t .lookups)) q (f .spanned .flags) (f .each t q .flags))) ∙ ap (total (flag-count (G .lookups))) (sym whole-count);
         elements =
-            f .elements ∙ one-time (size-start (l .sizes) 13 N) ∙ sym whole-elements
-            ∙ ap (element-start (G .tuples)) (sym (f .tuples ∙ one-time (size-start (l .sizes) 10 N)));
+            f .spanned .elements ∙ one-time (size-start (l .sizes) 13 N) ∙ sym whole-elements
+            ∙ ap (element-start (G .tuples)) (sym (f .spanned .tuples ∙ one-time (size-start (l .sizes) 10 N)));
       }
     where
       one-time : (n : ℕ) → 1 * n ≡ n

@@ -5,10 +5,11 @@ use mathlib.Core.List.{List, [], _∷_, _++_}
 use Prim.Native.Nat.{ℕ, zero, suc, _+_, _%_, _<_}
 use native.Mathlib.Nat.{mod-add-mod, zero-add}
 use native.Mathlib.Omega.{arith}
+use Rattle.lists.specs.Same.{same-list}
 use Rattle.lists.specs.Count.{total, joined}
 use Rattle.lists.specs.Fold.{fold}
 use Rattle.lists.specs.laws.Sums.{total-zero, total-add}
-use Rattle.logup.specs.Ledger.{Entry, same-list, post}
+use Rattle.logup.specs.Ledger.{Entry, post}
 use Rattle.slots.specs.laws.Nets.{net-of}
 
 -- the counts of a tuple, added up

@@ -1,7 +1,7 @@
 -- Lists of tables that have none of refusals 1 to 5 and 9 are as the inner functions require.
 use mathlib.Core.Path.{_≡_, refl, sym, ap, ap₂, _∙_, subst}
-use mathlib.Core.Bool.{Bool, true, false, cond, not, _&&_, _||_}
-use mathlib.Core.Option.{Option, none, some, Option·some-ne-none}
+use mathlib.Core.Bool.{Bool, true, false, cond, not, _&&_, _||_, and-true}
+use mathlib.Core.Option.{none, some}
 use mathlib.Core.List.{List, [], _∷_, _++_}
 use Prim.Native.Nat.{ℕ, zero, suc, _+_, _*_, _-_, _/_, _%_, _<_, _≤_}
 use native.Mathlib.Nat.{zero-add}
@@ -16,20 +16,19 @@ use Rattle.field.specs.Modulus.{Modulus}
 use Rattle.expression.specs.Words.{word, all-within}
 use Rattle.expression.specs.Limits.{Sane}
 use Rattle.expression.specs.Node.{node-count}
-use Rattle.expression.specs.Refusal.{unless}
-use Rattle.expression.specs.Tests.{traces-within, nodes-within, traces-fit, nodes-fit, traces-below, constants-below, nodes-known, degrees-low}
+use Rattle.expression.specs.Tests.{traces-within, nodes-within, traces-fit, traces-below, constants-below, nodes-known, degrees-low}
 use Rattle.expression.specs.Valid.{Small, Evaluable}
 use Rattle.expression.specs.laws.Below.{within-tested}
 use Rattle.expression.specs.laws.Tested.{small-tested, traces-tested}
+use Rattle.expression.specs.laws.Refusal.{unless-none}
 use Rattle.expression.specs.declared.sizes.Shape.{Shape}
 use Rattle.expression.specs.declared.sizes.Limits.{Limits}
-use Rattle.expression.specs.declared.refusal.Refusal.{Refusal}
 use Rattle.expression.specs.declared.refusal.Refusal.the-variants.{SizeAtOdds, WordTooLarge, NodeInvalid, DegreeTooHigh, LookupInvalid, RowsMissing}
 use Rattle.lookup.specs.Lookups.{Lookups, lookup-count, entry, exclusive, tuple-count, multiplicity-count, flag-count}
 use Rattle.lookup.specs.Table.{Table}
-use Rattle.lookup.specs.Tests.{sizes, words-below, known, lists-agree, has-lookups, preprocessed-enough, lookups-within, lookups-fit}
+use Rattle.lookup.specs.Tests.{sizes, words-below, known, lists-agree, has-lookups, preprocessed-enough}
 use Rattle.lookup.specs.Valid.{Limited, Fitting, Agreeing}
-use Rattle.lookup.specs.laws.Tested.{limited, fitting, agreeing}
+use Rattle.lookup.specs.laws.Tested.{limited, fitting, agreeing, sizes-passed}
 use Rattle.balance.specs.Tables.{Lists, table-count, size, size-start, shape-at, lookups-at, table-at, tables-of, lists-fit}
 use Rattle.balance.specs.Members.{table-of}
 use Rattle.balance.specs.Refusals.{all, listed, covered, tables-refusal}
@@ -52,20 +51,12 @@ all-tab t f zero = unfold all in refl
 all-tab t f (suc n) =
     all-append t (tab f 0 n) (f (0 + n) ∷ []) ∙ ap₂ _&&_ (all-tab t f n) (one (f (0 + n)) ∙ ap (λ (i : ℕ). t (f i)) (zero-add n))
   where
-    last : (b : Bool) → (b && true) ≡ b
-    last true = refl
-    last false = refl
-
     one : (x : Table) → all t (x ∷ []) ≡ t x
-    one x = unfold all in last (t x)
+    one x = unfold all in and-true (t x)
 
 pub all-tables : (t : Table → Bool) (l : Lists) → all t (tables-of l) ≡ every (λ i. t (table-at l i)) (table-count (l .sizes))
 unfolding tables-of
 all-tables t l = all-tab t (table-at l) (table-count (l .sizes))
-
-unless-none : (b : Bool) (f : Refusal) (o : Option Refusal) → unless b f o ≡ none → (b ≡ true) × (o ≡ none)
-unless-none true f o e = (refl, e)
-unless-none false f o e = absurd (Option·some-ne-none f e)
 
 -- what no refusal says of each table
 record Tested (m : Limits) (p : ℕ) (t : Table) : Type 0 where
@@ -81,23 +72,15 @@ record Tested (m : Limits) (p : ℕ) (t : Table) : Type 0 where
   rows : (not (has-lookups (t .lookups .lookups)) || preprocessed-enough (t .traces .shape)) ≡ true
 
 tested : (m : Limits) (p : ℕ) (t : Table) → sizes m t ≡ true → words-below p t ≡ true → known t ≡ true → listed t ≡ true → covered t ≡ true → Tested m p t
-unfolding sizes words-below known listed covered
+unfolding words-below known listed covered
 tested m p t s w k a c =
-    let z =
-    passed (traces-within m (t .traces .shape) (t .traces .public-values))
-    (nodes-within m (t .nodes)
-    ∷ lookups-within m (t .lookups .lookups) (t .lookups .tuples)
-    ∷ traces-fit (t .traces .shape) (t .traces .main) (t .traces .preprocessed)
-    ∷ nodes-fit (t .nodes)
-    ∷ lookups-fit (t .lookups)
-    ∷ [])
-    s in
+    let z = sizes-passed m t s in
     record {
       within = z .0;
-      nodes-few = z .1 .0;
-      limits = limited m (t .lookups .lookups) (t .lookups .tuples) (z .1 .1 .0);
-      traces = z .1 .1 .1 .0;
-      lists = fitting (t .lookups) (z .1 .1 .1 .1 .1 .0);
+      nodes-few = z .1;
+      limits = limited m (t .lookups .lookups) (t .lookups .tuples) (z .2);
+      traces = z .3;
+      lists = fitting (t .lookups) (z .4);
       below = both-left (traces-below p (t .traces)) (constants-below p (t .nodes)) w;
       constants = both-right (traces-below p (t .traces)) (constants-below p (t .nodes)) w;
       all-known = k;
@@ -205,17 +188,7 @@ module _ (m : Limits) (p : ℕ) (l : Lists) (g : Sane m) (o : Modulus p) (e : ta
 
   pub fitted : Fitted l
   unfolding table-at
-  fitted =
-      let q : Spanned l = spanned m l g (runs .fit) in
-      record {
-        lookups = q .lookups;
-        names = q .names;
-        tuples = q .tuples;
-        multiplicities = q .multiplicities;
-        flags = q .flags;
-        elements = q .elements;
-        each = λ t h. runs .one t h .lists;
-      }
+  fitted = record { spanned = spanned m l g (runs .fit); each = λ t h. runs .one t h .lists }
 
   -- what each table has
   limits-of : (t : ℕ) → t < N → Limited m (lookups-at l t .lookups) (lookups-at l t .tuples)
@@ -270,7 +243,7 @@ module _ (m : Limits) (p : ℕ) (l : Lists) (g : Sane m) (o : Modulus p) (e : ta
   width-at : (j : ℕ) → j < length (G .tuples) → word (G .tuples) j ≤ 8
   unfolding size-start
   width-at j h =
-      let a : At (size (l .sizes) 10) N j = located (size (l .sizes) 10) N j (omega (arith, fitted .tuples)) in
+      let a : At (size (l .sizes) 10) N j = located (size (l .sizes) 10) N j (omega (arith, fitted .spanned .tuples)) in
       rw (ap (word (G .tuples)) (a .is) ∙ width-of-table l fitted (a .table) (a .inner) (a .short)) (omega (arith, limits-of (a .table) (a .there) .width (a .inner), g .tuple-words))
 
   narrow : (j : ℕ) → word (G .tuples) j ≤ 8

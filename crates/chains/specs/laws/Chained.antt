@@ -10,12 +10,12 @@ use lib.Dec.{eqb}
 use lib.ListN.{length, take, drop, set, replicate, length-set, length-replicate, getD-replicate}
 use lib.Seq.{getD-set-same, getD-set-other, getD-take, getD-drop}
 use borrow.Author.Tests.{eqb-true, eqb-false}
+use Rattle.lists.specs.Same.{same-list}
+use Rattle.lists.specs.laws.Same.{same-list-eq}
 use Rattle.lists.specs.laws.Tests.{both-left, both-right}
 use Rattle.lists.specs.laws.Count.{last-or-below}
 use Rattle.expression.specs.Words.{word}
-use Rattle.logup.specs.Ledger.{same-list}
 use Rattle.slots.specs.Work.{match-at, find-slot}
-use Rattle.slots.specs.laws.Nets.{same-list-eq}
 use Rattle.chains.specs.Hash.{hash}
 use Rattle.chains.specs.Chain.{last-before, hash-at, Chained, holds, plain}
 use Rattle.chains.specs.laws.Last.{last-same, hash-same}

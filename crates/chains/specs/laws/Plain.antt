@@ -1,19 +1,19 @@
 -- The workspace without its links, word by word.
-use mathlib.Core.Path.{_≡_, refl, sym, ap, ap₂, _∙_}
+use mathlib.Core.Path.{_≡_, refl, sym, ap, _∙_}
 use mathlib.Core.Bool.{Bool, true, false, cond, _&&_}
 use mathlib.Core.List.{List, _++_}
 use Prim.Native.Nat.{ℕ, _+_, _*_, _-_, _%_, _<_, _≤_}
 use native.Mathlib.Nat.{zero-add}
 use native.Mathlib.Omega.{arith}
 use lib.Dec.{eqb, ltb}
-use lib.ListN.{length, take, drop, set, length-append, length-set, length-take, length-drop, List·getD-append}
+use lib.ListN.{length, take, drop, set, length-set, length-drop, List·getD-append}
 use lib.Seq.{ext-getD, getD-set-same, getD-set-other, getD-take, getD-drop, getD-append-add, length-take-le}
 use borrow.Author.Tests.{eq-eqb, ne-eqb, eqb-true, eqb-false, lt-ltb, le-ltb, ltb-true, ltb-false}
-use Rattle.lists.specs.Tab.{tab}
 use Rattle.lists.specs.laws.Tab.{tab-length, tab-get}
 use Rattle.field.specs.Word.{addM}
 use Rattle.expression.specs.Words.{word}
 use Rattle.slots.specs.Work.{added-at, new-words, new-at}
+use Rattle.slots.specs.laws.Room.{new-at-long}
 use Rattle.chains.specs.Chain.{plain-word, plain}
 
 pub plain-length : (ws : List ℕ) (n : ℕ) → length (plain ws n) ≡ length ws
@@ -168,10 +168,6 @@ part-plain ws n k m h r =
     long vs l = length-take-le m (drop (10 * k + 1) vs) (rw (length-drop (10 * k + 1) vs) (omega arith))
 
 -- a new slot, word by word
-new-long : (t : List ℕ) (c : ℕ) → length (new-words t c) ≡ 10
-unfolding new-words tab
-new-long t c = refl
-
 pub new-before : (ws t : List ℕ) (k c i : ℕ) → 10 * k ≤ length ws → i < 10 * k → word (new-at ws k t c) i ≡ word ws i
 unfolding new-at
 new-before ws t k c i l h =
@@ -182,17 +178,10 @@ unfolding new-at
 new-in ws t k c j l =
     ap (λ (m : ℕ). word (take (10 * k) ws ++ (new-words t c ++ drop (10 * k + 10) ws)) (m + j)) (sym (length-take-le (10 * k) ws l)) ∙ getD-append-add (take (10 * k) ws) (new-words t c ++ drop (10 * k + 10) ws) j 0
 
-pub new-at-long : (ws t : List ℕ) (k c : ℕ) → 10 * k + 10 ≤ length ws → length (new-at ws k t c) ≡ length ws
-unfolding new-at
-new-at-long ws t k c h =
-    length-append (take (10 * k) ws) (new-words t c ++ drop (10 * k + 10) ws)
-    ∙ ap₂ _+_ (length-take (10 * k) ws) (length-append (new-words t c) (drop (10 * k + 10) ws) ∙ ap₂ _+_ (new-long t c) (length-drop (10 * k + 10) ws))
-    ∙ omega arith
-
 pub plain-new : (ws t : List ℕ) (n k c : ℕ) → n ≤ k → 10 * k + 10 ≤ length ws → new-at (plain ws n) k t c ≡ plain (new-at ws k t c) n
 plain-new ws t n k c m r =
-    plain-is W U n (new-at-long (plain ws n) t k c (rw (plain-length ws n) r) ∙ plain-length ws n ∙ sym (new-at-long ws t k c r))
-    (λ i h. let g : i < length ws = rw (new-at-long ws t k c r) at h in
+    plain-is W U n (new-at-long (plain ws n) k t c (rw (plain-length ws n) r) ∙ plain-length ws n ∙ sym (new-at-long ws k t c r))
+    (λ i h. let g : i < length ws = rw (new-at-long ws k t c r) at h in
     below-or (word U i ≡ plain-word W n i) i (10 * k) (λ b. before i g b) (λ b. from i b ∙ sym (past-is W n i (omega arith))))
   where
     W : List ℕ

@@ -12,6 +12,7 @@ use lib.Seq.{getD-take, getD-drop, take-take, take-nil, drop-drop}
 use Rattle.lists.specs.Count.{total, some-of}
 use Rattle.lists.specs.laws.Count.{total-le, total-in, total-one}
 use Rattle.lists.specs.laws.Parts.{part-length}
+use Rattle.lists.specs.laws.Sums.{total-cong}
 use Rattle.field.specs.Element.{add4, sum4, is-zero}
 use Rattle.expression.specs.Words.{word}
 use Rattle.expression.specs.Values.{bit}
@@ -32,11 +33,6 @@ some-of-same : (f g : ℕ → Bool) (n : ℕ) → ((k : ℕ) → k < n → f k �
 unfolding some-of
 some-of-same f g zero e = refl
 some-of-same f g (suc n) e = ap₂ _||_ (some-of-same f g n (λ k h. e k (omega arith))) (e n (omega arith))
-
-total-same : (f g : ℕ → ℕ) (n : ℕ) → ((k : ℕ) → k < n → f k ≡ g k) → total f n ≡ total g n
-unfolding total
-total-same f g zero e = refl
-total-same f g (suc n) e = ap₂ _+_ (total-same f g n (λ k h. e k (omega arith))) (e n (omega arith))
 
 chosen-same : (f g : ℕ → ℕ) (n : ℕ) → ((k : ℕ) → k < n → f k ≡ g k) → chosen f n ≡ chosen g n
 unfolding chosen
@@ -111,7 +107,7 @@ module _ {p w : ℕ} {c d : Place} (s : Same p w c d) where
         ones : total (λ k. bit (eqb (flag c k) 1)) (branches c) ≡ total (λ k. bit (eqb (flag d k) 1)) (branches d)
         ones =
             ap (total (λ k. bit (eqb (flag c k) 1))) (s .counts)
-            ∙ total-same (λ k. bit (eqb (flag c k) 1)) (λ k. bit (eqb (flag d k) 1)) (branches d) (λ k h. ap (λ (n : ℕ). bit (eqb n 1)) (s .flags x k h))
+            ∙ total-cong (λ k. bit (eqb (flag c k) 1)) (λ k. bit (eqb (flag d k) 1)) (branches d) (λ k h. ap (λ (n : ℕ). bit (eqb n 1)) (s .flags x k h))
 
         last : branch-fault p w c (chosen (flag c) (branches c)) ≡ branch-fault p w d (chosen (flag d) (branches d))
         last = ap (branch-fault p w c) choice ∙ branch-fault-same (flag d) (branches d) (omega arith)

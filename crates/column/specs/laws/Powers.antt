@@ -1,14 +1,12 @@
 -- Beta's powers: what a table of them holds, and what is read from the eight.
 use mathlib.Core.Path.{_≡_, refl, sym, ap, _∙_, subst}
-use mathlib.Core.List.{List, [], _∷_, _++_}
+use mathlib.Core.List.{List, [], _∷_}
 use Prim.Native.Nat.{ℕ, zero, suc, _+_, _*_, _<_, _%_}
-use native.Mathlib.Nat.{mod-eq-of-lt, zero-add}
+use native.Mathlib.Nat.{mod-eq-of-lt}
 use native.Mathlib.Omega.{arith}
-use lib.ListN.{length, getD, List·getD-append}
-use lib.Seq.{getD-at}
+use lib.ListN.{length, getD}
 use Rattle.lists.specs.Tab.{tab}
-use Rattle.lists.specs.laws.Tab.{tab-length}
-use Rattle.lists.specs.laws.Count.{last-or-below}
+use Rattle.lists.specs.laws.Tab.{tab-at}
 use Rattle.field.specs.Element.{Word4, zero4, one4, mul4, power4}
 use Rattle.field.specs.laws.Element.{word-mul4}
 use Rattle.column.specs.Powers.{beta-of, Powers}
@@ -49,19 +47,9 @@ power-one p w a0 a1 a2 a3 q =
     e3 : 1 * a3 + 0 * a2 + 0 * a1 + 0 * a0 ≡ a3
     e3 = omega arith
 
-module _ {A : Type 0} where
-  -- what stands at j
-  getD-tab : (f : ℕ → A) (n j : ℕ) (z : A) → j < n → getD (tab f 0 n) j z ≡ f j
-  unfolding tab
-  getD-tab f zero j z h = absurd (omega arith)
-  getD-tab f (suc n) j z h =
-      last-or-below (λ (j : ℕ). getD (tab f 0 n ++ (f (0 + n) ∷ [])) j z ≡ f j) n j h
-      (getD-at (tab f 0 n) (f (0 + n)) [] z n (tab-length f 0 n) ∙ ap f (zero-add n))
-      (λ k. List·getD-append (tab f 0 n) (f (0 + n) ∷ []) z j (omega (arith, tab-length f 0 n)) ∙ getD-tab f n j z k)
-
 -- power n of the eight
 pub power-at : (p w : ℕ) (ps : List (List ℕ)) (n : ℕ) → Powers p w ps → n < 8 → getD ps n [] ≡ power4 p w (beta-of ps) n
-power-at p w ps n s h = ap (λ (l : List (List ℕ)). getD l n []) (s .are) ∙ getD-tab (power4 p w (beta-of ps)) 8 n [] h
+power-at p w ps n s h = ap (λ (l : List (List ℕ)). getD l n []) (s .are) ∙ tab-at (power4 p w (beta-of ps)) 8 n [] h
 
 pub power-word : (p w : ℕ) (ps : List (List ℕ)) (n : ℕ) → 1 < p → Powers p w ps → n < 8 → Word4 p (getD ps n [])
 power-word p w ps n big s h = subst (Word4 p) (sym (power-at p w ps n s h)) (word-power p w (beta-of ps) n big)
@@ -76,4 +64,4 @@ powers-of p w b0 b1 b2 b3 ps q all =
     b = b0 ∷ b1 ∷ b2 ∷ b3 ∷ []
 
     first : beta-of ps ≡ b
-    first = ap beta-of all ∙ getD-tab (power4 p w b) 8 1 [] (omega arith) ∙ power-one p w b0 b1 b2 b3 q
+    first = ap beta-of all ∙ tab-at (power4 p w b) 8 1 [] (omega arith) ∙ power-one p w b0 b1 b2 b3 q

@@ -1,7 +1,7 @@
 -- A lookup's fraction is the sum of its tuples' shares, and refusal 15 is a share whose denominator is 0.
 use mathlib.Core.Path.{_≡_, refl, sym, ap, ap₂, _∙_}
 use mathlib.Core.Logic.{_≢_}
-use mathlib.Core.Bool.{Bool, true, false, cond, _||_, not}
+use mathlib.Core.Bool.{Bool, true, false, cond, _||_, not, or-false}
 use mathlib.Core.Option.{Option, none, some, Option·some-ne-none, Option·some-injective}
 use mathlib.Core.List.{List, [], _∷_, _++_}
 use Prim.Native.Nat.{ℕ, zero, suc, _+_, _*_, _<_, _%_}
@@ -11,7 +11,7 @@ use lib.Dec.{eqb, ltb}
 use Rattle.lists.specs.Count.{total, some-of, joined}
 use Rattle.lists.specs.Tab.{tab}
 use Rattle.lists.specs.laws.Tab.{tab-cong}
-use Rattle.lists.specs.laws.Count.{last-or-below, eqb-true, eqb-false, eq-of-eqb}
+use Rattle.lists.specs.laws.Count.{last-or-below, some-of-none, eqb-true, eqb-false, eq-of-eqb}
 use Rattle.field.specs.Modulus.{Certificate}
 use Rattle.field.specs.Element.{at, zero4, one4, add4, scale4, sum4, inverse4, is-zero}
 use Rattle.field.specs.laws.Element.{word-scale4, word-lift, add4-comm, add4-zero}
@@ -59,21 +59,12 @@ module _ (p w : ℕ) (C : Certificate p w) (m : ℕ → ℕ) (d : ℕ → List �
       (λ k. ap (λ (a : List ℕ). add4 p a (q n)) (sum-none n (λ i t. e i (omega arith) (λ x. omega arith))) ∙ add4-comm p w C zero4 (q n) ∙ plus-zero n ∙ ap q (sym k))
       (λ t. ap₂ (add4 p) (sum-only j n t (λ i u. e i (omega arith))) (e n (omega arith) (λ x. omega arith)) ∙ plus-zero j)
 
-some-none : (f : ℕ → Bool) (n : ℕ) → ((k : ℕ) → k < n → f k ≡ false) → some-of f n ≡ false
-unfolding some-of
-some-none f zero e = refl
-some-none f (suc n) e = ap₂ _||_ (some-none f n (λ k l. e k (omega arith))) (e n (omega arith))
-
-or-false : (b : Bool) → (b || false) ≡ b
-or-false true = refl
-or-false false = refl
-
 some-only : (f : ℕ → Bool) (j n : ℕ) → j < n → ((k : ℕ) → k < n → k ≢ j → f k ≡ false) → some-of f n ≡ f j
 unfolding some-of
 some-only f j zero l e = absurd (omega arith)
 some-only f j (suc n) l e =
     below-last (λ (j : ℕ). (some-of f n || f n) ≡ f j) n j l
-    (λ k. ap (λ (b : Bool). b || f n) (some-none f n (λ i t. e i (omega arith) (λ x. omega arith))) ∙ ap f (sym k))
+    (λ k. ap (λ (b : Bool). b || f n) (some-of-none f n (λ i t. e i (omega arith) (λ x. omega arith))) ∙ ap f (sym k))
     (λ t. ap₂ _||_ (some-only f j n t (λ i u. e i (omega arith))) (e n (omega arith) (λ x. omega arith)) ∙ or-false (f j))
 
 -- the branch chosen is one of the n
@@ -126,7 +117,7 @@ module _ (p w : ℕ) (c : Place) where
       sum-only p w C (multiplicity-by c true (suc j)) (denominator-by p w c true (suc j)) j n (h j refl) (λ k l d. other-idle (suc j) k (λ e. d (omega arith)) .0) ∙ own-used j .0
 
   branch-zero : (o : Option ℕ) (n : ℕ) → ((k : ℕ) → o ≡ some k → k < n) → cond (some-of (λ k. is-zero (denominator-by p w c true (branch-code o) k)) n) 15 0 ≡ branch-fault p w c o
-  branch-zero none n h = ap (λ (b : Bool). cond b 15 0) (some-none (λ k. is-zero (denominator-by p w c true 0 k)) n (λ k l. other-idle 0 k (λ e. omega arith) .1))
+  branch-zero none n h = ap (λ (b : Bool). cond b 15 0) (some-of-none (λ k. is-zero (denominator-by p w c true 0 k)) n (λ k l. other-idle 0 k (λ e. omega arith) .1))
   branch-zero (some j) n h =
       ap (λ (b : Bool). cond b 15 0)
       (some-only (λ k. is-zero (denominator-by p w c true (suc j) k)) j n (h j refl) (λ k l d. other-idle (suc j) k (λ e. d (omega arith)) .1) ∙ own-used j .1)

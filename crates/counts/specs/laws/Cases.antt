@@ -8,6 +8,7 @@ use lib.IntN.{ℤ, pos, negsuc}
 use Rattle.field.specs.Modulus.{babybear}
 use Rattle.expression.specs.Limits.{cabinet}
 use Rattle.expression.specs.Refusal.{answer-number, answer-details}
+use Rattle.lists.specs.Same.{same-list}
 use Rattle.lists.specs.Cases.{Case, hold}
 use Rattle.expression.specs.declared.refusal.Refusal.{Refusal}
 use Rattle.counts.specs.Count.{negative, magnitude, residue, count-refusal, negation-refusal, nodes-after}
@@ -35,5 +36,5 @@ cases =
 
 -- each case computes to what is expected
 pub cases-hold : T (hold cases)
-unfolding cases cabinet count-refusal negation-refusal
+unfolding cases cabinet count-refusal negation-refusal same-list
 cases-hold = tt

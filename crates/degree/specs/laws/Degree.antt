@@ -9,6 +9,7 @@ use lib.ListN.{length, take, drop, getD, length-drop}
 use lib.Seq.{take-suc, getD-drop}
 use Rattle.lists.specs.Count.{total}
 use Rattle.lists.specs.Tab.{tab}
+use Rattle.lists.specs.laws.Sums.{total-cong}
 use Rattle.lists.specs.laws.Tab.{tab-length}
 use Rattle.expression.specs.Words.{word}
 use Rattle.lookup.specs.Lookups.{Lookups, lookup-count, exclusive, tuple-count, multiplicity-count, flag-count, tuple-start, multiplicity-start, flag-start, tuple-width, tuple-nodes, lookup-at}
@@ -17,11 +18,6 @@ use Rattle.lookup.specs.laws.Tested.{placed}
 use Rattle.degree.specs.Sums.{sum-of, largest-of, greatest}
 use Rattle.degree.specs.Degree.{tuple-degree, denominator-degree, term-degree, numerator-degree, additive-degree, exclusive-degree, lookup-degree}
 use Rattle.degree.specs.At.{degree-at, denominator-at, numerator-at, additive-at, exclusive-at, lookup-degree-at}
-
-pub total-cong : (f g : ℕ → ℕ) (n : ℕ) → ((k : ℕ) → k < n → f k ≡ g k) → total f n ≡ total g n
-unfolding total
-total-cong f g zero h = refl
-total-cong f g (suc n) h = ap₂ _+_ (total-cong f g n (λ k l. h k (omega arith))) (h n (omega arith))
 
 pub greatest-cong : (f g : ℕ → ℕ) (n : ℕ) → ((k : ℕ) → k < n → f k ≡ g k) → greatest f n ≡ greatest g n
 unfolding greatest

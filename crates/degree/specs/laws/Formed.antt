@@ -1,7 +1,7 @@
 -- What passed refusals say of a table, and of one of its lookups.
-use mathlib.Core.Path.{_≡_, refl, sym, ap, _∙_}
+use mathlib.Core.Path.{_≡_, sym, ap, _∙_}
 use mathlib.Core.Bool.{Bool, true, false, _&&_, cond}
-use mathlib.Core.Option.{Option, none, some, Option·some-ne-none}
+use mathlib.Core.Option.{none, some}
 use mathlib.Core.List.{List, [], _∷_}
 use Prim.Native.Nat.{ℕ, zero, suc, _+_, _<_, _≤_, zero-le}
 use native.Mathlib.Omega.{arith}
@@ -9,13 +9,12 @@ use lib.ListN.{length}
 use Rattle.lists.specs.Count.{total}
 use Rattle.lists.specs.laws.Count.{total-le}
 use Rattle.lists.specs.laws.Tests.{passed}
-use Rattle.expression.specs.Refusal.{unless}
 use Rattle.expression.specs.Limits.{Sane}
 use Rattle.expression.specs.Node.{node-count}
 use Rattle.expression.specs.Tests.{nodes-within, nodes-fit, constants-below, nodes-known, degrees-low}
 use Rattle.expression.specs.laws.Tested.{few-tested}
+use Rattle.expression.specs.laws.Refusal.{unless-none}
 use Rattle.expression.specs.declared.sizes.Limits.{Limits}
-use Rattle.expression.specs.declared.refusal.Refusal.{Refusal}
 use Rattle.expression.specs.declared.refusal.Refusal.the-variants.{SizeAtOdds, WordTooLarge, NodeInvalid, DegreeTooHigh, LookupInvalid}
 use Rattle.lookup.specs.Lookups.{Lookups, lookup-count, exclusive, tuple-count, flag-count, tuple-start, multiplicity-start, flag-start}
 use Rattle.lookup.specs.Tests.{lookups-within, lookups-fit, lists-agree}
@@ -25,11 +24,6 @@ use Rattle.lookup.specs.laws.Tested.{fitting, agreeing, lookups-few, placed, mu
 use Rattle.lookup.specs.declared.entry.Columns.{Columns}
 use Rattle.degree.specs.At.{Few}
 use Rattle.degree.specs.Formed.{Formed}
-
--- a test that is followed by no refusal passed
-pub unless-none : (b : Bool) (f : Refusal) (later : Option Refusal) → unless b f later ≡ none → (b ≡ true) × (later ≡ none)
-unless-none true f later e = (refl, e)
-unless-none false f later e = absurd (Option·some-ne-none f e)
 
 pub formed : (m : Limits) (p : ℕ) (c : Columns) (nodes : List ℕ) (l : Lookups) → Sane m → form-refusal m p c nodes l ≡ none → Formed m nodes l
 unfolding form-refusal form-sizes nodes-refusal lists-refusal

@@ -4,6 +4,7 @@ use mathlib.Core.List.{List, [], _∷_}
 use Prim.Native.Nat.{ℕ}
 use lib.Dec.{eqb, T}
 use Rattle.lists.specs.Count.{every}
+use Rattle.lists.specs.Same.{same-list}
 use Rattle.lists.specs.Cases.{Case, hold}
 use Rattle.field.specs.Modulus.{babybear}
 use Rattle.expression.specs.Words.{all-below, all-within}
@@ -96,5 +97,5 @@ cases =
     ∷ []
 
 pub cases-hold : T (hold cases)
-unfolding every all-below all-within cabinet decode node row-of window node-value values row-values node-degree degrees traces-within traces-below constants-below nodes-known degrees-low
+unfolding every all-below all-within cabinet decode node row-of window node-value values row-values node-degree degrees traces-within traces-below constants-below nodes-known degrees-low same-list
 cases-hold = tt

@@ -3,6 +3,7 @@ use mathlib.Core.Bool.{Bool, true, false, cond, _&&_}
 use mathlib.Core.List.{List, [], _∷_}
 use Prim.Native.Nat.{ℕ}
 use lib.Dec.{eqb, T}
+use Rattle.lists.specs.Same.{same-list}
 use Rattle.lists.specs.Cases.{Case, hold}
 use Rattle.algebra.specs.Power.{powM}
 use Rattle.field.specs.Word.{inverse1}
@@ -22,5 +23,5 @@ cases =
     ∷ []
 
 pub cases-hold : T (hold cases)
-unfolding powM inverse1 add4 sub4 mul4 conjugate conjugate2 norm2 norm inverse4
+unfolding powM inverse1 add4 sub4 mul4 conjugate conjugate2 norm2 norm inverse4 same-list
 cases-hold = tt

@@ -3,6 +3,7 @@ use mathlib.Core.Path.{_≡_, refl, sym, ap, ap₂, _∙_}
 use mathlib.Core.List.{List, [], _∷_}
 use Prim.Native.Nat.{ℕ, zero, suc, _+_, _*_, _-_, _<_, _%_}
 use native.Mathlib.Nat.{mod-lt, mod-eq-of-lt, zero-mod, mul-zero}
+use native.Mathlib.Omega.{arith}
 use lib.ListN.{getD}
 use Rattle.algebra.specs.Ring.{CRing, Ops, ops, quartic}
 use Rattle.algebra.specs.Field.{Field}
@@ -10,7 +11,7 @@ use Rattle.algebra.specs.laws.Solve.{E, O, I, X, _⊕_, _⊗_, ⊝_}
 use Rattle.algebra.specs.laws.Quadratic.{Es}
 use Rattle.algebra.specs.laws.Quartic.{Four, solve4}
 use Rattle.field.specs.Word.{addM, subM, mulM, negM}
-use Rattle.field.specs.Element.{at, Word4, lift, zero4, one4, add4, sub4, neg4, mul4, scale4, power4}
+use Rattle.field.specs.Element.{at, Word4, lift, zero4, one4, add4, sub4, neg4, mul4, scale4, power4, sum4, product4}
 use Rattle.field.specs.Modulus.{Certificate}
 use Rattle.field.specs.laws.Ring.{El, Fp, mk}
 use Rattle.field.specs.laws.Extension.{K, h, F1}
@@ -40,6 +41,17 @@ module _ (p : ℕ) (pos : 0 < p) where
 
   pub word-lift : (a : ℕ) → a < p → Word4 p (lift a)
   word-lift a l = record { w0 = l; w1 = pos; w2 = pos; w3 = pos }
+
+-- sums and products that agree term by term
+pub sum4-cong : (p : ℕ) (f g : ℕ → List ℕ) (n : ℕ) → ((i : ℕ) → i < n → f i ≡ g i) → sum4 p f n ≡ sum4 p g n
+unfolding sum4
+sum4-cong p f g zero e = refl
+sum4-cong p f g (suc n) e = ap₂ (add4 p) (sum4-cong p f g n (λ i l. e i (omega arith))) (e n (omega arith))
+
+pub product4-cong : (p w : ℕ) (f g : ℕ → List ℕ) (n : ℕ) → ((i : ℕ) → i < n → f i ≡ g i) → product4 p w f n ≡ product4 p w g n
+unfolding product4
+product4-cong p w f g zero e = refl
+product4-cong p w f g (suc n) e = ap₂ (mul4 p w) (product4-cong p w f g n (λ i l. e i (omega arith))) (e n (omega arith))
 
 -- X, as words and as expressions
 abbrev pub x4 : List ℕ

@@ -19,3 +19,13 @@ four-set (w ∷ x ∷ y ∷ z ∷ v ∷ l) a b c d e = absurd (omega arith)
 pub word-element : {p : ℕ} (l : List ℕ) (i : ℕ) → ((k : ℕ) → at l k < p) → Word4 p (element l i)
 unfolding element
 word-element l i b = record { w0 = b (4 * i); w1 = b (4 * i + 1); w2 = b (4 * i + 2); w3 = b (4 * i + 3) }
+
+-- an element is the four words that it has
+pub element-whole : (l : List ℕ) → length l ≡ 4 → element l 0 ≡ l
+unfolding element
+element-whole [] e = absurd (omega arith)
+element-whole (w ∷ []) e = absurd (omega arith)
+element-whole (w ∷ x ∷ []) e = absurd (omega arith)
+element-whole (w ∷ x ∷ y ∷ []) e = absurd (omega arith)
+element-whole (w ∷ x ∷ y ∷ z ∷ []) e = refl
+element-whole (w ∷ x ∷ y ∷ z ∷ v ∷ l) e = absurd (omega arith)

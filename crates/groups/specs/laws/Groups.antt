@@ -1,6 +1,6 @@
 -- The groups by number are the groups.
 use mathlib.Core.Path.{_≡_, refl, sym, ap, ap₂, _∙_}
-use mathlib.Core.Bool.{Bool, true, false, cond, not, _&&_, _||_}
+use mathlib.Core.Bool.{Bool, true, false, cond, not, _&&_, _||_, or-false}
 use mathlib.Core.List.{List, [], _∷_, _++_, append-nil, append-assoc, flatMap}
 use Prim.Native.Nat.{ℕ, zero, suc, _+_, _<_, _≤_}
 use mathlib.Core.Logic.{⊎-elim}
@@ -9,10 +9,11 @@ use native.Mathlib.Omega.{arith}
 use lib.Dec.{eqb}
 use lib.ListN.{length}
 use borrow.Author.Tests.{eqb-true, eqb-false, ne-eqb}
+use Rattle.lists.specs.Same.{same-list}
 use Rattle.lists.specs.Count.{every, joined}
 use Rattle.lists.specs.Tab.{tab}
 use Rattle.lookup.specs.Lookups.{lookup-count, on-bus, name-length, name-start, lookup-at}
-use Rattle.widths.specs.Order.{keep, same, name-at}
+use Rattle.widths.specs.Order.{keep, name-at}
 use Rattle.widths.specs.laws.Order.{keep-append}
 use Rattle.balance.specs.Tables.{Lists, tables-of}
 use Rattle.balance.specs.Groups.{Member, members, local, same-bus, appears, local-group, bus-group, bus-groups, groups}
@@ -93,11 +94,7 @@ appears-every m f t (suc n) h =
     ∙ swap (every (λ k. not (t k)) n) (t n)
   where
     one : (x : Member) → appears m (x ∷ []) ≡ same-bus m x
-    one x = unfold appears in out (same-bus m x)
-      where
-        out : (b : Bool) → (b || false) ≡ b
-        out true = refl
-        out false = refl
+    one x = unfold appears in or-false (same-bus m x)
 
     swap : (a b : Bool) → (not a || b) ≡ not (a && not b)
     swap true true = refl
@@ -126,7 +123,7 @@ module _ (l : Lists) where
   unfolding joins same-bus member-at lookup-at name-at
   joins-bus m k e = go (on-bus L m) (on-bus L k) e
     where
-      go : (a b : Bool) → a ≡ true → cond a (b && same (name-at L N m) (name-at L N k)) (eqb m k) ≡ (not (not a) && (not (not b) && same (name-at L N m) (name-at L N k)))
+      go : (a b : Bool) → a ≡ true → cond a (b && same-list (name-at L N m) (name-at L N k)) (eqb m k) ≡ (not (not a) && (not (not b) && same-list (name-at L N m) (name-at L N k)))
       go true true z = refl
       go true false z = refl
       go false b z = cc

@@ -2,15 +2,15 @@
 use mathlib.Core.Path.{_≡_, refl, sym, ap, ap₂, _∙_}
 use mathlib.Core.Bool.{Bool, true, false, cond, not}
 use mathlib.Core.List.{List, [], _∷_, _++_, append-assoc, append-nil, map, flatMap}
-use Prim.Native.Nat.{ℕ, zero, suc, _+_, _*_, _/_, _<_, _≤_}
+use Prim.Native.Nat.{ℕ, suc, _+_, _*_, _/_, _<_, _≤_}
 use native.Mathlib.Nat.{zero-add}
 use native.Mathlib.Omega.{arith}
 use lib.Dec.{eqb}
-use lib.ListN.{length, take, drop, getD, length-append}
+use lib.ListN.{length, take, drop, getD, length-append, length-map}
 use lib.Seq.{getD-append-add, drop-append-add, take-at, drop-at}
 use Rattle.lists.specs.Count.{total}
 use Rattle.lists.specs.Tab.{tab}
-use Rattle.lists.specs.laws.Tab.{tab-none}
+use Rattle.lists.specs.laws.Tab.{tab-none, tab-cons, tab-cong}
 use Rattle.lists.specs.laws.Sums.{total-head}
 use Rattle.expression.specs.Words.{word}
 use Rattle.expression.specs.Values.{bit}
@@ -26,14 +26,6 @@ Each P (x ∷ xs) = P x × Each P xs
 abbrev pub Unnamed : Lookup → Type 0
 Unnamed x = x .local ≡ true → x .name ≡ []
 
-tab-cons : {A : Type 0} (f : ℕ → A) (n : ℕ) → tab f 0 (suc n) ≡ f 0 ∷ tab (λ k. f (suc k)) 0 n
-unfolding tab
-tab-cons f zero = refl
-tab-cons {A} f (suc n) = ap (λ (z : List A). z ++ (f (0 + suc n) ∷ [])) (tab-cons f n) ∙ ap (λ (k : ℕ). f 0 ∷ (tab (λ k. f (suc k)) 0 n ++ (f k ∷ []))) (let e : 0 + suc n ≡ suc (0 + n) = omega arith in e)
-
-tab-same : {A : Type 0} (f g : ℕ → A) (n : ℕ) → ((k : ℕ) → f k ≡ g k) → tab f 0 n ≡ tab g 0 n
-tab-same f g n e = ap (λ (h : ℕ → _). tab h 0 n) (λ j k. e k j)
-
 -- a list of sizes with one more in front
 total-shift : (f g : ℕ → ℕ) (a n : ℕ) → f 0 ≡ a → ((k : ℕ) → f (suc k) ≡ g k) → total f (suc n) ≡ a + total g n
 total-shift f g a n e h = total-head f n ∙ ap₂ _+_ e (ap (λ (q : ℕ → ℕ). total q n) (λ j k. h k j))
@@ -48,7 +40,7 @@ tuples-back : (ts : List (List ℕ)) (ws es : List ℕ)
     → tab (λ k. take (word (map (λ (t : List ℕ). length t) ts ++ ws) k) (drop (element-start (map (λ (t : List ℕ). length t) ts ++ ws) k) (flatMap (λ (t : List ℕ). t) ts ++ es))) 0 (length ts) ≡ ts
 unfolding flatMap
 tuples-back [] ws es = tab-none (λ k. take (word ws k) (drop (element-start ws k) es)) 0
-tuples-back (t ∷ ts) ws es = tab-cons F (length ts) ∙ ap₂ (λ (x : List ℕ) (y : List (List ℕ)). x ∷ y) first (tab-same (λ k. F (suc k)) G (length ts) later ∙ tuples-back ts ws es)
+tuples-back (t ∷ ts) ws es = tab-cons F (length ts) ∙ ap₂ (λ (x : List ℕ) (y : List (List ℕ)). x ∷ y) first (tab-cong (λ k. F (suc k)) G (length ts) (λ k _. later k) ∙ tuples-back ts ws es)
   where
     W : List ℕ
     W = map (λ (t : List ℕ). length t) ts ++ ws
@@ -81,10 +73,6 @@ prepend c l =
       flags = c .flags ++ l .flags;
       elements = flatMap (λ (t : List ℕ). t) (c .tuples) ++ l .elements;
     }
-
-map-length : (ts : List (List ℕ)) → length (map (λ (t : List ℕ). length t) ts) ≡ length ts
-map-length [] = refl
-map-length (t ∷ ts) = ap suc (map-length ts)
 
 -- all widths of some tuples are all their elements
 widths-sum : (ts : List (List ℕ)) (ws : List ℕ) (k : ℕ) → element-start (map (λ (t : List ℕ). length t) ts ++ ws) (length ts + k) ≡ length (flatMap (λ (t : List ℕ). t) ts) + element-start ws k
@@ -143,7 +131,7 @@ module _ (c : Lookup) (un : Unnamed c) (l : Lookups) where
       let ws : List ℕ = map (λ (t : List ℕ). length t) (c .tuples) in
       let T : ℕ = tuple-start (l .lookups) k in
       let z : tuple-start (lookup-words c ++ l .lookups) (suc k) + j ≡ length (c .tuples) + (T + j) = omega (arith, tuples-start k) in
-      let y : length (c .tuples) + (T + j) ≡ length ws + (T + j) = ap (λ (n : ℕ). n + (T + j)) (sym (map-length (c .tuples))) in
+      let y : length (c .tuples) + (T + j) ≡ length ws + (T + j) = ap (λ (n : ℕ). n + (T + j)) (sym (length-map (c .tuples) (λ (t : List ℕ). length t))) in
       part-later (flatMap (λ (t : List ℕ). t) (c .tuples)) (l .elements)
       (word (ws ++ l .tuples) (tuple-start (lookup-words c ++ l .lookups) (suc k) + j)) (word (l .tuples) (T + j))
       (element-start (ws ++ l .tuples) (tuple-start (lookup-words c ++ l .lookups) (suc k) + j)) (element-start (l .tuples) (T + j))
@@ -160,7 +148,7 @@ module _ (c : Lookup) (un : Unnamed c) (l : Lookups) where
       let na = part-later (c .name) (l .names) _ _ _ _ (name-later k) (names-start k) in
       let mu = part-later (c .multiplicities) (l .multiplicities) _ _ _ _ (entry-later k 6) (multiplicities-start k) in
       let fl = part-later (c .flags) (l .flags) _ _ _ _ (entry-later k 7) (flags-start k) in
-      let tu = tab-same (tuple-nodes (prepend c l) (suc k)) (tuple-nodes l k) (tuple-count (lookup-words c ++ l .lookups) (suc k)) (nodes-later k) ∙ ap (λ (n : ℕ). tab (tuple-nodes l k) 0 n) (entry-later k 5) in
+      let tu = tab-cong (tuple-nodes (prepend c l) (suc k)) (tuple-nodes l k) (tuple-count (lookup-words c ++ l .lookups) (suc k)) (λ j _. nodes-later k j) ∙ ap (λ (n : ℕ). tab (tuple-nodes l k) 0 n) (entry-later k 5) in
       λ j. record {
         local = not (not (eqb (on j) 0));
         name = na j;
@@ -188,8 +176,8 @@ module _ (c : Lookup) (un : Unnamed c) (l : Lookups) where
       let na = ap (λ (n : ℕ). take n (c .name ++ l .names)) name-first ∙ take-at (c .name) (l .names) (length (c .name)) refl in
       let mu = take-at (c .multiplicities) (l .multiplicities) (length (c .multiplicities)) refl in
       let fl = take-at (c .flags) (l .flags) (length (c .flags)) refl in
-      let tu = tab-same (tuple-nodes (prepend c l) 0) (λ k. take (word (map (λ (t : List ℕ). length t) (c .tuples) ++ l .tuples) k) (drop (element-start (map (λ (t : List ℕ). length t) (c .tuples) ++ l .tuples) k) (flatMap (λ (t : List ℕ). t) (c .tuples) ++ l .elements)))
-      (length (c .tuples)) (λ k. ap (λ (n : ℕ). take (word (map (λ (t : List ℕ). length t) (c .tuples) ++ l .tuples) n) (drop (element-start (map (λ (t : List ℕ). length t) (c .tuples) ++ l .tuples) n) (flatMap (λ (t : List ℕ). t) (c .tuples) ++ l .elements))) (zero-add k))
+      let tu = tab-cong (tuple-nodes (prepend c l) 0) (λ k. take (word (map (λ (t : List ℕ). length t) (c .tuples) ++ l .tuples) k) (drop (element-start (map (λ (t : List ℕ). length t) (c .tuples) ++ l .tuples) k) (flatMap (λ (t : List ℕ). t) (c .tuples) ++ l .elements)))
+      (length (c .tuples)) (λ k _. ap (λ (n : ℕ). take (word (map (λ (t : List ℕ). length t) (c .tuples) ++ l .tuples) n) (drop (element-start (map (λ (t : List ℕ). length t) (c .tuples) ++ l .tuples) n) (flatMap (λ (t : List ℕ). t) (c .tuples) ++ l .elements))) (zero-add k))
       ∙ tuples-back (c .tuples) (l .tuples) (l .elements) in
       λ j. record {
         local = lo j;
@@ -213,7 +201,7 @@ unfolding words-of flatMap
 back [] u = tab-none (lookup-at (words-of [])) 0
 back (c ∷ cs) u =
     tab-cons (lookup-at (words-of (c ∷ cs))) (length cs)
-    ∙ ap₂ (λ (x : Lookup) (y : List Lookup). x ∷ y) (now c (u .0) (words-of cs)) (tab-same (λ k. lookup-at (words-of (c ∷ cs)) (suc k)) (lookup-at (words-of cs)) (length cs) (later c (u .0) (words-of cs)) ∙ back cs (u .1))
+    ∙ ap₂ (λ (x : Lookup) (y : List Lookup). x ∷ y) (now c (u .0) (words-of cs)) (tab-cong (λ k. lookup-at (words-of (c ∷ cs)) (suc k)) (lookup-at (words-of cs)) (length cs) (λ k _. later c (u .0) (words-of cs) k) ∙ back cs (u .1))
 
 pub read-back : (cs : List Lookup) → Each Unnamed cs → lookups-of (words-of cs) ≡ cs
 unfolding lookups-of

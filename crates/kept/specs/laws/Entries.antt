@@ -1,17 +1,19 @@
 -- The packed table has the same entries on every row.
 use mathlib.Core.Path.{_≡_, refl, sym, ap, ap₂, _∙_}
-use mathlib.Core.Bool.{Bool, true, false, cond, not, _&&_, _||_}
-use mathlib.Core.List.{List, [], _∷_, _++_, append-assoc, append-nil, map, flatMap, zipWith, map-append}
+use mathlib.Core.Bool.{Bool, true, false, cond, not, _&&_}
+use mathlib.Core.List.{List, [], _∷_, _++_, append-assoc, append-nil, map, flatMap, zipWith, map-append, List·Memᴰ, List·Memᴰ·head, List·Memᴰ·tail}
 use Prim.Native.Nat.{ℕ, zero, suc, _+_, _<_, _≤_}
 use native.Mathlib.Nat.{zero-add}
 use native.Mathlib.Omega.{arith}
 use lib.Dec.{leb}
-use lib.ListN.{length, take, drop, length-append, length-take}
+use lib.ListN.{length, take, drop, length-append, length-take, length-map}
 use lib.Seq.{getD-take, getD-drop}
+use Rattle.lists.specs.Same.{same-list}
 use Rattle.lists.specs.Count.{joined}
 use Rattle.lists.specs.Tab.{tab}
-use Rattle.lists.specs.laws.Tab.{tab-length}
-use Rattle.lists.specs.laws.Tab.{map-tab, flat-append}
+use Rattle.lists.specs.laws.Count.{or-left-false, or-right-false}
+use Rattle.lists.specs.laws.Tab.{tab-length, tab-cong, map-tab, flat-append, zip-append}
+use Rattle.lists.specs.laws.Joined.{joined-singles}
 use Rattle.field.specs.Word.{mulM}
 use Rattle.expression.specs.Words.{word}
 use Rattle.expression.specs.declared.sizes.Limits.{Limits}
@@ -21,35 +23,26 @@ use Rattle.degree.specs.Sums.{sum-of}
 use Rattle.degree.specs.Degree.{node-degrees, lookup-degree}
 use Rattle.degree.specs.Formed.{Formed}
 use Rattle.degree.specs.laws.Degree.{zip-tab, part-tab}
-use Rattle.widths.specs.Order.{keep, same, arranged}
+use Rattle.widths.specs.Order.{keep, arranged}
 use Rattle.widths.specs.laws.Order.{sum-append, arranged-in}
 use Rattle.logup.specs.Tuple.{tuple}
 use Rattle.logup.specs.Ledger.{Entry, entry, count, lookup-entries, row-entries}
 use Rattle.packing.specs.Packing.{passes, on-one-bus, in-order, merged, joins, fill, filled, numbered, renumbered, packed}
 use Rattle.packing.specs.Written.{words-of}
 use Rattle.packing.specs.Door.{columns}
-use Rattle.packing.specs.laws.Columns.{and-both, on-one, order-sum}
+use Rattle.packing.specs.laws.Columns.{and-both, on-one, order-sum, renumbered-sum}
 use Rattle.kept.specs.Entries.{record-counts, entered, record-entries, Sound}
 use Rattle.kept.specs.laws.Back.{Each, Unnamed, read-back}
-use mathlib.Core.List.{List·Memᴰ, List·Memᴰ·head, List·Memᴰ·tail}
-
-singles : {A : Type 0} (f : ℕ → A) (n : ℕ) → joined (λ k. f k ∷ []) 0 n ≡ tab f 0 n
-unfolding joined tab
-singles f zero = refl
-singles {A} f (suc n) = ap (λ (z : List A). z ++ (f (0 + n) ∷ [])) (singles f n)
 
 -- a part whose length is n, by number
 part-by : (m : List ℕ) (c s n : ℕ) → length (take c (drop s m)) ≡ n → take c (drop s m) ≡ tab (λ k. word m (s + k)) 0 n
 part-by m c s n e =
     let h : n ≤ length (drop s m) = omega (arith, sym e ∙ length-take c (drop s m)) in
     let g : n ≤ c = omega (arith, sym e ∙ length-take c (drop s m)) in
-    cut (take c (drop s m)) n e ∙ tab-same′ n (λ k l. getD-take c (drop s m) (0 + k) 0 (omega arith) ∙ getD-drop s m (0 + k) 0 ∙ ap (λ (q : ℕ). word m (s + q)) (zero-add k))
+    cut (take c (drop s m)) n e ∙ tab-cong (λ k. word (take c (drop s m)) (0 + k)) (λ k. word m (s + k)) n (λ k l. getD-take c (drop s m) (0 + k) 0 (omega arith) ∙ getD-drop s m (0 + k) 0 ∙ ap (λ (q : ℕ). word m (s + q)) (zero-add k))
   where
     cut : (xs : List ℕ) (n : ℕ) → length xs ≡ n → xs ≡ tab (λ k. word xs (0 + k)) 0 n
     cut xs n e = sym (lib.Seq.take-all n xs (omega arith)) ∙ part-tab xs 0 n (omega arith)
-
-    tab-same′ : (n : ℕ) → ((k : ℕ) → k < n → word (take c (drop s m)) (0 + k) ≡ word m (s + k)) → tab (λ k. word (take c (drop s m)) (0 + k)) 0 n ≡ tab (λ k. word m (s + k)) 0 n
-    tab-same′ n h = Rattle.lists.specs.laws.Tab.tab-cong (λ k. word (take c (drop s m)) (0 + k)) (λ k. word m (s + k)) n h
 
 -- what lookup i enters, from its record
 module _ (p : ℕ) (vals : List ℕ) where
@@ -83,7 +76,7 @@ module _ (p : ℕ) (vals : List ℕ) where
   entries-at : (l : Lookups) (i : ℕ) → Sound (lookup-at l i) → lookup-entries p l vals i ≡ record-entries p vals (lookup-at l i)
   unfolding lookup-entries record-entries tuple
   entries-at l i s =
-      singles (λ k. entry p l vals i k) (tuple-count (l .lookups) i)
+      joined-singles (λ k. entry p l vals i k) (tuple-count (l .lookups) i)
       ∙ sym (zip-tab (entered vals) (tuple-nodes l i) (count p l vals i) (tuple-count (l .lookups) i))
       ∙ ap₂ (λ (x : List (List ℕ)) (y : List ℕ). zipWith (entered vals) x y) (sym (tuples-are l i)) (sym (counts-at l i s))
     where
@@ -107,25 +100,10 @@ module _ (p : ℕ) (vals : List ℕ) where
   unfolding row-entries lookups-of
   row-is l e = rows-at l (lookup-count (l .lookups)) e
 
-  zip-append : {A B C : Type 0} (f : A → B → C) (xs xs′ : List A) (ys ys′ : List B) → length xs ≡ length ys → zipWith f (xs ++ xs′) (ys ++ ys′) ≡ zipWith f xs ys ++ zipWith f xs′ ys′
-  unfolding zipWith
-  zip-append f [] xs′ [] ys′ e = refl
-  zip-append f [] xs′ (y ∷ ys) ys′ e = absurd (omega arith)
-  zip-append f (x ∷ xs) xs′ [] ys′ e = absurd (omega arith)
-  zip-append {C = C} f (x ∷ xs) xs′ (y ∷ ys) ys′ e = ap (λ (z : List C). f x y ∷ z) (zip-append f xs xs′ ys ys′ (omega arith))
-
-  map-long : {A B : Type 0} (g : A → B) (xs : List A) → length (map g xs) ≡ length xs
-  map-long g [] = refl
-  map-long g (x ∷ xs) = ap suc (map-long g xs)
-
-  or-second : (a b : Bool) → (a || b) ≡ false → b ≡ false
-  or-second true b e = cc
-  or-second false b e = e
-
   additive : (deg : ℕ → ℕ) (limit : ℕ) (a b : Lookup) → joins deg limit a b ≡ true → (a .exclusive ≡ false) × (b .exclusive ≡ false)
   additive deg limit a b e =
       let s = on-one a b (and-both (on-one-bus a b) (leb (lookup-degree deg (merged a b)) limit) e .0) in
-      (or-second (a .local) (a .exclusive) (s .0), or-second (b .local) (b .exclusive) (s .1))
+      (or-right-false (a .local) (a .exclusive) (s .0), or-right-false (b .local) (b .exclusive) (s .1))
 
   -- a kept merge enters what its parts enter
   merged-entries : (a b : Lookup) → a .exclusive ≡ false → b .exclusive ≡ false → Sound a → record-entries p vals (merged a b) ≡ record-entries p vals a ++ record-entries p vals b
@@ -133,7 +111,7 @@ module _ (p : ℕ) (vals : List ℕ) where
   merged-entries a b ea eb s =
       rw (ea, eb)
       (ap (zipWith (entered vals) (a .tuples ++ b .tuples)) (map-append (word vals) (a .multiplicities) (b .multiplicities))
-      ∙ zip-append (entered vals) (a .tuples) (b .tuples) (map (word vals) (a .multiplicities)) (map (word vals) (b .multiplicities)) (sym (s .aligned) ∙ sym (map-long (word vals) (a .multiplicities))))
+      ∙ zip-append (entered vals) (a .tuples) (b .tuples) (map (word vals) (a .multiplicities)) (map (word vals) (b .multiplicities)) (sym (s .aligned) ∙ sym (length-map (a .multiplicities) (word vals))))
 
   merged-sound : (a b : Lookup) → a .exclusive ≡ false → Sound a → Sound b → Sound (merged a b)
   merged-sound a b ea s t =
@@ -232,11 +210,15 @@ module _ (m : Limits) (nodes : List ℕ) (l : Lookups) (f : Formed m nodes l) wh
       snoc [] y e s = (s, tt)
       snoc (x ∷ xs) y e s = (e .0, snoc xs y (e .1) s)
 
+  pub lookups-sound : Each Sound (lookups-of l)
+  unfolding lookups-of
+  lookups-sound = each-tab (lookup-count (l .lookups)) (omega arith)
+
   order-sound : Each Sound (in-order l)
   unfolding in-order
   order-sound = map-sound (arranged (λ i. passes (lookup-at l i)) (λ i. lookup-at l i .name) (lookup-count (l .lookups))) (arranged-in (λ i. passes (lookup-at l i)) (λ i. lookup-at l i .name) (lookup-count (l .lookups)))
 
-  columns-sound : (limit : ℕ) → Each Sound (columns limit nodes l)
+  pub columns-sound : (limit : ℕ) → Each Sound (columns limit nodes l)
   unfolding columns packed
   columns-sound limit = numbered-sound 0 [] 0 (filled (node-degrees 0 nodes) limit (in-order l)) (filled-sound 0 [] (node-degrees 0 nodes) limit (in-order l) order-sound)
 
@@ -266,7 +248,7 @@ module _ (m : Limits) (nodes : List ℕ) (l : Lookups) (f : Formed m nodes l) wh
       ∙ flat-sum p vals h (in-order l)
       ∙ order-sum l (λ (x : Lookup). sum-of h (record-entries p vals x))
       ∙ sym (flat-sum p vals h (lookups-of l))
-      ∙ ap (sum-of h) (sym (row-is p vals l (each-tab (lookup-count (l .lookups)) (omega arith))))
+      ∙ ap (sum-of h) (sym (row-is p vals l lookups-sound))
 
   fill-sum : (g : Lookup → ℕ) → ((a b : Lookup) → on-one-bus a b ≡ true → Sound a → g (merged a b) ≡ g a + g b) → (deg : ℕ → ℕ) (limit : ℕ) (c : Lookup) (ls : List Lookup) → Sound c → Each Sound ls
       → sum-of g (fill deg limit c ls) ≡ g c + sum-of g ls
@@ -281,15 +263,10 @@ module _ (m : Limits) (nodes : List ℕ) (l : Lookups) (f : Formed m nodes l) wh
           y (merged-sound 0 [] c x (additive 0 [] deg limit c x j .0) s (e .0)) ∙ omega (arith, adds c x o s)
       go false j y z = omega (arith, z)
 
-  numbered-sum : (g : Lookup → ℕ) → ((k : ℕ) (x : Lookup) → g (numbered k x) ≡ g x) → (k : ℕ) (ls : List Lookup) → sum-of g (renumbered k ls) ≡ sum-of g ls
-  unfolding renumbered sum-of
-  numbered-sum g free k [] = refl
-  numbered-sum g free k (x ∷ ls) = omega (arith, free k x, numbered-sum g free (suc k) ls)
-
   columns-sum : (g : Lookup → ℕ) → ((a b : Lookup) → on-one-bus a b ≡ true → Sound a → g (merged a b) ≡ g a + g b) → ((k : ℕ) (x : Lookup) → g (numbered k x) ≡ g x)
       → (limit : ℕ) → sum-of g (columns limit nodes l) ≡ sum-of g (lookups-of l)
   unfolding columns packed
-  columns-sum g adds free limit = numbered-sum g free 0 (filled (node-degrees 0 nodes) limit (in-order l)) ∙ all (in-order l) order-sound ∙ order-sum l g
+  columns-sum g adds free limit = renumbered-sum g free 0 (filled (node-degrees 0 nodes) limit (in-order l)) ∙ all (in-order l) order-sound ∙ order-sum l g
     where
       all : (ls : List Lookup) → Each Sound ls → sum-of g (filled (node-degrees 0 nodes) limit ls) ≡ sum-of g ls
       all [] e = unfold filled in refl
@@ -297,7 +274,7 @@ module _ (m : Limits) (nodes : List ℕ) (l : Lookups) (f : Formed m nodes l) wh
 
   -- of the lookups on one bus, exclusives too
   abbrev pub on : List ℕ → Lookup → Bool
-  on bus x = not (x .local) && same bus (x .name)
+  on bus x = not (x .local) && same-list bus (x .name)
 
   kept-sum : (f : Lookup → Bool) (h : Entry → ℕ) (p : ℕ) (vals : List ℕ) (ls : List Lookup)
       → sum-of h (flatMap (record-entries p vals) (keep f ls)) ≡ sum-of (λ (x : Lookup). cond (f x) (sum-of h (record-entries p vals x)) 0) ls
@@ -321,24 +298,20 @@ module _ (m : Limits) (nodes : List ℕ) (l : Lookups) (f : Formed m nodes l) wh
       free : (k : ℕ) (x : Lookup) → cond (on bus (numbered k x)) (sum-of h (record-entries p vals (numbered k x))) 0 ≡ cond (on bus x) (sum-of h (record-entries p vals x)) 0
       free k x = unfold record-entries in unfold record-counts in refl
 
-      own : (a b : Bool) (s t : List ℕ) → a ≡ false → b ≡ false → s ≡ t → (not b && same bus t) ≡ (not a && same bus s)
+      own : (a b : Bool) (s t : List ℕ) → a ≡ false → b ≡ false → s ≡ t → (not b && same-list bus t) ≡ (not a && same-list bus s)
       own a b s t e g q = rw (e, g, q)
 
       part : (b : Bool) (x y z : ℕ) → z ≡ x + y → cond b z 0 ≡ cond b x 0 + cond b y 0
       part true x y z e = e
       part false x y z e = refl
 
-      or-first : (a b : Bool) → (a || b) ≡ false → a ≡ false
-      or-first true b e = cc
-      or-first false b e = refl
-
       adds : (a b : Lookup) → on-one-bus a b ≡ true → Sound a
           → cond (on bus (merged a b)) (sum-of h (record-entries p vals (merged a b))) 0 ≡ cond (on bus a) (sum-of h (record-entries p vals a)) 0 + cond (on bus b) (sum-of h (record-entries p vals b)) 0
       adds a b o s =
           let q = on-one a b o in
-          let ea : a .exclusive ≡ false = or-second 0 [] (a .local) (a .exclusive) (q .0) in
-          let eb : b .exclusive ≡ false = or-second 0 [] (b .local) (b .exclusive) (q .1) in
-          let same-on : on bus b ≡ on bus a = own (a .local) (b .local) (a .name) (b .name) (or-first (a .local) (a .exclusive) (q .0)) (or-first (b .local) (b .exclusive) (q .1)) (q .2) in
+          let ea : a .exclusive ≡ false = or-right-false (a .local) (a .exclusive) (q .0) in
+          let eb : b .exclusive ≡ false = or-right-false (b .local) (b .exclusive) (q .1) in
+          let same-on : on bus b ≡ on bus a = own (a .local) (b .local) (a .name) (b .name) (or-left-false (a .local) (a .exclusive) (q .0)) (or-left-false (b .local) (b .exclusive) (q .1)) (q .2) in
           part (on bus a) (sum-of h (record-entries p vals a)) (sum-of h (record-entries p vals b)) (sum-of h (record-entries p vals (merged a b)))
           (ap (sum-of h) (merged-entries p vals a b ea eb s) ∙ sum-append h (record-entries p vals a) (record-entries p vals b))
           ∙ ap (λ (c : Bool). cond (on bus a) (sum-of h (record-entries p vals a)) 0 + cond c (sum-of h (record-entries p vals b)) 0) (sym same-on)

@@ -5,6 +5,7 @@ use mathlib.Core.List.{List, [], _∷_, _++_}
 use Prim.Native.Nat.{ℕ, zero, suc, _+_, _%_}
 use native.Mathlib.Nat.{mod-add-mod, add-assoc, zero-add, zero-mod}
 use native.Mathlib.Omega.{arith}
+use Rattle.lists.specs.Same.{same-list}
 use Rattle.lists.specs.Count.{total, joined}
 use Rattle.lists.specs.Fold.{fold}
 use Rattle.field.specs.Word.{addM}
@@ -15,7 +16,7 @@ use Rattle.lookup.specs.Table.{Table}
 use Rattle.degree.specs.Sums.{sum-of}
 use Rattle.degree.specs.Formed.{Formed}
 use Rattle.widths.specs.laws.Order.{sum-append}
-use Rattle.logup.specs.Ledger.{Entry, row-entries, entries, same-list, post, ledger}
+use Rattle.logup.specs.Ledger.{Entry, row-entries, entries, post, ledger}
 use Rattle.packing.specs.Written.{words-of}
 use Rattle.packing.specs.Door.{columns}
 use Rattle.kept.specs.Entries.{packed-table}

@@ -10,10 +10,9 @@ use lib.ListN.{length, take, drop, replicate, length-append, length-take, length
 use lib.Seq.{take-add, drop-drop}
 use Rattle.lists.specs.Count.{total}
 use Rattle.lists.specs.Tab.{tab}
-use Rattle.lists.specs.laws.Count.{total-one, total-le}
+use Rattle.lists.specs.laws.Count.{total-one}
 use Rattle.lists.specs.laws.Parts.{getD-pad}
-use Rattle.lists.specs.laws.Tab.{tab-length, tab-cong, tab-get}
-use Rattle.lists.specs.laws.Tab.{map-tab, flat-append}
+use Rattle.lists.specs.laws.Tab.{tab-length, tab-cong, tab-get, map-tab, flat-append}
 use Rattle.expression.specs.Words.{word}
 use Rattle.expression.specs.Node.{node-count}
 use Rattle.expression.specs.Degree.{degrees}
@@ -21,7 +20,7 @@ use Rattle.expression.specs.laws.Below.{word-zeros}
 use Rattle.expression.specs.declared.sizes.Limits.{Limits}
 use Rattle.lookup.specs.Lookups.{Lookups, Lookup, lookup-count, exclusive, name-length, tuple-count, multiplicity-count, flag-count, name-start, tuple-start, multiplicity-start, flag-start, element-start, tuple-width, tuple-nodes, lookup-at, lookups-of}
 use Rattle.lookup.specs.Valid.{Fitting}
-use Rattle.lookup.specs.laws.Tested.{placed, tuple-placed}
+use Rattle.lookup.specs.laws.Tested.{placed, tuple-placed, element-next, element-le}
 use Rattle.degree.specs.Sums.{sum-of}
 use Rattle.degree.specs.Degree.{node-degrees}
 use Rattle.degree.specs.At.{degree-at}
@@ -88,14 +87,6 @@ tuple-in l fit i k h g = tuple-placed l fit i k h g
 tuple-next : (lookups : List ℕ) (i : ℕ) → tuple-start lookups (i + 1) ≡ tuple-start lookups i + tuple-count lookups i
 unfolding tuple-start
 tuple-next lookups i = total-one (tuple-count lookups) i
-
-element-next : (tuples : List ℕ) (j : ℕ) → element-start tuples (j + 1) ≡ element-start tuples j + word tuples j
-unfolding element-start
-element-next tuples j = total-one (word tuples) j
-
-element-le : (tuples : List ℕ) (j k : ℕ) → j ≤ k → element-start tuples j ≤ element-start tuples k
-unfolding element-start
-element-le tuples j k h = total-le (word tuples) j k h
 
 -- the parts of lookup i
 module _ (l : Lookups) (fit : Fitting l) (i : ℕ) (here : i < lookup-count (l .lookups)) where

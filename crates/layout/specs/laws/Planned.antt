@@ -7,6 +7,8 @@ use native.Mathlib.Omega.{arith}
 use lib.Dec.{leb, ltb}
 use lib.ListN.{length, length-append, length-take, length-drop}
 use borrow.Author.Tests.{ltb-false}
+use Rattle.lists.specs.Same.{same-list}
+use Rattle.lists.specs.laws.Count.{or-right-false}
 use Rattle.lists.specs.laws.Tab.{tab-length}
 use Rattle.expression.specs.Words.{word}
 use Rattle.expression.specs.Values.{bit}
@@ -17,7 +19,7 @@ use Rattle.degree.specs.Sums.{sum-of}
 use Rattle.degree.specs.Degree.{denominator-degree, lookup-degree}
 use Rattle.degree.specs.At.{degree-at}
 use Rattle.degree.specs.laws.Degree.{denominator-is, numerator-is}
-use Rattle.widths.specs.Order.{same, name-at, alone-at, same-bus}
+use Rattle.widths.specs.Order.{name-at, alone-at, same-bus}
 use Rattle.plan.specs.Columns.{Source, source, top-at, opened, opened-at, merge, column-degree, fits, joins-at, columns-from, columns-of, column-words, words-from, heads-of, over-of}
 use Rattle.plan.specs.declared.columns.Open.{Open}
 use Rattle.packing.specs.Packing.{passes, on-one-bus, merged, joins, fill, filled, renumbered, overweight}
@@ -44,10 +46,6 @@ pub record Shows (deg : ℕ → ℕ) (lookups names : List ℕ) (o : Open) (c : 
 not-not : (b : Bool) → b ≡ not (not b)
 not-not true = refl
 not-not false = refl
-
-or-second : (a b : Bool) → (a || b) ≡ false → b ≡ false
-or-second true b e = cc
-or-second false b e = e
 
 shows-merged : (deg : ℕ → ℕ) (lookups names : List ℕ) (a b : Open) (x y : Lookup) → Shows deg lookups names a x → Shows deg lookups names b y → Shows deg lookups names (merge a b) (merged x y)
 unfolding merge
@@ -110,8 +108,8 @@ module _ (n : ℕ) (l : Lookups) (nodes degrees : List ℕ) (fit : Fitting l) (a
       let t = shows-opened i h in
       let u = shows-merged (word nodes) (l .lookups) (l .names) o (opened nodes degrees (l .lookups) (l .multiplicities) i) c (lookup-at l i) s t in
       let D : ℕ = max (1 + merge o (opened nodes degrees (l .lookups) (l .multiplicities) i) .sum) (merge o (opened nodes degrees (l .lookups) (l .multiplicities) i) .top) in
-      ap₂ (λ (x : Bool) (y : List ℕ). (not x && (not (alone-at true (l .lookups) i) && same y (name-at (l .lookups) (l .names) i))) && leb D limit) (s .is-alone) (s .name-is)
-      ∙ ap₂ (λ (x : Bool) (y : List ℕ). (not (passes c) && (not x && same (c .name) y)) && leb D limit) (alone i) (named i)
+      ap₂ (λ (x : Bool) (y : List ℕ). (not x && (not (alone-at true (l .lookups) i) && same-list y (name-at (l .lookups) (l .names) i))) && leb D limit) (s .is-alone) (s .name-is)
+      ∙ ap₂ (λ (x : Bool) (y : List ℕ). (not (passes c) && (not x && same-list (c .name) y)) && leb D limit) (alone i) (named i)
       ∙ go (on-one-bus c (lookup-at l i)) refl (λ e. ap₂ (λ (x y : ℕ). max (1 + x) y) (u .sum-is) (u .top-is) ∙ sym (degree-by-top (word nodes) (merged c (lookup-at l i)) e))
     where
       alone : (i : ℕ) → alone-at true (l .lookups) i ≡ passes (lookup-at l i)
@@ -122,7 +120,7 @@ module _ (n : ℕ) (l : Lookups) (nodes degrees : List ℕ) (fit : Fitting l) (a
 
       go : {D : ℕ} (b : Bool) → on-one-bus c (lookup-at l i) ≡ b → (c .exclusive ≡ false → D ≡ lookup-degree (word nodes) (merged c (lookup-at l i)))
           → (b && leb D limit) ≡ (b && leb (lookup-degree (word nodes) (merged c (lookup-at l i))) limit)
-      go true e f = ap (λ (d : ℕ). leb d limit) (f (or-second (c .local) (c .exclusive) (on-one c (lookup-at l i) e .0)))
+      go true e f = ap (λ (d : ℕ). leb d limit) (f (or-right-false (c .local) (c .exclusive) (on-one c (lookup-at l i) e .0)))
       go false e f = refl
 
   columns-match : (is : List ℕ) → ((i : ℕ) → List·Memᴰ i is → i < lookup-count (l .lookups)) → (o : Open) (c : Lookup) → Shows (word nodes) (l .lookups) (l .names) o c

@@ -19,11 +19,11 @@ pub and-right : (a b : Bool) → T (a && b) → T b
 and-right true b t = t
 and-right false b t = absurd t
 
-or-left-false : (a b : Bool) → (a || b) ≡ false → a ≡ false
+pub or-left-false : (a b : Bool) → (a || b) ≡ false → a ≡ false
 or-left-false true b e = e
 or-left-false false b e = refl
 
-or-right-false : (a b : Bool) → (a || b) ≡ false → b ≡ false
+pub or-right-false : (a b : Bool) → (a || b) ≡ false → b ≡ false
 or-right-false true b e = absurd (true≢false e)
 or-right-false false b e = e
 
@@ -41,6 +41,11 @@ unfolding some-of
 some-of-false f zero i e l = absurd (omega arith)
 some-of-false f (suc n) i e l =
     last-or-below (λ i. f i ≡ false) n i l (or-right-false (some-of f n) (f n) e) (some-of-false f n i (or-left-false (some-of f n) (f n) e))
+
+pub some-of-none : (f : ℕ → Bool) (n : ℕ) → ((i : ℕ) → i < n → f i ≡ false) → some-of f n ≡ false
+unfolding some-of
+some-of-none f zero e = refl
+some-of-none f (suc n) e = ap₂ _||_ (some-of-none f n (λ i l. e i (omega arith))) (e n (omega arith))
 
 module _ {A : Type 0} where
   or-else-left : (a b : Option A) → or-else a b ≡ none → a ≡ none
@@ -124,18 +129,15 @@ unfolding some-of
 some-of-one f n = rw (add-one n)
 
 -- a loop that leaves at i
-every-stop-at : (f : ℕ → Bool) (n i : ℕ) → i < n → f i ≡ false → every f n ≡ false
+pub every-stop : (f : ℕ → Bool) (n i : ℕ) → i < n → f i ≡ false → every f n ≡ false
 unfolding every
-every-stop-at f zero i l e = absurd (omega arith)
-every-stop-at f (suc n) i l e =
-    last-or-below (λ i. f i ≡ false → (every f n && f n) ≡ false) n i l (λ e. right (every f n) (f n) e) (λ l e. ap (λ (b : Bool). b && f n) (every-stop-at f n i l e)) e
+every-stop f zero i l e = absurd (omega arith)
+every-stop f (suc n) i l e =
+    last-or-below (λ i. f i ≡ false → (every f n && f n) ≡ false) n i l (λ e. right (every f n) (f n) e) (λ l e. ap (λ (b : Bool). b && f n) (every-stop f n i l e)) e
   where
     right : (a b : Bool) → b ≡ false → (a && b) ≡ false
     right true b e = e
     right false b e = refl
-
-pub every-stop : (f : ℕ → Bool) (n i : ℕ) → i < n → f i ≡ false → every f n ≡ false
-every-stop = every-stop-at
 
 pub some-of-stop : (f : ℕ → Bool) (n i : ℕ) → i < n → f i ≡ true → some-of f n ≡ true
 unfolding some-of

@@ -1,12 +1,13 @@
 -- A list that is made of lists of one length: its length, and what stands in it.
-use mathlib.Core.Path.{_≡_, sym, ap, _∙_}
-use mathlib.Core.List.{List, _++_}
+use mathlib.Core.Path.{_≡_, refl, sym, ap, _∙_}
+use mathlib.Core.List.{List, [], _∷_, _++_}
 use Prim.Native.Nat.{ℕ, zero, suc, _+_, _*_, _<_}
 use native.Mathlib.Nat.{zero-add, mul-le-mul-left, mul-suc}
 use native.Mathlib.Omega.{arith}
 use lib.ListN.{length, getD, length-append, List·getD-append}
 use lib.Seq.{getD-append-add}
 use Rattle.lists.specs.Count.{joined}
+use Rattle.lists.specs.Tab.{tab}
 use Rattle.lists.specs.laws.Count.{last-or-below}
 
 pub joined-length : {A : Type 0} (f : ℕ → List A) (m n : ℕ) → ((i : ℕ) → length (f i) ≡ m) → length (joined f 0 n) ≡ m * n
@@ -25,3 +26,9 @@ joined-at f m (suc n) i c h l k =
   where
     below : i < n → m * i + c < m * n
     below t = omega (arith, mul-suc m i, mul-le-mul-left m t)
+
+-- lists of one element each
+pub joined-singles : {A : Type 0} (f : ℕ → A) (n : ℕ) → joined (λ k. f k ∷ []) 0 n ≡ tab f 0 n
+unfolding joined tab
+joined-singles f zero = refl
+joined-singles {A} f (suc n) = ap (λ (l : List A). l ++ (f (0 + n) ∷ [])) (joined-singles f n)

@@ -1,10 +1,12 @@
--- The turns of a loop that tests, `ok = ok & f(i)`, and of one that sums, `s = s + f(i)`.
-use mathlib.Core.Path.{_≡_, refl, ap, ap₂, _∙_}
+-- The turns of a loop that tests, `ok = ok & f(i)`, of one that sums, `s = s + f(i)`, and of one that finds the first that is there.
+use mathlib.Core.Path.{_≡_, refl, sym, ap, ap₂, _∙_}
 use mathlib.Core.Bool.{Bool, true, _&&_}
+use mathlib.Core.Option.{Option, none}
 use Prim.Native.Nat.{ℕ, _+_, _*_, _<_, _≤_, zero-le}
 use native.Mathlib.Numerals.{add-one}
 use native.Mathlib.Omega.{arith}
-use Rattle.lists.specs.Count.{every, total}
+use Rattle.lists.specs.Count.{every, total, first, or-else}
+use Rattle.lists.specs.laws.Count.{first-one}
 
 -- of the n tests f the first i gave ok
 pub record Testing (f : ℕ → Bool) (n i : ℕ) (ok : Bool) : Type 0 where
@@ -39,3 +41,19 @@ sum-turn {f} {k} {n} {i} {s} x t h b e =
 
 pub sum-ends : {f : ℕ → ℕ} {k n i s : ℕ} → Summing f k n i s → n ≤ i → s ≡ total f n
 sum-ends {f} {k} {n} {i} {s} t h = let e : i ≡ n = omega (arith, t .within) in t .is ∙ ap (total f) e
+
+-- o is the first that is there of the first i
+pub record Finding {A : Type 0} (f : ℕ → Option A) (n i : ℕ) (o : Option A) : Type 0 where
+  pub within : i ≤ n
+  pub is : o ≡ first f i
+
+module _ {A : Type 0} where
+  pub find-begins : {f : ℕ → Option A} {n : ℕ} → Finding f n 0 none
+  unfolding first
+  find-begins = record { within = zero-le; is = refl }
+
+  pub find-turn : {f : ℕ → Option A} {n i : ℕ} {o o′ : Option A} (x : Option A) → Finding f n i o → i < n → o′ ≡ or-else o x → x ≡ f i → Finding f n (i + 1) o′
+  find-turn {f} {n} {i} {o} {o′} x s h e g = record { within = omega arith; is = e ∙ ap₂ or-else (s .is) g ∙ sym (first-one f i) }
+
+  pub find-ends : {f : ℕ → Option A} {n i : ℕ} {o : Option A} → Finding f n i o → n ≤ i → o ≡ first f n
+  find-ends {f} {n} {i} {o} s h = let e : i ≡ n = omega (arith, s .within) in s .is ∙ ap (first f) e

@@ -1,10 +1,10 @@
 -- A lent list d into which records of k words each are written from the front: f 0, f 1, .., n of them.
 use mathlib.Core.Path.{_≡_, refl, sym, ap, _∙_}
-use mathlib.Core.List.{List, [], _++_}
+use mathlib.Core.List.{List, [], _∷_, _++_}
 use Prim.Native.Nat.{ℕ, _+_, _*_, _-_, _<_, _≤_, zero-le}
-use native.Mathlib.Nat.{mul-le-mul-left, mul-zero}
+use native.Mathlib.Nat.{mul-le-mul-left, mul-le-mul-right, mul-zero, suc-mul}
 use native.Mathlib.Omega.{arith}
-use lib.ListN.{length, drop}
+use lib.ListN.{length, drop, set}
 use borrow.Rule.Slice.PartMut.{putMid}
 use Rattle.lists.specs.Count.{joined}
 use Rattle.lists.specs.laws.Count.{joined-one}
@@ -34,3 +34,21 @@ turn {f} {k} {n} {i} {s} {e} {d} {b} {ys} w h hs he y l =
 
 pub ends : {f : ℕ → List ℕ} {k n i : ℕ} {d b : List ℕ} → Writing f k n d i b → n ≤ i → b ≡ joined f 0 n ++ drop (k * n) d
 ends {f} {k} {n} {i} {d} w h = let e : i ≡ n = omega (arith, w .within) in w .out .is ∙ ap (λ (j : ℕ). joined f 0 j ++ drop (k * j) d) e
+
+-- record a of b records of m words ends within them
+pub next-times : (a b m : ℕ) → a < b → a * m + m ≤ b * m
+next-times a b m h = rw suc-mul at (mul-le-mul-right m h)
+
+-- eight stores into eight words
+pub eight-set : (l : List ℕ) (a b c d e f g h : ℕ) → length l ≡ 8
+    → set (set (set (set (set (set (set (set l 0 a) 1 b) 2 c) 3 d) 4 e) 5 f) 6 g) 7 h ≡ a ∷ b ∷ c ∷ d ∷ e ∷ f ∷ g ∷ h ∷ []
+eight-set [] a b c d e f g h z = absurd (omega arith)
+eight-set (_ ∷ []) a b c d e f g h z = absurd (omega arith)
+eight-set (_ ∷ _ ∷ []) a b c d e f g h z = absurd (omega arith)
+eight-set (_ ∷ _ ∷ _ ∷ []) a b c d e f g h z = absurd (omega arith)
+eight-set (_ ∷ _ ∷ _ ∷ _ ∷ []) a b c d e f g h z = absurd (omega arith)
+eight-set (_ ∷ _ ∷ _ ∷ _ ∷ _ ∷ []) a b c d e f g h z = absurd (omega arith)
+eight-set (_ ∷ _ ∷ _ ∷ _ ∷ _ ∷ _ ∷ []) a b c d e f g h z = absurd (omega arith)
+eight-set (_ ∷ _ ∷ _ ∷ _ ∷ _ ∷ _ ∷ _ ∷ []) a b c d e f g h z = absurd (omega arith)
+eight-set (_ ∷ _ ∷ _ ∷ _ ∷ _ ∷ _ ∷ _ ∷ _ ∷ []) a b c d e f g h z = refl
+eight-set (_ ∷ _ ∷ _ ∷ _ ∷ _ ∷ _ ∷ _ ∷ _ ∷ _ ∷ l) a b c d e f g h z = absurd (omega arith)

@@ -7,6 +7,7 @@ use mathlib.Core.List.{List, [], _∷_, _++_}
 use lib.Dec.{T}
 use lib.ListN.{replicate, length, take}
 use Rattle.algebra.specs.Power.{powM}
+use Rattle.lists.specs.Same.{same-list}
 use Rattle.lists.specs.Count.{total, every, some-of, first, joined}
 use Rattle.lists.specs.Fold.{fold}
 use Rattle.lists.specs.Tab.{tab}
@@ -32,7 +33,7 @@ use Rattle.logup.specs.Rows.{fault-refusal, place, fraction-at, row-sum,
 use Rattle.logup.specs.Generation.{Answer, refused, absent, terminal, Outcome, entry-refusal, rows-outcome, entry-outcome, generation}
 use Rattle.logup.specs.Reader.{row-part}
 use Rattle.logup.specs.Constraints.{others, additive-numerator, additive-denominator, exclusive-numerator, exclusive-denominator, numerator, common-denominator, cell, cell-sum, lookup-constraint, step, binding, row-verdict, rows-verdict, constraints-refusal, verdict}
-use Rattle.logup.specs.Ledger.{count, lookup-entries, row-entries, entries, same-list, post, ledger, listed, met, tuples-met}
+use Rattle.logup.specs.Ledger.{count, lookup-entries, row-entries, entries, post, ledger, listed, met, tuples-met}
 
 -- what a call gives, as words: the answer's number and details, the terminal, the buffer
 abbrev pub answer-words : Answer → List ℕ

@@ -1,4 +1,4 @@
--- What passed tests say of the lookups.
+-- What passed tests say of a table and of its lookups.
 use mathlib.Core.Path.{_≡_, refl}
 use mathlib.Core.Bool.{true, cond}
 use mathlib.Core.List.{List, [], _∷_}
@@ -8,14 +8,18 @@ use lib.Dec.{eqb, leb, ltb}
 use lib.ListN.{length}
 use borrow.Author.Tests.{eqb-true, leb-true, ltb-true}
 use Rattle.lists.specs.Count.{every, total}
-use Rattle.lists.specs.laws.Count.{total-le, total-in}
+use Rattle.lists.specs.laws.Count.{total-le, total-in, total-one}
 use Rattle.lists.specs.laws.Tests.{passed, every-true}
 use Rattle.expression.specs.Words.{word, all-below, all-within}
 use Rattle.expression.specs.laws.Below.{within-tested}
 use Rattle.expression.specs.Limits.{Sane}
+use Rattle.expression.specs.Node.{node-count}
+use Rattle.expression.specs.Tests.{traces-within, nodes-within, traces-fit, nodes-fit}
+use Rattle.expression.specs.laws.Tested.{few-tested}
 use Rattle.expression.specs.declared.sizes.Limits.{Limits}
 use Rattle.lookup.specs.Lookups.{Lookups, lookup-count, name-length, column, exclusive, tuple-count, multiplicity-count, flag-count, name-start, tuple-start, multiplicity-start, flag-start, element-start, tuple-width}
-use Rattle.lookup.specs.Tests.{lookups-within, lookups-fit, lengths-agree, nodes-present, lists-agree, in-position}
+use Rattle.lookup.specs.Table.{Table}
+use Rattle.lookup.specs.Tests.{lookups-within, lookups-fit, sizes, lengths-agree, nodes-present, lists-agree, in-position}
 use Rattle.lookup.specs.Valid.{Limited, Fitting, Agreeing, Placed}
 
 below-at : (n : ℕ) (l : List ℕ) → all-below n l ≡ true → (i : ℕ) → i < length l → word l i < n
@@ -118,6 +122,15 @@ pub element-start-le : (l : Lookups) → Fitting l → (j : ℕ) → j ≤ lengt
 unfolding element-start
 element-start-le l f j t = rw (f .elements) (total-le (word (l .tuples)) j (length (l .tuples)) t)
 
+-- where the elements of the next tuple begin
+pub element-next : (tuples : List ℕ) (j : ℕ) → element-start tuples (j + 1) ≡ element-start tuples j + word tuples j
+unfolding element-start
+element-next tuples j = total-one (word tuples) j
+
+pub element-le : (tuples : List ℕ) (j k : ℕ) → j ≤ k → element-start tuples j ≤ element-start tuples k
+unfolding element-start
+element-le tuples j k h = total-le (word tuples) j k h
+
 -- as many multiplicities as tuples come before lookup i
 pub multiplicity-start-is : (n : ℕ) (l : Lookups) → Agreeing n l → (i : ℕ) → i ≤ lookup-count (l .lookups) → multiplicity-start (l .lookups) i ≡ tuple-start (l .lookups) i
 unfolding multiplicity-start tuple-start total
@@ -125,6 +138,26 @@ multiplicity-start-is n l a zero t = refl
 multiplicity-start-is n l a (suc i) t =
     let e : multiplicity-count (l .lookups) i ≡ tuple-count (l .lookups) i = a .multiplicities-agree i (omega arith) in
     omega (arith, e, multiplicity-start-is n l a i (omega arith))
+
+-- refusal 1 of a table, test by test
+pub sizes-passed : (m : Limits) (t : Table) → sizes m t ≡ true
+    → (traces-within m (t .traces .shape) (t .traces .public-values) ≡ true) × (nodes-within m (t .nodes) ≡ true) × (lookups-within m (t .lookups .lookups) (t .lookups .tuples) ≡ true)
+    × (traces-fit (t .traces .shape) (t .traces .main) (t .traces .preprocessed) ≡ true) × (lookups-fit (t .lookups) ≡ true)
+unfolding sizes
+sizes-passed m t e =
+    let k =
+    passed (traces-within m (t .traces .shape) (t .traces .public-values))
+    (nodes-within m (t .nodes)
+    ∷ lookups-within m (t .lookups .lookups) (t .lookups .tuples)
+    ∷ traces-fit (t .traces .shape) (t .traces .main) (t .traces .preprocessed)
+    ∷ nodes-fit (t .nodes)
+    ∷ lookups-fit (t .lookups)
+    ∷ [])
+    e in
+    (k .0, k .1 .0, k .1 .1 .0, k .1 .1 .1 .0, k .1 .1 .1 .1 .1 .0)
+
+pub few-nodes : (m : Limits) (t : Table) → Sane m → sizes m t ≡ true → node-count (t .nodes) ≤ 1024
+few-nodes m t g e = few-tested m (t .nodes) g (sizes-passed m t e .1)
 
 -- so few that no sum of their words leaves 64 bits
 pub lookups-few : (m : Limits) (lookups tuples : List ℕ) → Sane m → lookups-within m lookups tuples ≡ true → (lookup-count lookups ≤ 64) × (length tuples ≤ 64)

@@ -3,6 +3,7 @@ use mathlib.Core.Path.{_≡_, refl}
 use mathlib.Core.List.{List, [], _∷_, _++_, flatMap, zipWith}
 use Prim.Native.Nat.{ℕ}
 use lib.ListN.{replicate}
+use Rattle.lists.specs.Same.{same-list}
 use Rattle.lists.specs.Count.{total, every, first}
 use Rattle.lists.specs.Tab.{tab}
 use Rattle.expression.specs.Words.{all-below, all-within}
@@ -20,7 +21,7 @@ use Rattle.degree.specs.Degree.{tuple-degree, denominator-degree, numerator-deg
 use Rattle.degree.specs.Door.{degree-refusal, degree-answer}
 use Rattle.degree.specs.declared.door.DegreeAnswer.{DegreeAnswer}
 use Rattle.degree.specs.declared.door.DegreeAnswer.the-variants as degree
-use Rattle.widths.specs.Order.{keep, position, by-place, numbers, same, name-at, alone-at, same-bus, place, arranged}
+use Rattle.widths.specs.Order.{keep, position, by-place, numbers, name-at, alone-at, same-bus, place, arranged}
 use Rattle.widths.specs.Widths.{width-in-lookup, width-in-table, expected, by-bus, lookup-refusal, table-refusal, widths-refusal, widest-in-lookup, widest-in-table, widest}
 use Rattle.widths.specs.Door.{Lists, size-start, table-at, tables-of, lists-fit, table-fits, all-fit, widths-answer}
 use Rattle.widths.specs.declared.door.WidthsAnswer.the-variants as widths
@@ -177,5 +178,5 @@ pub cases :
     × (packed-with 3 heavy room ≡ record { answer = Refused WeightTooLarge; lists = room })
     × (packed-with 2 heavy room .answer
     ≡ Packed (record { lookups = 16; names = 2; tuples = 2; multiplicities = 2; flags = 0; elements = 2 }))
-unfolding total every first tab flatMap zipWith all-below all-within cabinet decode node node-degree degrees nodes-within nodes-fit constants-below nodes-known degrees-low name-start tuple-start multiplicity-start flag-start element-start tuple-width multiplicity-node flag-node tuple-nodes lookup-at lookups-of lookups-within lookups-fit lengths-agree nodes-present lists-agree sum-of largest-of greatest tuple-degree denominator-degree numerator-degree additive-degree exclusive-degree lookup-degree columns-within form-sizes nodes-refusal lists-refusal form-refusal shape-of degree-refusal degree-answer keep position by-place numbers same name-at alone-at same-bus place arranged width-in-lookup width-in-table expected by-bus lookup-refusal table-refusal widths-refusal widest-in-lookup widest-in-table widest size-start table-at tables-of lists-fit table-fits all-fit widths-answer in-order fill filled renumbered packed overweight lookup-words words-of holds columns packing-refusal packing
+unfolding total every first tab flatMap zipWith all-below all-within cabinet decode node node-degree degrees nodes-within nodes-fit constants-below nodes-known degrees-low name-start tuple-start multiplicity-start flag-start element-start tuple-width multiplicity-node flag-node tuple-nodes lookup-at lookups-of lookups-within lookups-fit lengths-agree nodes-present lists-agree sum-of largest-of greatest tuple-degree denominator-degree numerator-degree additive-degree exclusive-degree lookup-degree columns-within form-sizes nodes-refusal lists-refusal form-refusal shape-of degree-refusal degree-answer keep position by-place numbers same-list name-at alone-at same-bus place arranged width-in-lookup width-in-table expected by-bus lookup-refusal table-refusal widths-refusal widest-in-lookup widest-in-table widest size-start table-at tables-of lists-fit table-fits all-fit widths-answer in-order fill filled renumbered packed overweight lookup-words words-of holds columns packing-refusal packing
 cases = (refl, refl, refl, refl, refl, refl, refl, refl, refl, refl, refl, refl, refl)

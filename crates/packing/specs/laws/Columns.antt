@@ -7,30 +7,28 @@ use Prim.Native.Nat.{ℕ, zero, suc, _+_, _<_, _≤_}
 use native.Mathlib.Omega.{arith}
 use lib.Dec.{eqb, ltb, leb, eqb·suc-zero}
 use lib.ListN.{length}
-use borrow.Author.Tests.{ltb-true, ltb-false, leb-true, lt-ltb, le-ltb}
+use borrow.Author.Tests.{ltb-true, ltb-false, leb-true, lt-ltb, le-ltb, not-true}
+use Rattle.lists.specs.Same.{same-list}
+use Rattle.lists.specs.laws.Same.{same-list-eq}
 use Rattle.degree.specs.Sums.{sum-of}
 use Rattle.lookup.specs.Lookups.{Lookups, Lookup, lookup-count, lookup-at, lookups-of}
 use Rattle.degree.specs.Degree.{denominator-degree, numerator-degree, additive-degree, exclusive-degree, lookup-degree}
-use Rattle.widths.specs.Order.{keep, position, by-place, numbers, same, same-bus, place, arranged}
+use Rattle.widths.specs.Order.{keep, position, by-place, numbers, same-bus, place, arranged}
 use Rattle.packing.specs.Packing.{passes, additive-on, on-one-bus, in-order, merged, joins, fill, filled, numbered, renumbered, packed}
-use Rattle.widths.specs.laws.Order.{keep-append, keep-same, keep-none, keep-cong, keep-map, position-none, sum-append, sum-map, tab-map, numbers-length, arranged-sum, arranged-in, by-place-keep, by-place-front, same-eq}
+use Rattle.widths.specs.laws.Order.{keep-append, keep-same, keep-none, keep-cong, keep-map, position-none, sum-append, sum-map, tab-map, numbers-length, arranged-sum, arranged-in, by-place-keep, by-place-front}
 
 pub and-both : (a b : Bool) → (a && b) ≡ true → (a ≡ true) × (b ≡ true)
 and-both true b e = (refl, e)
 and-both false b e = (e, cc)
 
-pub not-true : (a : Bool) → not a ≡ true → a ≡ false
-not-true true e = cc
-not-true false e = refl
-
 -- what two lookups that share a bus agree in
 pub on-one : (a b : Lookup) → on-one-bus a b ≡ true → (passes a ≡ false) × (passes b ≡ false) × (a .name ≡ b .name)
 on-one a b e =
     let s = and-both (not (passes a)) (additive-on (a .name) b) e in
-    let t = and-both (not (passes b)) (same (a .name) (b .name)) (s .1) in
-    (not-true (passes a) (s .0), not-true (passes b) (t .0), same-eq (a .name) (b .name) (t .1))
+    let t = and-both (not (passes b)) (same-list (a .name) (b .name)) (s .1) in
+    (not-true (passes a) (s .0), not-true (passes b) (t .0), same-list-eq (a .name) (b .name) (t .1))
 
-agree : (n : List ℕ) (pa pb : Bool) (na nb : List ℕ) → pa ≡ false → pb ≡ false → na ≡ nb → (not pb && same n nb) ≡ (not pa && same n na)
+agree : (n : List ℕ) (pa pb : Bool) (na nb : List ℕ) → pa ≡ false → pb ≡ false → na ≡ nb → (not pb && same-list n nb) ≡ (not pa && same-list n na)
 agree n pa pb na nb e f g = rw (e, f, g)
 
 pub bus-agrees : (n : List ℕ) (a b : Lookup) → on-one-bus a b ≡ true → additive-on n b ≡ additive-on n a
@@ -59,14 +57,14 @@ module _ (l : Lookups) where
 
   -- the place of a bus
   placed : (n : List ℕ) (b : Bool) (m : List ℕ) → b ≡ false → n ≡ m
-      → cond b 0 (suc (position (λ j. not b && (not (passes (G j)) && same m (G j .name))) (numbers N))) ≡ suc (position (λ j. additive-on n (G j)) (numbers N))
+      → cond b 0 (suc (position (λ j. not b && (not (passes (G j)) && same-list m (G j .name))) (numbers N))) ≡ suc (position (λ j. additive-on n (G j)) (numbers N))
   placed n b m e f = rw (e, f)
 
   bus-place : (n : List ℕ) (i : ℕ) → additive-on n (G i) ≡ true → P i ≡ suc (position (λ j. additive-on n (G j)) (numbers N))
   unfolding place same-bus
   bus-place n i e =
-      let s = and-both (not (passes (G i))) (same n (G i .name)) e in
-      placed n (passes (G i)) (G i .name) (not-true (passes (G i)) (s .0)) (same-eq n (G i .name) (s .1))
+      let s = and-both (not (passes (G i))) (same-list n (G i .name)) e in
+      placed n (passes (G i)) (G i .name) (not-true (passes (G i)) (s .0)) (same-list-eq n (G i .name) (s .1))
 
   -- the order keeps each bus, in list order
   pub order-bus : (n : List ℕ) → keep (additive-on n) (in-order l) ≡ keep (additive-on n) (lookups-of l)

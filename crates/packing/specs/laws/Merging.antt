@@ -1,10 +1,11 @@
 -- The degree of a merged column from those of its parts.
-use mathlib.Core.Path.{_≡_, refl, sym, ap, ap₂, _∙_}
+use mathlib.Core.Path.{_≡_, sym, ap, ap₂, _∙_}
 use mathlib.Core.Bool.{Bool, true, false, cond, not, _&&_, _||_}
 use mathlib.Core.List.{List, [], _∷_, _++_, zipWith}
 use Prim.Native.Nat.{ℕ, zero, suc, _+_, _-_, _≤_, max}
 use native.Mathlib.Omega.{arith}
 use lib.ListN.{length}
+use Rattle.lists.specs.laws.Tab.{zip-append}
 use Rattle.degree.specs.Sums.{sum-of, largest-of}
 use Rattle.lookup.specs.Lookups.{Lookup}
 use Rattle.degree.specs.Degree.{tuple-degree, denominator-degree, term-degree, numerator-degree, additive-degree, lookup-degree}
@@ -18,13 +19,6 @@ Aligned l = length (l .multiplicities) ≡ length (l .tuples)
 -- the larger of the denominators' degree and the numerator's
 abbrev pub top-degree : (ℕ → ℕ) → Lookup → ℕ
 top-degree deg l = max (denominator-degree deg l) (numerator-degree deg l)
-
-zip-append : {A B C : Type 0} (f : A → B → C) (xs xs′ : List A) (ys ys′ : List B) → length xs ≡ length ys → zipWith f (xs ++ xs′) (ys ++ ys′) ≡ zipWith f xs ys ++ zipWith f xs′ ys′
-unfolding zipWith
-zip-append f [] xs′ [] ys′ e = refl
-zip-append f [] xs′ (y ∷ ys) ys′ e = absurd (omega arith)
-zip-append f (x ∷ xs) xs′ [] ys′ e = absurd (omega arith)
-zip-append {C = C} f (x ∷ xs) xs′ (y ∷ ys) ys′ e = ap (λ (l : List C). f x y ∷ l) (zip-append f xs xs′ ys ys′ (omega arith))
 
 largest-append : (xs ys : List ℕ) → largest-of (λ (n : ℕ). n) (xs ++ ys) ≡ max (largest-of (λ (n : ℕ). n) xs) (largest-of (λ (n : ℕ). n) ys)
 unfolding largest-of

@@ -10,6 +10,7 @@ use Rattle.field.specs.Element.{add4, mul4, scale4, power4}
 use Rattle.expression.specs.Limits.{cabinet}
 use Rattle.expression.specs.Words.{all-below}
 use Rattle.expression.specs.Refusal.{answer-number, answer-details}
+use Rattle.lists.specs.Same.{same-list}
 use Rattle.lists.specs.Cases.{Case, hold}
 use Rattle.expression.specs.declared.refusal.Refusal.{Refusal}
 use Rattle.prefixes.specs.Prefixes.{prefix-by, prefixes-fit, prefixes-refusal, prefixes-after}
@@ -42,5 +43,5 @@ cases =
 
 -- each case computes to what document 01 says
 pub cases-hold : T (hold cases)
-unfolding cases cabinet every joined all-below add4 mul4 scale4 power4 prefix-by prefixes-fit prefixes-refusal
+unfolding cases cabinet every joined all-below add4 mul4 scale4 power4 prefix-by prefixes-fit prefixes-refusal same-list
 cases-hold = tt

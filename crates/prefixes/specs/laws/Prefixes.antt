@@ -1,5 +1,5 @@
 -- What the prefixes' code relies on: a factor may be reduced before it is used, one element is its list, and what the tests leave.
-use mathlib.Core.Path.{_≡_, refl, sym, _∙_}
+use mathlib.Core.Path.{_≡_, sym, _∙_}
 use mathlib.Core.Bool.{Bool, true, false, not, _&&_}
 use mathlib.Core.List.{List, [], _∷_}
 use Prim.Native.Nat.{ℕ, _*_, _/_, _%_, _<_, _≤_}
@@ -21,15 +21,6 @@ use Rattle.prefixes.specs.Prefixes.{Writable, prefixes-fit}
 pub scale-reduced : (p z : ℕ) (a : List ℕ) → scale4 p (z % p) a ≡ scale4 p z a
 unfolding scale4
 scale-reduced p z a = rw (mod-mul-mod z (at a 0) p, mod-mul-mod z (at a 1) p, mod-mul-mod z (at a 2) p, mod-mul-mod z (at a 3) p)
-
-pub element-whole : (l : List ℕ) → length l ≡ 4 → element l 0 ≡ l
-unfolding element
-element-whole [] e = absurd (omega arith)
-element-whole (w ∷ []) e = absurd (omega arith)
-element-whole (w ∷ x ∷ []) e = absurd (omega arith)
-element-whole (w ∷ x ∷ y ∷ []) e = absurd (omega arith)
-element-whole (w ∷ x ∷ y ∷ z ∷ []) e = refl
-element-whole (w ∷ x ∷ y ∷ z ∷ v ∷ l) e = absurd (omega arith)
 
 pub loaded : {p : ℕ} {l e : List ℕ} → Below p l → e ≡ element l 0 → Word4 p e
 loaded {p} {l} {e} b q = rw q (word-element l 0 (b .each))

@@ -1,5 +1,5 @@
 -- What stands in a list that is made of lists of one length, and so in a table of powers.
-use mathlib.Core.Path.{_≡_, refl, sym, ap, ap₂, _∙_}
+use mathlib.Core.Path.{_≡_, refl, sym, ap, _∙_}
 use mathlib.Core.List.{List, [], _∷_, _++_}
 use Prim.Native.Nat.{ℕ, zero, suc, _+_, _*_, _<_, _≤_}
 use native.Mathlib.Nat.{zero-add, mul-le-mul-left, mul-suc}
@@ -7,7 +7,7 @@ use native.Mathlib.Omega.{arith}
 use lib.ListN.{length, length-append, List·getD-append}
 use lib.Seq.{getD-append-add}
 use Rattle.lists.specs.Count.{joined}
-use Rattle.lists.specs.Tab.{tab}
+use Rattle.lists.specs.laws.Tab.{tab-cong}
 use Rattle.lists.specs.laws.Joined.{joined-length, joined-at}
 use Rattle.field.specs.Element.{at, mul4, power4, element}
 use Rattle.column.specs.laws.Powers.{power-four}
@@ -54,13 +54,6 @@ module _ (p w : ℕ) (beta : ℕ → List ℕ) (n : ℕ) where
       first : at powers-table (4 * (8 * i + e)) ≡ at (power4 p w (beta i) e) 0
       first = ap (at powers-table) zeroth ∙ table-at i e 0 h k (omega arith)
 
-module _ {A : Type 0} where
-  -- tables that agree entry by entry
-  tab-same : (f g : ℕ → A) (n : ℕ) → ((j : ℕ) → j < n → f j ≡ g j) → tab f 0 n ≡ tab g 0 n
-  unfolding tab
-  tab-same f g zero h = refl
-  tab-same f g (suc n) h = ap₂ (λ (l : List A) (x : A). l ++ (x ∷ [])) (tab-same f g n (λ j k. h j (omega arith))) (h (0 + n) (omega arith))
-
 -- what the rows require of the table
 pub powered : {table : List ℕ} (p w : ℕ) (cs : List ℕ) (n : ℕ) (rest : List ℕ) → table ≡ powers-table p w (λ i. element cs (2 * i + 1)) n ++ rest → Powered p w cs table n
 powered {table} p w cs n rest e =
@@ -68,7 +61,7 @@ powered {table} p w cs n rest e =
       size = rw e (simp length-append (omega (arith, long)));
       powers =
           λ i h.
-          tab-same (λ e. element table (8 * i + e)) (power4 p w (element cs (2 * i + 1))) 8
+          tab-cong (λ e. element table (8 * i + e)) (power4 p w (element cs (2 * i + 1))) 8
           (λ k t.
           ap (λ (l : List ℕ). element l (8 * i + k)) e ∙ element-append (powers-table p w (λ i. element cs (2 * i + 1)) n) rest (8 * i + k) (omega (arith, long))
           ∙ table-element p w (λ i. element cs (2 * i + 1)) n i k h t);

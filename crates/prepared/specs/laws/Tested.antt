@@ -1,7 +1,7 @@
 -- What the tests leave of a table that passed them.
-use mathlib.Core.Path.{_≡_, refl, subst}
-use mathlib.Core.Bool.{Bool, true, false, _&&_, _||_, not}
-use mathlib.Core.Option.{Option, none, Option·some-ne-none}
+use mathlib.Core.Path.{_≡_, subst}
+use mathlib.Core.Bool.{Bool, true, _&&_, _||_, not}
+use mathlib.Core.Option.{none}
 use mathlib.Core.List.{[], _∷_}
 use Prim.Native.Nat.{ℕ, _≤_}
 use native.Mathlib.Omega.{arith}
@@ -9,45 +9,21 @@ use lib.Dec.{ltb}
 use Rattle.lists.specs.laws.Tests.{both-left, both-right, passed}
 use Rattle.field.specs.Modulus.{Modulus, babybear, babybear-w}
 use Rattle.field.specs.laws.Extension.{babybear-certificate}
-use Rattle.expression.specs.Refusal.{unless}
 use Rattle.expression.specs.Limits.{Sane}
 use Rattle.expression.specs.Node.{node-count}
-use Rattle.expression.specs.Tests.{traces-within, nodes-within, traces-fit, nodes-fit, traces-below, constants-below, degrees-low}
+use Rattle.expression.specs.Tests.{nodes-within, traces-fit, traces-below, constants-below, degrees-low}
 use Rattle.expression.specs.Valid.{Evaluable}
-use Rattle.expression.specs.laws.Tested.{small-tested, few-tested, traces-tested}
+use Rattle.expression.specs.laws.Tested.{small-tested, traces-tested}
+use Rattle.expression.specs.laws.Refusal.{unless-none}
 use Rattle.expression.specs.declared.sizes.Limits.{Limits}
-use Rattle.expression.specs.declared.refusal.Refusal.{Refusal}
 use Rattle.expression.specs.declared.refusal.Refusal.the-variants.{SizeAtOdds, WordTooLarge, NodeInvalid, DegreeTooHigh, LookupInvalid}
 use Rattle.lookup.specs.Lookups.{lookup-count}
 use Rattle.lookup.specs.Table.{Table}
 use Rattle.lookup.specs.Tests.{lookups-within, lookups-fit, sizes, words-below, known, lists-agree, in-position, has-lookups, preprocessed-enough, rows-enough}
-use Rattle.lookup.specs.laws.Tested.{limited, fitting, agreeing, lookups-few}
+use Rattle.lookup.specs.laws.Tested.{limited, fitting, agreeing, sizes-passed, lookups-few}
 use Rattle.prepared.specs.Entry.{position-refusal, table-tests}
 use Rattle.prepared.specs.Ready.{Lists, Field}
 use Rattle.prepared.specs.Tested.{Tested}
-
-pub unless-none : (b : Bool) (f : Refusal) (o : Option Refusal) → unless b f o ≡ none → (b ≡ true) × (o ≡ none)
-unless-none true f o e = (refl, e)
-unless-none false f o e = absurd (Option·some-ne-none f e)
-
-sizes-passed : (m : Limits) (t : Table) → sizes m t ≡ true
-    → (traces-within m (t .traces .shape) (t .traces .public-values) ≡ true) × (nodes-within m (t .nodes) ≡ true) × (lookups-within m (t .lookups .lookups) (t .lookups .tuples) ≡ true)
-    × (traces-fit (t .traces .shape) (t .traces .main) (t .traces .preprocessed) ≡ true) × (lookups-fit (t .lookups) ≡ true)
-unfolding sizes
-sizes-passed m t e =
-    let k =
-    passed (traces-within m (t .traces .shape) (t .traces .public-values))
-    (nodes-within m (t .nodes)
-    ∷ lookups-within m (t .lookups .lookups) (t .lookups .tuples)
-    ∷ traces-fit (t .traces .shape) (t .traces .main) (t .traces .preprocessed)
-    ∷ nodes-fit (t .nodes)
-    ∷ lookups-fit (t .lookups)
-    ∷ [])
-    e in
-    (k .0, k .1 .0, k .1 .1 .0, k .1 .1 .1 .0, k .1 .1 .1 .1 .1 .0)
-
-pub few-nodes : (m : Limits) (t : Table) → Sane m → sizes m t ≡ true → node-count (t .nodes) ≤ 1024
-few-nodes m t g e = few-tested m (t .nodes) g (sizes-passed m t e .1)
 
 pub tested : (m : Limits) (p : ℕ) (t : Table) (fit low : Bool) → table-tests m p t fit low none ≡ none → Tested m p t fit low
 unfolding table-tests position-refusal words-below

@@ -10,6 +10,7 @@ use Rattle.field.specs.Element.{add4, is-zero}
 use Rattle.expression.specs.Limits.{cabinet}
 use Rattle.expression.specs.Words.{all-below, all-within}
 use Rattle.expression.specs.Refusal.{answer-number, answer-details}
+use Rattle.lists.specs.Same.{same-list}
 use Rattle.lists.specs.Cases.{Case, hold}
 use Rattle.expression.specs.declared.refusal.Refusal.{Refusal}
 use Rattle.lookup.specs.Lookups.{tuple-start}
@@ -47,5 +48,5 @@ cases =
 
 -- each case computes to what document 01 says
 pub cases-hold : T (hold cases)
-unfolding cases cabinet total every all-below all-within add4 is-zero present terminal terminal-below with-terminal terminal-sum terminals-refusal tuple-start table-start table-lookups weight-sum table-weight height-sum lookups-small tables-within tables-fit height-refusal
+unfolding cases cabinet total every all-below all-within add4 is-zero present terminal terminal-below with-terminal terminal-sum terminals-refusal tuple-start table-start table-lookups weight-sum table-weight height-sum lookups-small tables-within tables-fit height-refusal same-list
 cases-hold = tt

@@ -4,11 +4,13 @@ use mathlib.Core.Bool.{Bool, true, false, cond, not, _&&_, _||_, true≢false}
 use mathlib.Core.List.{List, [], _∷_, _++_, map, flatMap}
 use mathlib.Core.Logic.{_⊎_, inl, inr}
 use Prim.Native.Nat.{ℕ}
+use Rattle.lists.specs.Same.{same-list}
+use Rattle.lists.specs.laws.Same.{same-list-eq}
 use Rattle.lists.specs.Fold.{fold}
 use Rattle.logup.specs.Ledger.{Entry}
 use Rattle.slots.specs.laws.Nets.{net-of}
-use Rattle.widths.specs.Order.{keep, same}
-use Rattle.widths.specs.laws.Order.{keep-append, keep-cong, same-eq}
+use Rattle.widths.specs.Order.{keep}
+use Rattle.widths.specs.laws.Order.{keep-append, keep-cong}
 use Rattle.balance.specs.Groups.{Member, local, same-bus, appears, local-group, bus-group, bus-groups, groups}
 use Rattle.balance.specs.Entries.{member-entries, entries}
 use Rattle.balance.specs.laws.Lists.{flat-one}
@@ -61,7 +63,7 @@ module _ (p : ℕ) where
 keep-on : (m : Member) (all : List Member) → local m ≡ false → keep (same-bus m) all ≡ keep (on (m .lookup .name)) all
 unfolding same-bus
 keep-on m all e =
-    keep-cong (same-bus m) (on (m .lookup .name)) (λ n. ap (λ (b : Bool). not b && (not (local n) && same (m .lookup .name) (n .lookup .name))) e) all
+    keep-cong (same-bus m) (on (m .lookup .name)) (λ n. ap (λ (b : Bool). not b && (not (local n) && same-list (m .lookup .name) (n .lookup .name))) e) all
 
 -- where none of them is on that bus, the lookup does not appear among them
 appears-not : (m : Member) (xs : List Member) → local m ≡ false → keep (on (m .lookup .name)) xs ≡ [] → appears m xs ≡ false
@@ -70,7 +72,7 @@ appears-not m [] e k = refl
 appears-not m (x ∷ xs) e k = go (on (m .lookup .name) x) refl (appears-not m xs e) k
   where
     first : same-bus m x ≡ on (m .lookup .name) x
-    first = unfold same-bus in ap (λ (b : Bool). not b && (not (local x) && same (m .lookup .name) (x .lookup .name))) e
+    first = unfold same-bus in ap (λ (b : Bool). not b && (not (local x) && same-list (m .lookup .name) (x .lookup .name))) e
 
     go : (b : Bool) → on (m .lookup .name) x ≡ b → (keep (on (m .lookup .name)) xs ≡ [] → appears m xs ≡ false) → cond b (x ∷ keep (on (m .lookup .name)) xs) (keep (on (m .lookup .name)) xs) ≡ [] → (same-bus m x || appears m xs) ≡ false
     go true q ih n = cc
@@ -88,9 +90,9 @@ module _ (P : List Member → Type 0) (all : List Member) where
       here : (m : Member) → on bus m ≡ true → (local m ≡ false) × (bus ≡ m .lookup .name)
       here m e = split (local m) refl e
         where
-          split : (b : Bool) → local m ≡ b → (not b && same bus (m .lookup .name)) ≡ true → (local m ≡ false) × (bus ≡ m .lookup .name)
+          split : (b : Bool) → local m ≡ b → (not b && same-list bus (m .lookup .name)) ≡ true → (local m ≡ false) × (bus ≡ m .lookup .name)
           split true q n = absurd (true≢false (sym n))
-          split false q n = (q, same-eq bus (m .lookup .name) n)
+          split false q n = (q, same-list-eq bus (m .lookup .name) n)
 
       own : (local m ≡ false) × (bus ≡ m .lookup .name) → AllGroups P (bus-group all before m) → P (keep (on bus) all)
       own (e, n) g =

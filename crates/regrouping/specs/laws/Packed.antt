@@ -1,35 +1,34 @@
 -- A packed table says the same to balance as the table that it was packed from.
-use mathlib.Core.Path.{_≡_, refl, sym, ap, ap₂, _∙_}
+use mathlib.Core.Path.{_≡_, refl, sym, ap, ap₂, _∙_, subst}
 use mathlib.Core.Option.{none}
 use mathlib.Core.Logic.{_↔_}
 use mathlib.Core.Bool.{Bool, true, false, cond, not, _&&_, _||_}
-use mathlib.Core.List.{List, [], _∷_, _++_, append-nil, map, flatMap, List·Memᴰ, List·Memᴰ·head, List·Memᴰ·tail}
-use Prim.Native.Nat.{ℕ, zero, suc, _+_, _<_, _≤_}
+use mathlib.Core.List.{List, [], _∷_, _++_, append-nil, map, flatMap}
+use Prim.Native.Nat.{ℕ, suc, _+_, _<_}
 use native.Mathlib.Nat.{suc-inj}
 use native.Mathlib.Omega.{arith}
-use lib.ListN.{length, getD, drop, length-append, length-take, length-drop}
+use lib.ListN.{length, getD}
+use Rattle.lists.specs.Same.{same-list}
 use Rattle.lists.specs.Count.{joined, total}
 use Rattle.lists.specs.Tab.{tab}
-use Rattle.lists.specs.laws.Tab.{tab-none, tab-length}
+use Rattle.lists.specs.laws.Tab.{tab-none, tab-cons}
 use Rattle.lists.specs.laws.Sums.{total-cong, total-zero, total-add}
 use Rattle.field.specs.Word.{mulM}
 use Rattle.expression.specs.Words.{word}
-use Rattle.expression.specs.Node.{node-count}
 use Rattle.expression.specs.Window.{Traces}
 use Rattle.expression.specs.Values.{row-values}
-use Rattle.lookup.specs.Lookups.{Lookups, Lookup, lookup-count, tuple-count, multiplicity-count, multiplicity-start, tuple-nodes, lookup-at, lookups-of}
+use Rattle.lookup.specs.Lookups.{Lookups, Lookup, lookups-of}
 use Rattle.lookup.specs.Table.{Table}
-use Rattle.lookup.specs.Valid.{Fitting, Agreeing}
-use Rattle.lookup.specs.laws.Tested.{placed}
 use Rattle.logup.specs.Ledger.{Entry}
-use Rattle.widths.specs.Order.{keep, same}
+use Rattle.widths.specs.Order.{keep}
 use Rattle.widths.specs.laws.Order.{keep-append, keep-same}
-use Rattle.packing.specs.Packing.{passes, additive-on, in-order, merged, joins, fill, filled, numbered, renumbered, packed}
-use Rattle.packing.specs.laws.Columns.{order-in}
+use Rattle.packing.specs.Packing.{passes, additive-on, numbered, renumbered, packed}
 use Rattle.packing.specs.laws.Keeps.{packing-keeps}
 use Rattle.packing.specs.Door.{columns}
 use Rattle.degree.specs.Degree.{node-degrees}
-use Rattle.kept.specs.laws.Entries.{columns-back}
+use Rattle.kept.specs.Entries.{Sound}
+use Rattle.kept.specs.laws.Back.{Each}
+use Rattle.kept.specs.laws.Entries.{lookups-sound, columns-sound, columns-back}
 use Rattle.balance.specs.Groups.{Member, local}
 use Rattle.balance.specs.Entries.{count-of, entry-of, row-entries, member-entries, entries}
 use Rattle.balance.specs.Balance.{balance}
@@ -37,56 +36,20 @@ use Rattle.balance.specs.laws.Sums.{tally, tally-append, tally-joined}
 use Rattle.regrouping.specs.Same.{on, own, Same, AllSame, Roomy, Packing, AllPacked}
 use Rattle.regrouping.specs.laws.Same.{same-accepted}
 
--- lists of lookups by a property
-abbrev Each : (Lookup → Type 0) → List Lookup → Type 0
-Each P [] = Unit {0}
-Each P (x ∷ xs) = P x × Each P xs
-
-each-in : (P : Lookup → Type 0) (xs : List Lookup) → ((x : Lookup) → List·Memᴰ x xs → P x) → Each P xs
-each-in P [] h = tt
-each-in P (x ∷ xs) h = (h x (List·Memᴰ·head refl), each-in P xs (λ y k. h y (List·Memᴰ·tail k)))
-
--- as many multiplicities as tuples
-abbrev Aligned : Lookup → Type 0
-Aligned x = length (x .tuples) ≡ length (x .multiplicities)
-
-merged-aligned : (a b : Lookup) → Aligned a → Aligned b → Aligned (merged a b)
-merged-aligned a b e f = length-append (a .tuples) (b .tuples) ∙ ap₂ _+_ e f ∙ sym (length-append (a .multiplicities) (b .multiplicities))
-
-fill-aligned : (deg : ℕ → ℕ) (limit : ℕ) (c : Lookup) (ls : List Lookup) → Aligned c → Each Aligned ls → Each Aligned (fill deg limit c ls)
-unfolding fill
-fill-aligned deg limit c [] e a = (e, tt)
-fill-aligned deg limit c (l ∷ ls) e a =
-    go (joins deg limit c l) (fill-aligned deg limit (merged c l) ls (merged-aligned c l e (a .0)) (a .1)) (fill-aligned deg limit l ls (a .0) (a .1))
-  where
-    go : (b : Bool) → Each Aligned (fill deg limit (merged c l) ls) → Each Aligned (fill deg limit l ls) → Each Aligned (cond b (fill deg limit (merged c l) ls) (c ∷ fill deg limit l ls))
-    go true x y = x
-    go false x y = (e, y)
-
-filled-aligned : (deg : ℕ → ℕ) (limit : ℕ) (ls : List Lookup) → Each Aligned ls → Each Aligned (filled deg limit ls)
-unfolding filled
-filled-aligned deg limit [] a = tt
-filled-aligned deg limit (l ∷ ls) a = fill-aligned deg limit l ls (a .0) (a .1)
-
-numbered-aligned : (k : ℕ) (ls : List Lookup) → Each Aligned ls → Each Aligned (renumbered k ls)
-unfolding renumbered
-numbered-aligned k [] a = tt
-numbered-aligned k (l ∷ ls) a = (a .0, numbered-aligned (suc k) ls (a .1))
-
 -- the additive lookups of a bus
 record Additive (x : Lookup) : Type 0 where
   plain : x .exclusive ≡ false
-  aligned : Aligned x
+  aligned : length (x .tuples) ≡ length (x .multiplicities)
 
-kept-additive : (bus : List ℕ) (xs : List Lookup) → Each Aligned xs → Each Additive (keep (additive-on bus) xs)
+kept-additive : (bus : List ℕ) (xs : List Lookup) → Each Sound xs → Each Additive (keep (additive-on bus) xs)
 unfolding keep
 kept-additive bus [] a = tt
-kept-additive bus (x ∷ xs) a = go (x .local) (x .exclusive) refl (same bus (x .name)) (kept-additive bus xs (a .1))
+kept-additive bus (x ∷ xs) a = go (x .local) (x .exclusive) refl (same-list bus (x .name)) (kept-additive bus xs (a .1))
   where
     go : (l e : Bool) → x .exclusive ≡ e → (s : Bool) → Each Additive (keep (additive-on bus) xs) → Each Additive (cond (not (l || e) && s) (x ∷ keep (additive-on bus) xs) (keep (additive-on bus) xs))
     go true e q s ih = ih
     go false true q s ih = ih
-    go false false q true ih = (record { plain = q; aligned = a .0 }, ih)
+    go false false q true ih = (record { plain = q; aligned = sym (a .0 .aligned) }, ih)
     go false false q false ih = ih
 
 -- the entries on a row of tuples and multiplicities, one by one
@@ -96,12 +59,6 @@ module _ (p : ℕ) (vals : List ℕ) where
 
   unfoldable pairs : List (List ℕ) → List ℕ → List Entry
   pairs ts ms = tab (λ k. pair (getD ts k []) (word ms k)) 0 (length ts)
-
-  tab-cons : (f : ℕ → Entry) (n : ℕ) → tab f 0 (suc n) ≡ f 0 ∷ tab (λ k. f (suc k)) 0 n
-  unfolding tab
-  tab-cons f zero = refl
-  tab-cons f (suc n) =
-      ap₂ (λ (x : List Entry) (k : ℕ). x ++ (f k ∷ [])) (tab-cons f n) (let e : 0 + suc n ≡ suc (0 + n) = omega arith in e)
 
   pairs-cons : (t : List ℕ) (ts : List (List ℕ)) (m : ℕ) (ms : List ℕ) → pairs (t ∷ ts) (m ∷ ms) ≡ pair t m ∷ pairs ts ms
   unfolding pairs
@@ -183,7 +140,7 @@ flat-map p t [] = refl
 flat-map p t (x ∷ xs) = ap (λ (l : List Entry). enters p t x ++ l) (flat-map p t xs)
 
 abbrev on-bus : List ℕ → Lookup → Bool
-on-bus bus x = not (x .local) && same bus (x .name)
+on-bus bus x = not (x .local) && same-list bus (x .name)
 
 own-locals : (p : ℕ) (t : Table) → map (member-entries p) (keep local (own t)) ≡ map (enters p t) (keep (λ (x : Lookup). x .local) (lookups-of (t .lookups)))
 own-locals p t = ap (map (member-entries p)) (keep-map local (at p t) (lookups-of (t .lookups))) ∙ map-map p t (keep (λ (x : Lookup). x .local) (lookups-of (t .lookups)))
@@ -250,7 +207,7 @@ module _ (p : ℕ) (t : Table) (l : List ℕ) where
       → sums l (map (enters p t) (keep (on-bus bus) xs)) ≡ sums l (map (enters p t) (keep (chosen-on bus) xs)) + sums l (map (enters p t) (keep (additive-on bus) xs))
   unfolding keep sums
   apart bus [] = refl
-  apart bus (x ∷ xs) = go (x .local) (x .exclusive) (same bus (x .name)) (apart bus xs)
+  apart bus (x ∷ xs) = go (x .local) (x .exclusive) (same-list bus (x .name)) (apart bus xs)
     where
       A : List Lookup
       A = keep (on-bus bus) xs
@@ -275,41 +232,18 @@ module _ (p : ℕ) (t : Table) (l : List ℕ) where
       go false true false ih = ih
       go false false false ih = ih
 
--- every lookup of a table that has none of refusals 1 and 5 has as many multiplicities as tuples
-lookup-aligned : (n : ℕ) (k : Lookups) → Fitting k → Agreeing n k → (i : ℕ) → i < lookup-count (k .lookups) → Aligned (lookup-at k i)
-unfolding lookup-at
-lookup-aligned n k f a i h =
-    tab-length (tuple-nodes k i) 0 (tuple-count (k .lookups) i)
-    ∙ sym (a .multiplicities-agree i h)
-    ∙ sym (length-take (multiplicity-count (k .lookups) i) (drop (multiplicity-start (k .lookups) i) (k .multiplicities))
-    ∙ (let q : Prim.Native.Nat.min (multiplicity-count (k .lookups) i) (length (drop (multiplicity-start (k .lookups) i) (k .multiplicities))) ≡ multiplicity-count (k .lookups) i =
-    rw (length-drop (multiplicity-start (k .lookups) i) (k .multiplicities)) (omega (arith, placed k f i h .multiplicities)) in q))
-
-order-aligned : (n : ℕ) (k : Lookups) → Fitting k → Agreeing n k → Each Aligned (in-order k)
-order-aligned n k f a = each-in Aligned (in-order k) (λ x m. let r = order-in k m in rw (r .2) (lookup-aligned n k f a (r .0) (r .1)))
-
-each-one : (xs : List Lookup) (y : Lookup) → Each Aligned xs → Aligned y → Each Aligned (xs ++ (y ∷ []))
-each-one [] y e s = (s, tt)
-each-one (x ∷ xs) y e s = (e .0, each-one xs y (e .1) s)
-
-first-aligned : (n : ℕ) (k : Lookups) → Fitting k → Agreeing n k → (i : ℕ) → i ≤ lookup-count (k .lookups) → Each Aligned (tab (lookup-at k) 0 i)
-unfolding tab
-first-aligned n k f a zero h = tt
-first-aligned n k f a (suc i) h = each-one (tab (lookup-at k) 0 i) (lookup-at k (0 + i)) (first-aligned n k f a i (omega arith)) (lookup-aligned n k f a (0 + i) (omega arith))
-
-lookups-aligned : (n : ℕ) (k : Lookups) → Fitting k → Agreeing n k → Each Aligned (lookups-of k)
-unfolding lookups-of
-lookups-aligned n k f a = first-aligned n k f a (lookup-count (k .lookups)) (omega arith)
-
-packed-aligned : (n : ℕ) (k : Lookups) → Fitting k → Agreeing n k → (deg : ℕ → ℕ) (limit : ℕ) → Each Aligned (packed deg limit k)
-unfolding packed
-packed-aligned n k f a deg limit = numbered-aligned 0 (filled deg limit (in-order k)) (filled-aligned deg limit (in-order k) (order-aligned n k f a))
-
 -- traces and nodes as they were, and the packed lookups
 record Packs (deg : ℕ → ℕ) (limit : ℕ) (t u : Table) : Type 0 where
   traces : u .traces ≡ t .traces
   nodes : u .nodes ≡ t .nodes
   lookups : lookups-of (u .lookups) ≡ packed deg limit (t .lookups)
+
+opened : (limit : ℕ) (nodes : List ℕ) (l : Lookups) → columns limit nodes l ≡ packed (node-degrees 0 nodes) limit l
+unfolding columns
+opened limit nodes l = refl
+
+sound-packed : {t u : Table} (k : Packing t u) → Each Sound (packed (node-degrees 0 (t .nodes)) (k .limit) (t .lookups))
+sound-packed {t} k = subst (Each Sound) (opened (k .limit) (t .nodes) (t .lookups)) (columns-sound (k .limits) (t .nodes) (t .lookups) (k .formed) (k .limit))
 
 packs : {t u : Table} (k : Packing t u) → Packs (node-degrees 0 (t .nodes)) (k .limit) t u
 packs {t} {u} k =
@@ -318,13 +252,10 @@ packs {t} {u} k =
       nodes = ap (λ (x : Table). x .nodes) (k .packed);
       lookups = ap (λ (x : Table). lookups-of (x .lookups)) (k .packed) ∙ columns-back (k .limits) (t .nodes) (t .lookups) (k .formed) (k .limit) ∙ opened (k .limit) (t .nodes) (t .lookups);
     }
-  where
-    opened : (limit : ℕ) (nodes : List ℕ) (l : Lookups) → columns limit nodes l ≡ packed (node-degrees 0 nodes) limit l
-    opened limit nodes l = unfold columns in refl
 
 -- The packed table says the same.
-packed-same : (p n : ℕ) (deg : ℕ → ℕ) (limit : ℕ) (t u : Table) → Fitting (t .lookups) → Agreeing n (t .lookups) → Packs deg limit t u → Same p t u
-packed-same p n deg limit t u f a k =
+packed-same : (p : ℕ) (deg : ℕ → ℕ) (limit : ℕ) (t u : Table) → Each Sound (lookups-of (t .lookups)) → Each Sound (packed deg limit (t .lookups)) → Packs deg limit t u → Same p t u
+packed-same p deg limit t u own-sound packed-sound k =
     record {
       locals =
           own-locals p t ∙ sym (passed-on p t deg limit (λ (x : Lookup). x .local) (λ k x. refl) is-local)
@@ -342,7 +273,7 @@ packed-same p n deg limit t u f a k =
     is-local x e = ap (λ (b : Bool). b || x .exclusive) e
 
     is-chosen : (bus : List ℕ) (x : Lookup) → chosen-on bus x ≡ true → passes x ≡ true
-    is-chosen bus x e = go (x .local) (x .exclusive) (same bus (x .name)) e
+    is-chosen bus x e = go (x .local) (x .exclusive) (same-list bus (x .name)) e
       where
         go : (b c s : Bool) → ((not b && s) && c) ≡ true → (b || c) ≡ true
         go true c s q = refl
@@ -359,7 +290,7 @@ packed-same p n deg limit t u f a k =
         ap (λ (es : List Entry). tally es l) (own-bus p bus t) ∙ flat-sums p t l (keep (on-bus bus) ls) ∙ apart p t l bus ls
         ∙ ap₂ _+_ (ap (sums l) (sym (passed-on p t deg limit (chosen-on bus) (λ k x. refl) (is-chosen bus))))
         (sym (flat-sums p t l (keep (additive-on bus) ls))
-        ∙ additive-same p t (keep (additive-on bus) ls) (keep (additive-on bus) ps) (kept-additive bus ls (lookups-aligned n (t .lookups) f a)) (kept-additive bus ps (packed-aligned n (t .lookups) f a deg limit))
+        ∙ additive-same p t (keep (additive-on bus) ls) (keep (additive-on bus) ps) (kept-additive bus ls own-sound) (kept-additive bus ps packed-sound)
         (sym (packing-keeps deg limit (t .lookups) .tuples bus)) (sym (packing-keeps deg limit (t .lookups) .multiplicities bus)) l
         ∙ flat-sums p t l (keep (additive-on bus) ps))
 
@@ -375,7 +306,7 @@ all-same p [] [] k = tt
 all-same p [] (u ∷ us) k = absurd k
 all-same p (t ∷ ts) [] k = absurd k
 all-same p (t ∷ ts) (u ∷ us) k =
-    (packed-same p (node-count (t .nodes)) (node-degrees 0 (t .nodes)) (k .0 .limit) t u (k .0 .formed .fitting) (k .0 .formed .agreeing) (packs (k .0)), all-same p ts us (k .1))
+    (packed-same p (node-degrees 0 (t .nodes)) (k .0 .limit) t u (lookups-sound (k .0 .limits) (t .nodes) (t .lookups) (k .0 .formed)) (sound-packed (k .0)) (packs (k .0)), all-same p ts us (k .1))
 
 -- With room for both, balance accepts the packed tables exactly where it accepts the tables.
 pub packing-accepted : (p room room′ : ℕ) → 0 < p → (ts us : List Table) → AllPacked ts us → Roomy p room ts → Roomy p room′ us

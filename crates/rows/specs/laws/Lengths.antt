@@ -3,15 +3,16 @@ use mathlib.Core.Path.{_≡_, refl}
 use mathlib.Core.Bool.{Bool, true, false, cond}
 use mathlib.Core.Option.{Option, none, some}
 use mathlib.Core.List.{List}
-use Prim.Native.Nat.{ℕ, zero, suc, _*_}
-use lib.ListN.{length}
+use Prim.Native.Nat.{ℕ, zero, suc, _+_, _*_}
+use native.Mathlib.Omega.{arith}
+use lib.ListN.{length, length-append}
 use Rattle.lists.specs.Count.{joined}
 use Rattle.lists.specs.laws.Tab.{tab-length}
 use Rattle.field.specs.Element.{one4, add4, sub4, scale4, sum4}
-use Rattle.lookup.specs.Lookups.{Lookups, exclusive, tuple-count}
+use Rattle.lookup.specs.Lookups.{Lookups, lookup-count, exclusive, tuple-count}
 use Rattle.logup.specs.Tuple.{tuple, denominator, quotient4}
 use Rattle.logup.specs.Column.{Place, branches, multiplicity, flag, denom, used-denom, chosen, branch-fraction, exclusive-fraction, additive-fraction, fraction}
-use Rattle.logup.specs.Rows.{place, fraction-at}
+use Rattle.logup.specs.Rows.{place, fraction-at, row-sum, accumulator, row-words}
 use Rattle.lists.specs.laws.Joined.{joined-length}
 use Rattle.column.specs.Shares.{idle, mark, denominator-by, branch-taken, share-multiplicity, share-denominator}
 use Rattle.rows.specs.Shares.{lookup-multiplicities, lookup-denominators}
@@ -39,6 +40,12 @@ fraction-four p w c =
 pub fractions-length : (p w : ℕ) (l : Lookups) (cs : List ℕ) (values : ℕ → List ℕ) (r n : ℕ) → length (joined (fraction-at p w l cs values r) 0 n) ≡ 4 * n
 unfolding fraction-at
 fractions-length p w l cs values r n = joined-length (fraction-at p w l cs values r) 4 n (λ i. fraction-four p w (place p w l cs values r i))
+
+-- a row is its accumulator and its fractions
+pub row-length : (p w : ℕ) (l : Lookups) (cs : List ℕ) (values : ℕ → List ℕ) (r : ℕ) → length (row-words p w l cs values r) ≡ 4 * lookup-count (l .lookups) + 4
+unfolding row-words accumulator
+row-length p w l cs values r =
+    simp length-append (omega (arith, sum-four p (row-sum p w l cs values) r, fractions-length p w l cs values r (lookup-count (l .lookups))))
 
 -- a lookup has a multiplicity and a denominator for each tuple
 pub share-four : (p w : ℕ) (c : Place) (k : ℕ) → length (share-denominator p w c k) ≡ 4

@@ -8,14 +8,15 @@ use lib.Dec.{eqb, leb, ltb}
 use lib.ListN.{length, take, drop, getD, set, replicate, length-append, length-replicate}
 use lib.Seq.{set-at, getD-at, append-snoc, getD-append-add, drop-append-add, take-at, ext-getD}
 use borrow.Author.Tests.{eqb-true, eqb-false, ltb-true, ltb-false, leb-true, leb-false, lt-ltb, le-ltb}
+use Rattle.lists.specs.Same.{same-list}
+use Rattle.lists.specs.laws.Same.{same-lengths}
 use Rattle.lists.specs.Fold.{fold}
 use Rattle.lists.specs.Tab.{tab}
 use Rattle.lists.specs.laws.Tab.{tab-length, tab-get}
 use Rattle.field.specs.Word.{addM}
 use Rattle.expression.specs.Words.{word}
-use Rattle.expression.specs.laws.Below.{word-zeros}
-use Rattle.expression.specs.laws.Below.{drop-zeros}
-use Rattle.logup.specs.Ledger.{Entry, same-list}
+use Rattle.expression.specs.laws.Below.{word-zeros, drop-zeros}
+use Rattle.logup.specs.Ledger.{Entry}
 use Rattle.slots.specs.Slots.{Slot, enter, meet, slots}
 use Rattle.slots.specs.Workspace.{slot-words, full, workspace}
 use Rattle.slots.specs.Work.{Work, match-at, find-slot, added-at, new-words, new-at, enter-at, step, work-of}
@@ -40,18 +41,6 @@ slot-is s ws = append-snoc (length (s .tuple) ∷ (s .tuple ++ replicate (8 - le
 pub slot-long : (s : Slot) → length (s .tuple) ≤ 8 → length (slot-words s) ≡ 10
 unfolding front
 slot-long s h = simp (length-append, length-replicate) (omega arith)
-
--- lists of different lengths
-pub same-lengths : (x y : List ℕ) → (length x ≡ length y → ⊥) → false ≡ same-list x y
-unfolding same-list
-same-lengths [] [] n = absurd (n refl)
-same-lengths [] (b ∷ y) n = refl
-same-lengths (a ∷ x) [] n = refl
-same-lengths (a ∷ x) (b ∷ y) n = go (eqb a b) (same-lengths x y (λ e. n (ap suc e)))
-  where
-    go : (c : Bool) → false ≡ same-list x y → false ≡ (c && same-list x y)
-    go true e = e
-    go false e = refl
 
 -- the first slot
 match-first : (s : Slot) (ws t : List ℕ) → length (s .tuple) ≤ 8 → match-at (slot-words s ++ ws) t 0 ≡ same-list (s .tuple) t

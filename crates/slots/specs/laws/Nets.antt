@@ -1,34 +1,20 @@
 -- What the slots of a group hold is the group's ledger, and the slots are its different tuples in order of first meeting.
-use mathlib.Core.Path.{_≡_, refl, sym, ap, ap₂, _∙_}
-use mathlib.Core.Bool.{Bool, true, false, cond, _&&_, _||_, true≢false}
+use mathlib.Core.Path.{_≡_, refl, sym, ap, _∙_}
+use mathlib.Core.Bool.{Bool, true, false, cond, _||_, true≢false}
 use mathlib.Core.List.{List, [], _∷_, _++_, map, List·Memᴰ, List·Memᴰ·head, List·Memᴰ·tail}
 use Prim.Native.Nat.{ℕ, zero, _+_, _%_, _<_}
 use native.Mathlib.Nat.{mod-lt, mod-eq-of-lt, add-zero, zero-add}
 use lib.Dec.{eqb}
-use borrow.Author.Tests.{eqb-true, eq-eqb}
+use borrow.Author.Tests.{eqb-true}
+use Rattle.lists.specs.Same.{same-list}
+use Rattle.lists.specs.laws.Same.{same-list-eq, same-list-refl}
 use Rattle.lists.specs.Fold.{fold}
 use Rattle.field.specs.Word.{addM}
-use Rattle.logup.specs.Ledger.{Entry, same-list, post}
+use Rattle.logup.specs.Ledger.{Entry, post}
 use Rattle.slots.specs.Slots.{Slot, enter, meet, slots}
 
--- equal lists
-pub same-list-eq : (xs ys : List ℕ) → same-list xs ys ≡ true → xs ≡ ys
-unfolding same-list
-same-list-eq [] [] e = refl
-same-list-eq [] (y ∷ ys) e = cc
-same-list-eq (x ∷ xs) [] e = cc
-same-list-eq (x ∷ xs) (y ∷ ys) e = go (eqb x y) (same-list-eq xs ys) refl e
-  where
-    go : (b : Bool) → (same-list xs ys ≡ true → xs ≡ ys) → eqb x y ≡ b → (b && same-list xs ys) ≡ true → _≡_ {A = List ℕ} (x ∷ xs) (y ∷ ys)
-    go true ih q t = ap₂ (λ (a : ℕ) (l : List ℕ). a ∷ l) (eqb-true x y q) (ih t)
-    go false ih q t = cc
-
-pub same-list-refl : (xs : List ℕ) → same-list xs xs ≡ true
-unfolding same-list
-same-list-refl [] = refl
-same-list-refl (x ∷ xs) = rw (eq-eqb x x refl) (same-list-refl xs)
-
-pub same-list-flip : (a b : List ℕ) → same-list a b ≡ false → same-list b a ≡ false
+-- equal lists, the other way round
+same-list-flip : (a b : List ℕ) → same-list a b ≡ false → same-list b a ≡ false
 same-list-flip a b e = go (same-list b a) refl
   where
     go : (c : Bool) → same-list b a ≡ c → c ≡ false

@@ -18,11 +18,11 @@ pub record Roomy (n : ℕ) (w : Work) : Type 0 where
   pub long : length (w .words) ≡ n
   pub room : 10 * w .used ≤ n
 
-new-long : (t : List ℕ) (count : ℕ) → length (new-words t count) ≡ 10
+pub new-long : (t : List ℕ) (count : ℕ) → length (new-words t count) ≡ 10
 unfolding new-words Rattle.lists.specs.Tab.tab
 new-long t count = refl
 
-new-at-long : (ws : List ℕ) (k : ℕ) (t : List ℕ) (count : ℕ) → 10 * k + 10 ≤ length ws → length (new-at ws k t count) ≡ length ws
+pub new-at-long : (ws : List ℕ) (k : ℕ) (t : List ℕ) (count : ℕ) → 10 * k + 10 ≤ length ws → length (new-at ws k t count) ≡ length ws
 unfolding new-at
 new-at-long ws k t count h =
     length-append (take (10 * k) ws) (new-words t count ++ drop (10 * k + 10) ws)

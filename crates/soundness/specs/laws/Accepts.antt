@@ -1,16 +1,17 @@
 -- Generation accepts a table with a ledger and lawful flags at every pair whose alpha is no tuple's combined value.
 use mathlib.Core.Path.{_≡_, refl, sym, ap, ap₂, _∙_, subst}
 use mathlib.Core.Logic.{_≢_}
-use mathlib.Core.Bool.{Bool, true, false, cond, _||_, not}
+use mathlib.Core.Bool.{Bool, true, false, cond, not}
 use mathlib.Core.Option.{Option, none, some}
 use mathlib.Core.List.{List, [], _∷_, _++_, List·Memᴰ, List·Memᴰ·head, Memᴰ·append-left, Memᴰ·append-right}
 use Prim.Native.Nat.{ℕ, zero, suc, _+_, _*_, _/_, _%_, _<_, _≤_}
 use native.Mathlib.Omega.{arith}
 use native.Mathlib.Nat.{le-refl}
-use lib.Dec.{T, eqb, leb, ltb, ltb→lt, le→leb}
+use lib.Dec.{T, eqb, leb, ltb, le→leb}
 use lib.ListN.{length, length-append}
-use Rattle.lists.specs.Count.{total, some-of, joined}
-use Rattle.lists.specs.laws.Count.{last-or-below, joined-next, and-left, and-right, of-true, true-of, false-of, eqb-true, eqb-false, eq-of-eqb}
+use borrow.Author.Tests.{le-ltb}
+use Rattle.lists.specs.Count.{total, joined}
+use Rattle.lists.specs.laws.Count.{last-or-below, some-of-none, joined-next, and-left, and-right, of-true, true-of, false-of, eqb-true, eqb-false, eq-of-eqb}
 use Rattle.field.specs.Element.{one4, is-zero, sub4}
 use Rattle.field.specs.Modulus.{Certificate}
 use Rattle.field.specs.laws.Extension.{h}
@@ -34,15 +35,6 @@ use Rattle.soundness.specs.laws.Terminals.{place-at-pair}
 use Rattle.soundness.specs.laws.Entered.{Passed, entered}
 use Rattle.soundness.specs.laws.Vanishing.{first-all}
 use Rattle.soundness.specs.laws.Words.{and-of, or-right, all-below-of, joined-each, append-each, element-each}
-
--- none of the n tests holds
-some-of-none : (f : ℕ → Bool) (n : ℕ) → ((k : ℕ) → k < n → f k ≡ false) → some-of f n ≡ false
-unfolding some-of
-some-of-none f zero each = refl
-some-of-none f (suc n) each = ap₂ _||_ (some-of-none f n (λ k l. each k (omega arith))) (each n (le-refl (suc n)))
-
-ltb-no : (a b : ℕ) → b ≤ a → ltb a b ≡ false
-ltb-no a b l = false-of (ltb a b) (λ t. let k : a < b = ltb→lt a b t in omega arith)
 
 -- a chosen branch is one of the n
 chosen-there : (flags : ℕ → ℕ) (P : Option ℕ → Type 0) → P none → (n : ℕ) → ((k : ℕ) → k < n → P (some k)) → P (chosen flags n)
@@ -86,8 +78,8 @@ module _ (p w : ℕ) (c : Place) (nonzero : (k : ℕ) → k < branches c → is-
   unfolding exclusive-fault
   exclusive-fine f =
       rw (
-        some-of-none (λ k. ltb 1 (flag c k)) (branches c) (λ k l. ltb-no 1 (flag c k) (f .low k l)),
-        ltb-no 1 (ones c (branches c)) (f .few),
+        some-of-none (λ k. ltb 1 (flag c k)) (branches c) (λ k l. le-ltb 1 (flag c k) (f .low k l)),
+        le-ltb 1 (ones c (branches c)) (f .few),
       )
       (chosen-there (flag c) (λ o. branch-fault p w c o ≡ 0) refl (branches c) (λ k l. ap (λ (b : Bool). cond b 15 0) (nonzero k l)))
 

@@ -11,7 +11,8 @@ use lib.Dec.{T, eqb, leb, ltb→lt, le→leb, eqb→eq}
 use lib.ListN.{length, take, drop}
 use lib.Seq.{take-at}
 use Rattle.lists.specs.Count.{joined, or-else}
-use Rattle.lists.specs.laws.Count.{and-left, and-right, or-else-none, of-true, true-of, eqb-true}
+use Rattle.lists.specs.laws.Count.{or-else-none, of-true, true-of, eqb-true, eq-of-eqb}
+use Rattle.lists.specs.laws.Tests.{both-left, both-right}
 use Rattle.field.specs.Modulus.{Modulus, Certificate}
 use Rattle.field.specs.laws.Extension.{h}
 use Rattle.expression.specs.Words.{all-below}
@@ -20,6 +21,7 @@ use Rattle.expression.specs.Values.{row-values}
 use Rattle.expression.specs.Valid.{Below}
 use Rattle.expression.specs.Tests.{degrees-low}
 use Rattle.expression.specs.laws.Below.{below-tested}
+use Rattle.expression.specs.laws.Refusal.{unless-none}
 use Rattle.expression.specs.declared.sizes.Limits.{Limits}
 use Rattle.expression.specs.declared.refusal.Refusal.the-variants.{SizeAtOdds, WordTooLarge, NodeInvalid, DegreeTooHigh, LookupInvalid, ChallengesMissing, RowsMissing, TraceTooSmall, TerminalMisplaced}
 use Rattle.lookup.specs.Lookups.{lookup-count}
@@ -32,7 +34,7 @@ use Rattle.logup.specs.Ledger.{Element}
 use Rattle.soundness.specs.laws.Words.{and-of, or-right, all-below-of, append-each, joined-each, element-each}
 use Rattle.soundness.specs.laws.Elements.{element-sum}
 use Rattle.soundness.specs.laws.Columns.{fraction-element}
-use Rattle.soundness.specs.laws.Entered.{unless-none, unless-of, made, enough-rows, Passed, passed}
+use Rattle.soundness.specs.laws.Entered.{unless-of, made, enough-rows, Passed, passed}
 use Rattle.soundness.specs.laws.Answers.{Accepted, accepted-of}
 use Rattle.soundness.specs.laws.Passes.{exactly-generated}
 use Rattle.soundness.specs.laws.Layout.{trace-length, trace-used, trace-generated, generated-is-trace}
@@ -79,16 +81,15 @@ module _ (m : Limits) (p w : ℕ) (M : Modulus p) (C : Certificate p w) (t : Tab
       let q : _ = unless-none (not (has-lookups lists) || leb (n + 1) width) TraceTooSmall _ (k .1) in
       let r : _ = unless-none (cond (has-lookups lists) true false) TerminalMisplaced none (q .1) in
       let small : Below p e =
-      below-tested e (h p w C) (true-of (all-below p e) (and-right (words-below p t && all-below p challenges && all-below p words) (all-below p e) (b .0))) in
+      below-tested e (h p w C) (both-right (words-below p t && all-below p challenges && all-below p words) (all-below p e) (b .0)) in
       record {
-        size = eqb→eq (length words) (width * height * 4) (and-right (sizes m t && eqb (length challenges % 4) 0) (eqb (length words) (width * height * 4)) (a .0));
+        size = eq-of-eqb (length words) (width * height * 4) (both-right (sizes m t && eqb (length challenges % 4) 0) (eqb (length words) (width * height * 4)) (a .0));
         words-small =
             below-tested words (h p w C)
-            (true-of (all-below p words)
-            (and-right (words-below p t && all-below p challenges) (all-below p words)
-            (and-left (words-below p t && all-below p challenges && all-below p words) (all-below p e) (b .0))));
+            (both-right (words-below p t && all-below p challenges) (all-below p words)
+            (both-left (words-below p t && all-below p challenges && all-below p words) (all-below p e) (b .0)));
         terminal-small = record { four = four; below = record { w0 = small .each 0; w1 = small .each 1; w2 = small .each 2; w3 = small .each 3 } };
-        rows = enough-rows (t .traces .shape) lists (present (has-lookups lists) (r .0)) (k .0);
+        rows = enough-rows (t .traces .shape) lists (present (has-lookups lists) (of-true (r .0))) (of-true (k .0));
       }
 
   module _ (regular : (r i : ℕ) → r < height → i < n → Regular p w (place p w (t .lookups) challenges values r i)) where

@@ -1,16 +1,17 @@
 -- Generation's tests, one by one: none refuses exactly where all pass.
 use mathlib.Core.Path.{_≡_, refl}
 use mathlib.Core.Bool.{Bool, true, false, _&&_, _||_, not}
-use mathlib.Core.Option.{Option, none, Option·some-ne-none}
+use mathlib.Core.Option.{Option, none}
 use mathlib.Core.List.{List}
 use Prim.Native.Nat.{ℕ, _*_, _/_, _%_, _<_}
 use lib.Dec.{T, eqb, leb, ltb, ltb→lt}
 use lib.ListN.{length}
-use Rattle.lists.specs.laws.Count.{and-left}
+use Rattle.lists.specs.laws.Count.{and-left, of-true}
 use Rattle.expression.specs.Words.{all-below}
 use Rattle.expression.specs.Refusal.{unless}
 use Rattle.expression.specs.Node.{node-count}
 use Rattle.expression.specs.Tests.{degrees-low}
+use Rattle.expression.specs.laws.Refusal.{unless-none}
 use Rattle.expression.specs.declared.sizes.Limits.{Limits}
 use Rattle.expression.specs.declared.sizes.Shape.{Shape}
 use Rattle.expression.specs.declared.refusal.Refusal.{Refusal}
@@ -21,11 +22,7 @@ use Rattle.lookup.specs.Tests.{sizes, words-below, known, lists-agree, in-posit
 use Rattle.logup.specs.Rows.{used}
 use Rattle.logup.specs.Generation.{entry-refusal}
 
--- a test that is passed, and what comes after it
-pub unless-none : (b : Bool) (f : Refusal) (o : Option Refusal) → unless b f o ≡ none → T b × (o ≡ none)
-unless-none true f o e = (tt, e)
-unless-none false f o e = absurd (Option·some-ne-none f e)
-
+-- a test that passed leaves what comes after it
 pub unless-of : (b : Bool) (f : Refusal) (o : Option Refusal) → T b → o ≡ none → unless b f o ≡ none
 unless-of true f o t e = e
 unless-of false f o t e = absurd t
@@ -69,7 +66,7 @@ module _ (m : Limits) (p w : ℕ) (t : Table) (challenges buffer : List ℕ) whe
       let f : _ = unless-none (not (has-lookups lists) || eqb (length challenges / 4) (2 * n)) ChallengesMissing _ (e .1) in
       let g : _ = unless-none (rows-enough (t .traces .shape) lists) RowsMissing _ (f .1) in
       let h : _ = unless-none (not (has-lookups lists) || leb (used lists (t .traces .shape .height)) (length buffer)) TraceTooSmall none (g .1) in
-      record { one = a .0; two = b .0; three = c .0; four = d .0; five = e .0; eight = f .0; nine = g .0; ten = h .0 }
+      record { one = of-true (a .0); two = of-true (b .0); three = of-true (c .0); four = of-true (d .0); five = of-true (e .0); eight = of-true (f .0); nine = of-true (g .0); ten = of-true (h .0) }
 
   pub entered : Passed → entry-refusal m p w t challenges buffer ≡ none
   unfolding entry-refusal

@@ -7,6 +7,8 @@ use native.Mathlib.Omega.{arith}
 use lib.Dec.{T, eqb}
 use lib.ListN.{length, replicate}
 use Rattle.algebra.specs.Power.{powM}
+use Rattle.lists.specs.Same.{same-list}
+use Rattle.lists.specs.laws.Same.{same-list-eq}
 use Rattle.lists.specs.Count.{total, every, some-of, first, joined}
 use Rattle.lists.specs.laws.Count.{of-true, true-of, eq-of-eqb}
 use Rattle.lists.specs.laws.Tests.{chain, Passed, passed}
@@ -30,11 +32,10 @@ use Rattle.logup.specs.Tuple.{tuple, combine, denominator, quotient4}
 use Rattle.logup.specs.Column.{branches, multiplicity, flag, chosen, denom, used-denom, additive-fraction, additive-fault, exclusive-fraction, exclusive-fault, fraction, fault}
 use Rattle.logup.specs.Rows.{fault-refusal, place, fraction-at, row-sum, accumulator, row-words, fault-at, row-fault, trace, first-fault, used}
 use Rattle.logup.specs.Generation.{entry-refusal, rows-outcome, entry-outcome, generation, accepts, terminal-words}
-use Rattle.logup.specs.Ledger.{has-ledger, Element, at-pair, count, lookup-entries, row-entries, entries, same-list, listed, met, tuples-met}
+use Rattle.logup.specs.Ledger.{has-ledger, Element, at-pair, count, lookup-entries, row-entries, entries, listed, met, tuples-met}
 use Rattle.logup.specs.laws.Cases.{additive, no-lookup}
 use Rattle.soundness.specs.Demand3.{FullSet, AllWide, AtEachPair, SameLedger, answer-at}
 use Rattle.soundness.specs.laws.Elements.{element-lift}
-use Rattle.soundness.specs.laws.Ledgers.{same-list-eq}
 use Rattle.soundness.specs.laws.Demand3.{balanced}
 
 -- row 3 once, with multiplicity 1; and a table without lookups
@@ -114,6 +115,6 @@ told-apart same =
     (only-pair (λ a b. T (accepts (answer-at cabinet babybear babybear-w no-lookup buffers a b))) (of-true (holds .1 .1 .1 .1 .0)))
     .0 same pair (List·Memᴰ·head refl) (lift 5) (List·Memᴰ·head refl) in
     let z : _≡_ {A = ℕ} 1006632961 0 = ap (λ (l : List ℕ). at l 0)
-    (sym (same-list-eq _ _ (of-true (holds .1 .1 .1 .1 .1 .0)))
-    ∙ agree ∙ same-list-eq _ _ (of-true (holds .1 .1 .1 .1 .1 .1 .0))) in
+    (sym (same-list-eq _ _ (holds .1 .1 .1 .1 .1 .0))
+    ∙ agree ∙ same-list-eq _ _ (holds .1 .1 .1 .1 .1 .1 .0)) in
     omega arith

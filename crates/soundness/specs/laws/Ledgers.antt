@@ -1,15 +1,17 @@
 -- The ledger, the lists that are met and the entries, as the balance theorem takes them.
-use mathlib.Core.Path.{_≡_, refl, sym, ap, ap₂, _∙_, subst}
+use mathlib.Core.Path.{_≡_, refl, sym, ap, _∙_, subst}
 use mathlib.Core.Logic.{_≢_, ite}
 use mathlib.Core.Bool.{Bool, true, false, cond, _||_}
 use mathlib.Core.List.{List, [], _∷_, List-discrete, List·Memᴰ, List·Memᴰ·head, List·Memᴰ·tail, List·Memᴰ·eq-of-singleton}
 use Prim.Native.Nat.{ℕ, _+_, _%_, _<_}
 use native.Mathlib.Decide.{ℕ-discrete}
 use native.Mathlib.Nat.{mod-lt, mod-eq-of-lt, mod-add-mod, add-mod-mod, add-assoc, add-zero, zero-add}
-use lib.Dec.{T, eqb, eqb→eq, eqb-refl}
+use lib.Dec.{T, eqb}
 use lib.ListN.{length}
+use Rattle.lists.specs.Same.{same-list}
+use Rattle.lists.specs.laws.Same.{same-list-eq, same-list-refl}
 use Rattle.lists.specs.Fold.{fold}
-use Rattle.lists.specs.laws.Count.{and-left, and-right, joined-member, of-true, true-of, false-of, eqb-true, eqb-false}
+use Rattle.lists.specs.laws.Count.{joined-member, true-of, false-of, eqb-true, eqb-false}
 use Rattle.field.specs.Word.{addM}
 use Rattle.field.specs.Modulus.{Modulus, Certificate}
 use Rattle.field.specs.laws.Extension.{K, h}
@@ -20,30 +22,17 @@ use Rattle.lookup.specs.Lookups.{lookup-count, tuple-count}
 use Rattle.lookup.specs.Table.{Table}
 use Rattle.lookup.specs.Tests.{words-below}
 use Rattle.lookup.specs.Valid.{Fitting}
-use Rattle.logup.specs.Ledger.{Entry, entry, lookup-entries, row-entries, entries, same-list, post, ledger, listed, met}
+use Rattle.logup.specs.Ledger.{Entry, entry, lookup-entries, row-entries, entries, post, ledger, listed, met}
 use Rattle.soundness.specs.Demand3.{AllWide}
 use Rattle.soundness.specs.laws.Setting.{N}
 use Rattle.soundness.specs.laws.Values.{row-below, count-below, tuple-below, tuple-length}
 
 -- the test of two lists
-pub same-list-refl : (a : List ℕ) → T (same-list a a)
-unfolding same-list
-same-list-refl [] = tt
-same-list-refl (x ∷ a) = rw (true-of (eqb x x) (eqb-refl x)) (same-list-refl a)
-
-pub same-list-eq : (a b : List ℕ) → T (same-list a b) → a ≡ b
-unfolding same-list
-same-list-eq [] [] t = refl
-same-list-eq [] (y ∷ b) t = absurd t
-same-list-eq (x ∷ a) [] t = absurd t
-same-list-eq (x ∷ a) (y ∷ b) t =
-    ap₂ _∷_ (eqb→eq x y (and-left (eqb x y) (same-list a b) t)) (same-list-eq a b (and-right (eqb x y) (same-list a b) t))
-
 pub same-true : {a b : List ℕ} → a ≡ b → same-list a b ≡ true
-same-true {a} {b} e = true-of (same-list a b) (subst (λ (l : List ℕ). T (same-list a l)) e (same-list-refl a))
+same-true {a} {b} e = ap (same-list a) (sym e) ∙ same-list-refl a
 
 pub same-false : {a b : List ℕ} → a ≢ b → same-list a b ≡ false
-same-false {a} {b} n = false-of (same-list a b) (λ t. n (same-list-eq a b t))
+same-false {a} {b} n = false-of (same-list a b) (λ t. n (same-list-eq a b (true-of (same-list a b) t)))
 
 or-true-left : (a b : Bool) → a ≡ true → (a || b) ≡ true
 or-true-left a b e = rw e refl
@@ -63,7 +52,7 @@ of-listed l [] t = absurd t
 of-listed l (x ∷ s) t = go (same-list l x) refl t (of-listed l s)
   where
     go : (b : Bool) → same-list l x ≡ b → T (b || listed l s) → (T (listed l s) → List·Memᴰ l s) → List·Memᴰ l (x ∷ s)
-    go true q t ih = List·Memᴰ·head (same-list-eq l x (of-true q))
+    go true q t ih = List·Memᴰ·head (same-list-eq l x q)
     go false q t ih = List·Memᴰ·tail (ih t)
 
 module _ (p w : ℕ) (C : Certificate p w) where

@@ -6,11 +6,11 @@ use mathlib.Core.Option.{none}
 use mathlib.Core.List.{List}
 use Prim.Native.Nat.{ℕ, zero, suc, _+_, _<_}
 use native.Mathlib.Omega.{arith}
-use native.Mathlib.Nat.{le-refl}
 use native.Mathlib.Numerals.{add-one}
 use Rattle.field.specs.Element.{zero4, add4, sum4, element, is-zero}
 use Rattle.field.specs.Modulus.{Modulus, Certificate}
 use Rattle.field.specs.laws.Homomorphism.{el}
+use Rattle.field.specs.laws.Element.{sum4-cong}
 use Rattle.expression.specs.Valid.{Below}
 use Rattle.lookup.specs.Lookups.{Lookups, lookup-count}
 use Rattle.logup.specs.Column.{Place}
@@ -22,11 +22,6 @@ use Rattle.soundness.specs.laws.Vanishing.{passes-exactly}
 use Rattle.soundness.specs.laws.Setting.{same-of-el}
 use Rattle.soundness.specs.laws.Elements.{element-sum, zero-iff}
 use Rattle.soundness.specs.laws.Fractions.{fraction-constraint, step-iff}
-
-pub sum4-cong : (p : ℕ) (f g : ℕ → List ℕ) (n : ℕ) → ((i : ℕ) → i < n → f i ≡ g i) → sum4 p f n ≡ sum4 p g n
-unfolding sum4
-sum4-cong p f g zero e = refl
-sum4-cong p f g (suc n) e = ap₂ (add4 p) (sum4-cong p f g n (λ i l. e i (omega arith))) (e n (le-refl (suc n)))
 
 module _ (p w : ℕ) (M : Modulus p) (C : Certificate p w) (l : Lookups) (challenges : List ℕ) (values : ℕ → List ℕ) (height width : ℕ) (words e : List ℕ) where
   abbrev n : ℕ

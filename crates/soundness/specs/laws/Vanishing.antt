@@ -4,12 +4,13 @@ use mathlib.Core.Logic.{_↔_}
 use mathlib.Core.Bool.{Bool, true, false, cond}
 use mathlib.Core.Option.{Option, none, some, Option·some-ne-none}
 use mathlib.Core.List.{List}
-use Prim.Native.Nat.{ℕ, zero, suc, _+_, _<_, _≤_}
+use Prim.Native.Nat.{ℕ, zero, suc, _+_, _<_}
 use native.Mathlib.Omega.{arith}
 use native.Mathlib.Nat.{le-refl}
-use lib.Dec.{eqb, ltb, ltb→lt, nltb→le, lt→ltb, not-T}
+use lib.Dec.{eqb, ltb, ltb→lt, nltb→le, not-T}
+use borrow.Author.Tests.{lt-ltb, le-ltb}
 use Rattle.lists.specs.Count.{first, or-else}
-use Rattle.lists.specs.laws.Count.{first-none, or-else-none, of-true, true-of, false-of, not-of-false, eqb-true, eq-of-eqb}
+use Rattle.lists.specs.laws.Count.{first-none, or-else-none, of-true, not-of-false, eqb-true, eq-of-eqb}
 use Rattle.field.specs.Element.{is-zero}
 use Rattle.expression.specs.Values.{row-values}
 use Rattle.expression.specs.declared.sizes.Limits.{Limits}
@@ -35,12 +36,6 @@ vanish-iff x r i = (go (is-zero x), λ e. ap (λ (b : Bool). cond b none (some (
     go : (b : Bool) → cond {A = Option Refusal} b none (some (ConstraintNotZero r i)) ≡ none → b ≡ true
     go true e = refl
     go false e = absurd (Option·some-ne-none (ConstraintNotZero r i) e)
-
-ltb-true : (a b : ℕ) → a < b → ltb a b ≡ true
-ltb-true a b l = true-of (ltb a b) (lt→ltb a b l)
-
-ltb-false : (a b : ℕ) → b ≤ a → ltb a b ≡ false
-ltb-false a b l = false-of (ltb a b) (λ t. let k : a < b = ltb→lt a b t in omega arith)
 
 module _ (p w : ℕ) (l : Lookups) (challenges : List ℕ) (values : ℕ → List ℕ) (height width : ℕ) (words e : List ℕ) where
   abbrev n : ℕ
@@ -74,10 +69,10 @@ module _ (p w : ℕ) (l : Lookups) (challenges : List ℕ) (values : ℕ → Lis
         starts = λ z. vanish-iff (at-cell r 0) r n .0 (sym (ap (λ (q : Bool). cond q (must-vanish (at-cell r 0) r n) none) (eqb-true z)) ∙ b);
         steps = λ l. vanish-iff (by-step r) r (n + 1) .0
             (sym (ap (λ (q : Bool). cond q (must-vanish (by-step r) r (n + 1)) (must-vanish (by-terminal r) r (n + 2)))
-            (ltb-true (r + 1) height l)) ∙ d);
+            (lt-ltb (r + 1) height l)) ∙ d);
         ends = λ l. vanish-iff (by-terminal r) r (n + 2) .0
             (sym (ap (λ (q : Bool). cond q (must-vanish (by-step r) r (n + 1)) (must-vanish (by-terminal r) r (n + 2)))
-            (ltb-false (r + 1) height l)) ∙ d);
+            (le-ltb (r + 1) height l)) ∙ d);
       }
 
   of-row-holds : (r : ℕ) → Row-holds r → row r ≡ none

@@ -5,12 +5,12 @@ use mathlib.Core.List.{List}
 use Prim.Native.Nat.{ℕ, _<_}
 use lib.Dec.{eqb}
 use Rattle.field.specs.Element.{one4, lift, add4, sub4, mul4, scale4, sum4, product4}
+use Rattle.field.specs.laws.Element.{sum4-cong, product4-cong}
 use Rattle.lookup.specs.Lookups.{exclusive}
 use Rattle.logup.specs.Column.{Place, branches, multiplicity, flag, denom}
 use Rattle.logup.specs.Constraints.{others, additive-numerator, additive-denominator, exclusive-numerator, exclusive-denominator, numerator, common-denominator}
 use Rattle.column.specs.laws.Parts.{Same}
 use Rattle.terms.specs.Constraint.{vanishing}
-use Rattle.terms.specs.laws.Sums.{sum4-cong, product4-cong}
 
 module _ {p w : ℕ} {c d : Place} (s : Same p w c d) where
   sums : (f g : ℕ → List ℕ) → ((k : ℕ) → k < branches d → f k ≡ g k) → sum4 p f (branches c) ≡ sum4 p g (branches d)

@@ -10,17 +10,7 @@ use Rattle.lists.specs.laws.Count.{eqb-true, eqb-false}
 use Rattle.field.specs.Modulus.{Certificate}
 use Rattle.field.specs.Element.{at, zero4, one4, lift, add4, mul4, scale4, sum4, product4}
 use Rattle.field.specs.laws.Extension.{h}
-use Rattle.field.specs.laws.Element.{word-mul4, word-lift, mul4-comm, mul4-assoc, mul4-add, mul4-one, scale4-is}
-
-pub sum4-cong : (p : ℕ) (f g : ℕ → List ℕ) (n : ℕ) → ((i : ℕ) → i < n → f i ≡ g i) → sum4 p f n ≡ sum4 p g n
-unfolding sum4
-sum4-cong p f g zero e = refl
-sum4-cong p f g (suc n) e = ap₂ (add4 p) (sum4-cong p f g n (λ i l. e i (omega arith))) (e n (omega arith))
-
-pub product4-cong : (p w : ℕ) (f g : ℕ → List ℕ) (n : ℕ) → ((i : ℕ) → i < n → f i ≡ g i) → product4 p w f n ≡ product4 p w g n
-unfolding product4
-product4-cong p w f g zero e = refl
-product4-cong p w f g (suc n) e = ap₂ (mul4 p w) (product4-cong p w f g n (λ i l. e i (omega arith))) (e n (omega arith))
+use Rattle.field.specs.laws.Element.{word-mul4, word-lift, mul4-comm, mul4-assoc, mul4-add, mul4-one, scale4-is, sum4-cong, product4-cong}
 
 module _ (p w : ℕ) (C : Certificate p w) where
   product4-one : (f : ℕ → List ℕ) (n : ℕ) → mul4 p w (product4 p w f n) one4 ≡ product4 p w f n

@@ -32,7 +32,7 @@ use Rattle.balance.specs.Entries.{entry-of, row-entries, values-of, member-entr
 use Rattle.balance.specs.Members.{member-at}
 use Rattle.balance.specs.Balance.{Visited}
 use Rattle.balance.specs.Valid.{Whole}
-use Rattle.balance.specs.laws.Lists.{tab-in, tab-at, flat-in}
+use Rattle.balance.specs.laws.Lists.{tab-in, flat-in}
 use Rattle.groups.specs.ByNumber.{kept, joins, group-at}
 use Rattle.visiting.specs.Seen.{after}
 

@@ -1,6 +1,6 @@
 -- Laws of the order by place, and of what a test keeps of a list.
 use mathlib.Core.Path.{_≡_, refl, sym, ap, ap₂, _∙_}
-use mathlib.Core.Bool.{Bool, true, false, cond, _&&_, _||_}
+use mathlib.Core.Bool.{Bool, true, false, cond, _||_}
 use mathlib.Core.List.{List, [], _∷_, _++_, append-nil, append-assoc, map, map-append, List·Memᴰ, List·Memᴰ·head, List·Memᴰ·tail, List·Memᴰ·cases-cons, List·Memᴰ·append-cases, List·Memᴰ·eq-of-singleton, Memᴰ·append-left, Memᴰ·append-right}
 use mathlib.Core.Logic.{_⊎_, inl, inr}
 use Prim.Native.Nat.{ℕ, zero, suc, _+_, _<_, _≤_, zero-le}
@@ -9,11 +9,12 @@ use lib.Dec.{eqb, ltb}
 use native.Mathlib.Nat.{zero-add}
 use lib.ListN.{length, getD, length-append, List·getD-append}
 use lib.Seq.{getD-at}
+use Rattle.lists.specs.laws.Same.{same-list-refl}
 use Rattle.lists.specs.Tab.{tab}
 use Rattle.lists.specs.laws.Count.{last-or-below}
 use borrow.Author.Tests.{ltb-true, ltb-false, eqb-true, eqb-false, lt-ltb, le-ltb, eq-eqb, ne-eqb}
 use Rattle.degree.specs.Sums.{sum-of}
-use Rattle.widths.specs.Order.{keep, position, by-place, numbers, same, same-bus, place, arranged}
+use Rattle.widths.specs.Order.{keep, position, by-place, numbers, same-bus, place, arranged}
 
 module _ {A : Type 0} where
   pub keep-append : (f : A → Bool) (xs ys : List A) → keep f (xs ++ ys) ≡ keep f xs ++ keep f ys
@@ -25,7 +26,7 @@ module _ {A : Type 0} where
       go true e = ap (λ (l : List A). x ∷ l) e
       go false e = e
 
-  -- a second test that the position one grants, or rules out
+  -- a second test that the first one grants, or rules out
   pub keep-same : (q f : A → Bool) → ((x : A) → q x ≡ true → f x ≡ true) → (xs : List A) → keep q (keep f xs) ≡ keep q xs
   unfolding keep
   keep-same q f h [] = refl
@@ -71,7 +72,7 @@ module _ {A : Type 0} where
       go true ih n = head-or ih (List·Memᴰ·cases-cons n)
       go false ih n = List·Memᴰ·tail (ih n)
 
-  -- none passes where the position is not there
+  -- none passes where there is no first one
   pub position-none : (f : A → Bool) (xs : List A) → length xs ≤ position f xs → keep f xs ≡ []
   unfolding keep position
   position-none f [] h = refl
@@ -160,7 +161,7 @@ module _ {A : Type 0} where
       go ih (inl n) = ih n
       go ih (inr n) = keep-in (λ (x : A). eqb (f x) k) xs n
 
-  -- place 0 comes position
+  -- place 0 comes first
   pub by-place-front : (f : A → ℕ) (k : ℕ) (xs : List A) → (rest : List A) × (by-place f (suc k) xs ≡ keep (λ (x : A). eqb (f x) 0) xs ++ rest)
   unfolding by-place
   by-place-front f zero xs = ([], sym (append-nil (keep (λ (x : A). eqb (f x) 0) xs)))
@@ -169,23 +170,6 @@ module _ {A : Type 0} where
         r .0 ++ keep (λ (x : A). eqb (f x) (suc k)) xs,
         ap (λ (l : List A). l ++ keep (λ (x : A). eqb (f x) (suc k)) xs) (r .1) ∙ append-assoc (keep (λ (x : A). eqb (f x) 0) xs) (r .0) (keep (λ (x : A). eqb (f x) (suc k)) xs),
       )
-
--- equal lists
-pub same-eq : (xs ys : List ℕ) → same xs ys ≡ true → xs ≡ ys
-unfolding same
-same-eq [] [] e = refl
-same-eq [] (y ∷ ys) e = cc
-same-eq (x ∷ xs) [] e = cc
-same-eq (x ∷ xs) (y ∷ ys) e = go (eqb x y) (same-eq xs ys) refl e
-  where
-    go : (b : Bool) → (same xs ys ≡ true → xs ≡ ys) → eqb x y ≡ b → (b && same xs ys) ≡ true → _≡_ {A = List ℕ} (x ∷ xs) (y ∷ ys)
-    go true ih e′ t = ap₂ (λ (a : ℕ) (l : List ℕ). a ∷ l) (eqb-true x y e′) (ih t)
-    go false ih e′ t = cc
-
-pub same-refl : (xs : List ℕ) → same xs xs ≡ true
-unfolding same
-same-refl [] = refl
-same-refl (x ∷ xs) = rw (eq-eqb x x refl) (same-refl xs)
 
 module _ {A B : Type 0} where
   pub keep-map : (f : B → Bool) (g : A → B) (xs : List A) → keep f (map g xs) ≡ map g (keep (λ (x : A). f (g x)) xs)
@@ -263,7 +247,7 @@ module _ (alone : ℕ → Bool) (name : ℕ → List ℕ) (n : ℕ) where
   place-in i m = go (alone i) refl
     where
       self : alone i ≡ false → same-bus alone name i i ≡ true
-      self e = rw (e, same-refl (name i))
+      self e = rw (e, same-list-refl (name i))
 
       go : (b : Bool) → alone i ≡ b → ltb (cond b 0 (suc (position (same-bus alone name i) (numbers n)))) (suc n) ≡ true
       go true e = lt-ltb 0 (suc n) (omega arith)

@@ -12,7 +12,7 @@ use Rattle.lists.specs.laws.Joined.{joined-length, joined-at}
 use Rattle.lists.specs.laws.Tab.{tab-length, tab-get}
 use Rattle.wire.specs.Wire.{word-of, word-at, words-of, word-bytes, bytes-of}
 
-four : (x : ℕ) → length (word-bytes x) ≡ 4
+pub four : (x : ℕ) → length (word-bytes x) ≡ 4
 unfolding word-bytes
 four x = refl
 

@@ -15,6 +15,7 @@ use Rattle.expression.specs.Window.{row-of, window}
 use Rattle.expression.specs.Words.{all-below, all-within}
 use Rattle.field.specs.Element.{add4, sub4, mul4, scale4, power4, sum4, product4, conjugate, conjugate2, norm2, norm, inverse4, is-zero, element}
 use Rattle.field.specs.Word.{inverse1}
+use Rattle.lists.specs.Same.{same-list}
 use Rattle.lists.specs.Count.{total, every, some-of, first, joined}
 use Rattle.lists.specs.Fold.{fold}
 use Rattle.lists.specs.Tab.{tab}
@@ -22,7 +23,7 @@ use Rattle.lists.specs.Cases.{hold}
 use Rattle.logup.specs.Column.{branches, multiplicity, flag, chosen, denom, used-denom, additive-fraction, additive-fault, exclusive-fraction, exclusive-fault, fraction, fault}
 use Rattle.logup.specs.Constraints.{others, additive-numerator, additive-denominator, exclusive-numerator, exclusive-denominator, numerator, common-denominator, cell, cell-sum, lookup-constraint, step, binding, row-verdict, rows-verdict, constraints-refusal, verdict}
 use Rattle.logup.specs.Generation.{entry-refusal, rows-outcome, entry-outcome, generation}
-use Rattle.logup.specs.Ledger.{count, lookup-entries, row-entries, entries, same-list, post, ledger, listed, met, tuples-met}
+use Rattle.logup.specs.Ledger.{count, lookup-entries, row-entries, entries, post, ledger, listed, met, tuples-met}
 use Rattle.logup.specs.Reader.{row-part}
 use Rattle.logup.specs.Rows.{fault-refusal, place, fraction-at, row-sum, accumulator, row-words, fault-at, row-fault, trace, first-fault, used}
 use Rattle.logup.specs.Tuple.{tuple, combine, denominator, quotient4}
@@ -36,10 +37,10 @@ use Rattle.protocol.specs.Height.{table-start, table-lookups, weight-sum, table
 use Rattle.prefixes.specs.Prefixes.{prefix-by, prefixes-fit, prefixes-refusal}
 use Rattle.protocol.specs.Terminals.{present, terminal, terminal-below, with-terminal, terminal-sum, terminals-refusal}
 use Rattle.widths.specs.Door.{size-start, table-at, tables-of, lists-fit, table-fits, all-fit, widths-answer}
-use Rattle.widths.specs.Order.{keep, position, by-place, numbers, same, name-at, alone-at, same-bus, place as packing-place, arranged}
+use Rattle.widths.specs.Order.{keep, position, by-place, numbers, name-at, alone-at, same-bus, place as packing-place, arranged}
 use Rattle.widths.specs.Widths.{width-in-lookup, width-in-table, expected, by-bus, lookup-refusal, table-refusal, widths-refusal, widest-in-lookup, widest-in-table, widest}
 use Rattle.worked.specs.Table.{cases}
 
 pub cases-hold : T (hold cases)
-unfolding powM inverse1 add4 sub4 mul4 scale4 power4 sum4 product4 conjugate conjugate2 norm2 norm inverse4 is-zero element fold tab total every some-of first joined cabinet all-below all-within node decode row-of window node-value values row-values node-degree degrees traces-within nodes-within traces-fit nodes-fit traces-below constants-below nodes-known degrees-low name-start tuple-start multiplicity-start flag-start element-start tuple-width multiplicity-node flag-node tuple-nodes lookups-within lookups-fit sizes words-below known lengths-agree nodes-present lists-agree in-position has-lookups preprocessed-enough rows-enough tuple combine denominator quotient4 branches multiplicity flag chosen denom used-denom additive-fraction additive-fault exclusive-fraction exclusive-fault fraction fault fault-refusal place fraction-at row-sum accumulator row-words fault-at row-fault trace first-fault used entry-refusal rows-outcome entry-outcome generation others additive-numerator additive-denominator exclusive-numerator exclusive-denominator numerator common-denominator cell cell-sum lookup-constraint step binding row-verdict rows-verdict constraints-refusal verdict count lookup-entries row-entries entries same-list post ledger listed met tuples-met row-part flatMap zipWith lookup-at lookups-of sum-of largest-of greatest tuple-degree denominator-degree numerator-degree additive-degree exclusive-degree lookup-degree columns-within form-sizes nodes-refusal lists-refusal form-refusal shape-of degree-refusal degree-answer keep position by-place numbers same name-at alone-at same-bus packing-place arranged width-in-lookup width-in-table expected by-bus lookup-refusal table-refusal widths-refusal widest-in-lookup widest-in-table widest size-start table-at tables-of lists-fit table-fits all-fit widths-answer in-order fill filled renumbered packed overweight lookup-words words-of holds columns packing-refusal packing prefix-by prefixes-fit prefixes-refusal present terminal terminal-below with-terminal terminal-sum terminals-refusal table-start table-lookups weight-sum table-weight height-sum lookups-small tables-within tables-fit height-refusal
+unfolding powM inverse1 add4 sub4 mul4 scale4 power4 sum4 product4 conjugate conjugate2 norm2 norm inverse4 is-zero element fold tab total every some-of first joined cabinet all-below all-within node decode row-of window node-value values row-values node-degree degrees traces-within nodes-within traces-fit nodes-fit traces-below constants-below nodes-known degrees-low name-start tuple-start multiplicity-start flag-start element-start tuple-width multiplicity-node flag-node tuple-nodes lookups-within lookups-fit sizes words-below known lengths-agree nodes-present lists-agree in-position has-lookups preprocessed-enough rows-enough tuple combine denominator quotient4 branches multiplicity flag chosen denom used-denom additive-fraction additive-fault exclusive-fraction exclusive-fault fraction fault fault-refusal place fraction-at row-sum accumulator row-words fault-at row-fault trace first-fault used entry-refusal rows-outcome entry-outcome generation others additive-numerator additive-denominator exclusive-numerator exclusive-denominator numerator common-denominator cell cell-sum lookup-constraint step binding row-verdict rows-verdict constraints-refusal verdict count lookup-entries row-entries entries same-list post ledger listed met tuples-met row-part flatMap zipWith lookup-at lookups-of sum-of largest-of greatest tuple-degree denominator-degree numerator-degree additive-degree exclusive-degree lookup-degree columns-within form-sizes nodes-refusal lists-refusal form-refusal shape-of degree-refusal degree-answer keep position by-place numbers name-at alone-at same-bus packing-place arranged width-in-lookup width-in-table expected by-bus lookup-refusal table-refusal widths-refusal widest-in-lookup widest-in-table widest size-start table-at tables-of lists-fit table-fits all-fit widths-answer in-order fill filled renumbered packed overweight lookup-words words-of holds columns packing-refusal packing prefix-by prefixes-fit prefixes-refusal present terminal terminal-below with-terminal terminal-sum terminals-refusal table-start table-lookups weight-sum table-weight height-sum lookups-small tables-within tables-fit height-refusal
 cases-hold = tt

@@ -1,4 +1,4 @@
-use Rattle.balance.proofs.Turns.{units-small}
+use native.Mathlib.Nat.{mul-le-mul}
 use Prim.Native.Nat.{ℕ, _+_, _*_}
 use mathlib.Core.Path.{ap₂}
 use native.Mathlib.Omega.{arith}
@@ -16,7 +16,7 @@ size-start-requires c κs = search needs
 
 -- src/tables.rt:44:5
 mul-result : tie.Need-mul-result
-mul-result c = omega (arith, units-small _ _ _ (c .before .before .pre .1) (c .size-start .ensures .1))
+mul-result c = omega (arith, mul-le-mul (c .before .before .pre .1) (c .size-start .ensures .1))
 
 -- src/tables.rt:44:45
 size-requires : tie.Need-size-requires
@@ -24,15 +24,15 @@ size-requires c κs = search needs
 
 -- src/tables.rt:44:38
 mul-result-2 : tie.Need-mul-result-2
-mul-result-2 c = omega (arith, units-small _ _ _ (c .before .before .before .pre .1) (c .size .ensures .1))
+mul-result-2 c = omega (arith, mul-le-mul (c .before .before .before .pre .1) (c .size .ensures .1))
 
 -- src/tables.rt:44:5
 add-result : tie.Need-add-result
-add-result c = omega (arith, units-small _ _ _ (c .before .before .before .pre .1) (c .size .ensures .1), units-small _ _ _ (c .before .before .before .pre .1) (c .before .size-start .ensures .1))
+add-result c = omega (arith, mul-le-mul (c .before .before .before .pre .1) (c .size .ensures .1), mul-le-mul (c .before .before .before .pre .1) (c .before .size-start .ensures .1))
 
 -- src/tables.rt:40:1
 returns : tie.Need-returns
-returns c = (ap₂ (λ (a b : ℕ). c .before .before .before .args .unit * a + c .before .before .before .args .unit * b) (c .before .size-start .ensures .0) (c .size .ensures .0), omega (arith, units-small _ _ _ (c .before .before .before .pre .1) (c .size .ensures .1), units-small _ _ _ (c .before .before .before .pre .1) (c .before .size-start .ensures .1)))
+returns c = (ap₂ (λ (a b : ℕ). c .before .before .before .args .unit * a + c .before .before .before .args .unit * b) (c .before .size-start .ensures .0) (c .size .ensures .0), omega (arith, mul-le-mul (c .before .before .before .pre .1) (c .size .ensures .1), mul-le-mul (c .before .before .before .pre .1) (c .before .size-start .ensures .1)))
 
 pub part-end-spec : {M : Type 1} → statement M
 part-end-spec =

@@ -1,7 +1,7 @@
 use Prim.Native.Nat.{_-_}
 use Rattle.expression.specs.Refusal.{refusal}
 use Rattle.building.specs.Building.{local-refusal, locals-refusal}
-use Rattle.builder.proofs.Finds.{Finding, find-begins, find-turn, find-ends}
+use Rattle.lists.specs.laws.Turns.{Finding, find-begins, find-turn, find-ends}
 use borrow.Author.Needs.{needs}
 use Rattle.builder.proofs.locals.locals_verdict.Statement.{statement}
 use Rattle.builder.proofs.locals.locals_verdict.Tie as tie

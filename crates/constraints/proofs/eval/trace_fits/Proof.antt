@@ -1,4 +1,5 @@
-use Rattle.constraints.proofs.Testing.{positive, fits-none, fits-is}
+use native.Mathlib.Nat.{pos-of-ne-zero}
+use Rattle.constraints.proofs.Testing.{fits-none, fits-is}
 use borrow.Author.Needs.{needs}
 use Rattle.constraints.proofs.eval.trace_fits.Statement.{statement}
 use Rattle.constraints.proofs.eval.trace_fits.Tie as tie
@@ -13,7 +14,7 @@ div-result : tie.Need-div-result
 div-result c = search needs
 
 returns-2 : tie.Need-returns-2
-returns-2 c = fits-is _ _ _ (positive _ (c .if1 .left))
+returns-2 c = fits-is _ _ _ (pos-of-ne-zero (c .if1 .left))
 
 pub trace-fits-spec : {M : Type 1} → statement M
 trace-fits-spec =

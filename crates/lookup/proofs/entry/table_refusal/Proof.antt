@@ -1,7 +1,7 @@
 use mathlib.Core.Path.{sym, _∙_}
 use borrow.Author.Tests.{not-true, not-false}
 use Rattle.expression.specs.Refusal.{refusal}
-use Rattle.lookup.proofs.Sizes.{few-nodes}
+use Rattle.lookup.specs.laws.Tested.{few-nodes}
 use Rattle.lookup.specs.Table.{lent-table}
 use Rattle.lookup.specs.Lookups.{lent-lookups}
 use Rattle.lookup.specs.Entry.{table-refusal}

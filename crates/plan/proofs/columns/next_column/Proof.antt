@@ -1,7 +1,6 @@
 use Rattle.segments.specs.laws.Numbers.{numbered}
-use Rattle.plan.proofs.Filling.{small, merged-small}
+use Rattle.plan.proofs.Filling.{small, merged-small, Filling, fill-begins, fill-turn, fill-stops, fill-ends}
 use native.Mathlib.Omega.{arith}
-use Rattle.plan.proofs.Filling.{Filling, fill-begins, fill-turn, fill-stops, fill-ends}
 use Rattle.plan.specs.Columns.{source}
 use lib.ListN.{length}
 use Prim.Native.Nat.{_-_}

@@ -1,7 +1,6 @@
 use Rattle.plan.proofs.Filling.{column-put}
 use lib.ListN.{length-set}
 use native.Mathlib.Omega.{arith}
-use Rattle.plan.proofs.Filling.{eight-set}
 use Rattle.plan.specs.Columns.{column-words}
 use borrow.Author.Needs.{needs}
 use Rattle.plan.proofs.columns.put_column.Statement.{statement}

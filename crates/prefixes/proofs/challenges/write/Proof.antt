@@ -1,5 +1,6 @@
 use mathlib.Core.Path.{sym, _∙_}
-use Rattle.prefixes.specs.laws.Prefixes.{loaded, element-whole}
+use Rattle.prefixes.specs.laws.Prefixes.{loaded}
+use Rattle.field.specs.laws.Slice.{element-whole}
 use Rattle.prefixes.specs.Prefixes.{prefix-by}
 use borrow.Author.Needs.{needs}
 use Rattle.prefixes.proofs.challenges.write.Statement.{statement}

@@ -1,5 +1,4 @@
-use Rattle.slots.specs.laws.Entering.{same-lengths}
-use Rattle.slots.proofs.Turns.{SameSoFar, same-begins, same-turn, same-ends, same-differs}
+use Rattle.lists.specs.laws.Same.{SameSoFar, same-begins, same-turn, same-ends, same-differs, same-lengths}
 use Prim.Native.Nat.{_-_}
 use lib.ListN.{length}
 use borrow.Author.Needs.{needs}

@@ -1,10 +1,11 @@
 use Rattle.field.specs.laws.Extension.{babybear-certificate, babybear-modulus}
+use Rattle.field.specs.laws.Slice.{element-whole}
 use Rattle.field.specs.Element.{inverse4}
 use Rattle.field.specs.Modulus.{babybear, babybear-w}
 use native.Mathlib.Omega.{arith}
 use mathlib.Core.List.{List}
 use mathlib.Core.Path.{_≡_, sym, ap, _∙_}
-use Rattle.telling.proofs.Tested.{Tested, tested, loaded, loaded-words, untouched}
+use Rattle.telling.proofs.Tested.{Tested, tested, loaded-words, untouched}
 use borrow.Author.Needs.{needs}
 use Rattle.telling.proofs.element.inverse.Statement.{statement}
 use Rattle.telling.proofs.element.inverse.Tie as tie
@@ -37,7 +38,7 @@ returns-2 c =
     let s = c .before .before .before .before .before .before .before .before .before .before .before in (
       sym e ∙ k,
       c .before .before .store .ensures ∙ c .before .before .before .inv .ensures .1
-          ∙ ap (inverse4 babybear babybear-w) (c .before .before .before .before .load .ensures ∙ loaded (s .args .a .now) (tested _ _ k e .size)),
+          ∙ ap (inverse4 babybear babybear-w) (c .before .before .before .before .load .ensures ∙ element-whole (s .args .a .now) (tested _ _ k e .size)),
     )
 
 pub inverse-spec : {M : Type 1} → statement M

@@ -1,11 +1,12 @@
 use Prim.Native.Nat.{ℕ}
+use Rattle.field.specs.laws.Slice.{element-whole}
 use Rattle.field.specs.Element.{power4}
 use Rattle.field.specs.Modulus.{babybear, babybear-w}
 use Rattle.field.specs.laws.Extension.{babybear-modulus}
 use native.Mathlib.Omega.{arith}
 use mathlib.Core.List.{List}
 use mathlib.Core.Path.{_≡_, sym, ap, _∙_}
-use Rattle.telling.proofs.Tested.{Tested, tested, loaded, loaded-words, untouched}
+use Rattle.telling.proofs.Tested.{Tested, tested, loaded-words, untouched}
 use borrow.Author.Needs.{needs}
 use Rattle.telling.proofs.element.power.Statement.{statement}
 use Rattle.telling.proofs.element.power.Tie as tie
@@ -38,7 +39,7 @@ returns-2 c =
     let s = c .before .before .before .before .before .before .before .before .before .before .before in (
       sym e ∙ k,
       c .before .before .store .ensures ∙ c .before .before .before .power .ensures .1
-          ∙ ap (λ (l : List ℕ). power4 babybear babybear-w l (s .args .n)) (c .before .before .before .before .load .ensures ∙ loaded (s .args .a .now) (tested _ _ k e .size)),
+          ∙ ap (λ (l : List ℕ). power4 babybear babybear-w l (s .args .n)) (c .before .before .before .before .load .ensures ∙ element-whole (s .args .a .now) (tested _ _ k e .size)),
     )
 
 pub power-spec : {M : Type 1} → statement M

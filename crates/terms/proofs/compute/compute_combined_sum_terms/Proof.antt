@@ -1,7 +1,6 @@
 use native.Mathlib.Omega.{arith}
-use Prim.Native.Nat.{_<_}
+use Prim.Native.Nat.{_<_, ℕ, _-_}
 use mathlib.Core.Path.{refl, sym, subst, _∙_}
-use Prim.Native.Nat.{ℕ, _-_}
 use Rattle.terms.proofs.Turns.{Combining, combining-turn, combining-ends, adding-begins, walk-begins, walk-in, walk-few}
 use borrow.Author.Needs.{needs}
 use Rattle.terms.proofs.compute.compute_combined_sum_terms.Statement.{statement}

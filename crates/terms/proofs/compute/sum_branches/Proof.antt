@@ -1,7 +1,6 @@
 use native.Mathlib.Omega.{arith}
-use Prim.Native.Nat.{_<_}
+use Prim.Native.Nat.{_<_, ℕ, _-_}
 use mathlib.Core.Path.{refl, sym, subst, _∙_}
-use Prim.Native.Nat.{ℕ, _-_}
 use Rattle.terms.proofs.Turns.{Weighing, weighing-turn, weighing-ends, summed-begins, walk-begins, walk-in, walk-few}
 use borrow.Author.Needs.{needs}
 use Rattle.terms.proofs.compute.sum_branches.Statement.{statement}

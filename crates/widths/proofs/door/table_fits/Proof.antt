@@ -11,7 +11,7 @@ lookups-within-requires : tie.Need-lookups-within-requires
 lookups-within-requires c κs = search needs
 
 name-start-requires : tie.Need-name-start-requires
-name-start-requires c κs = (search needs, lookups-few (c .before .before .before .before .before .args .limits) (c .before .before .before .before .before .args .lookups .now) (c .before .before .before .before .before .args .tuples .now) (c .before .before .before .before .before .pre) (sym (c .before .lookups-within .ensures) ∙ c .if1 .taken) .0)
+name-start-requires c κs = (search needs, omega (arith, lookups-few (c .before .before .before .before .before .args .limits) (c .before .before .before .before .before .args .lookups .now) (c .before .before .before .before .before .args .tuples .now) (c .before .before .before .before .before .pre) (sym (c .before .lookups-within .ensures) ∙ c .if1 .taken) .0))
 
 tuple-start-requires : tie.Need-tuple-start-requires
 tuple-start-requires c κs = (search needs, lookups-few (c .before .before .before .before .before .before .args .limits) (c .before .before .before .before .before .before .args .lookups .now) (c .before .before .before .before .before .before .args .tuples .now) (c .before .before .before .before .before .before .pre) (sym (c .before .before .lookups-within .ensures) ∙ c .before .if1 .taken) .0)

@@ -1,5 +1,5 @@
+use Rattle.lists.specs.Same.{same-list}
 use Rattle.widths.proofs.Turns.{name-in, bus-first, bus-second, bus-both, name-is}
-use Rattle.widths.specs.Order.{same}
 use Prim.Native.Nat.{ℕ}
 use mathlib.Core.List.{List}
 use mathlib.Core.Path.{_∙_, refl, ap₂}
@@ -65,7 +65,7 @@ same-bytes-requires : tie.Need-same-bytes-requires
 same-bytes-requires c κs = search needs
 
 returns-3 : tie.Need-returns-3
-returns-3 c = bus-both _ _ _ _ (c .before .before .before .before .before .before .before .before .before .before .before .before .alone .ensures) (c .before .before .before .before .before .before .before .before .before .before .before .if1 .left) (c .before .before .before .before .before .before .before .before .before .before .alone2 .ensures) (c .before .before .before .before .before .before .before .before .before .if2 .left) (c .same-bytes .ensures ∙ ap₂ (λ (x y : List ℕ). same x y) (name-is (c .before .before .before .before .before .before .before .before .before .before .before .before .before .before .before .args .lookups .now) (c .before .before .before .before .before .before .before .before .before .before .before .before .before .before .before .args .names .now) (c .before .before .before .before .before .before .before .before .before .before .before .before .before .before .before .args .i) (c .before .before .before .before .before .before .before .before .name-start .ensures .0) (c .before .before .before .before .before .index .ensures .0 ∙ c .before .before .before .before .before .before .name-length .ensures) refl) (name-is (c .before .before .before .before .before .before .before .before .before .before .before .before .before .before .before .args .lookups .now) (c .before .before .before .before .before .before .before .before .before .before .before .before .before .before .before .args .names .now) (c .before .before .before .before .before .before .before .before .before .before .before .before .before .before .before .args .j) (c .before .before .before .before .before .before .before .name-start2 .ensures .0) (c .before .before .before .index2 .ensures .0 ∙ c .before .before .before .before .name-length2 .ensures) refl))
+returns-3 c = bus-both _ _ _ _ (c .before .before .before .before .before .before .before .before .before .before .before .before .alone .ensures) (c .before .before .before .before .before .before .before .before .before .before .before .if1 .left) (c .before .before .before .before .before .before .before .before .before .before .alone2 .ensures) (c .before .before .before .before .before .before .before .before .before .if2 .left) (c .same-bytes .ensures ∙ ap₂ (λ (x y : List ℕ). same-list x y) (name-is (c .before .before .before .before .before .before .before .before .before .before .before .before .before .before .before .args .lookups .now) (c .before .before .before .before .before .before .before .before .before .before .before .before .before .before .before .args .names .now) (c .before .before .before .before .before .before .before .before .before .before .before .before .before .before .before .args .i) (c .before .before .before .before .before .before .before .before .name-start .ensures .0) (c .before .before .before .before .before .index .ensures .0 ∙ c .before .before .before .before .before .before .name-length .ensures) refl) (name-is (c .before .before .before .before .before .before .before .before .before .before .before .before .before .before .before .args .lookups .now) (c .before .before .before .before .before .before .before .before .before .before .before .before .before .before .before .args .names .now) (c .before .before .before .before .before .before .before .before .before .before .before .before .before .before .before .args .j) (c .before .before .before .before .before .before .before .name-start2 .ensures .0) (c .before .before .before .index2 .ensures .0 ∙ c .before .before .before .before .name-length2 .ensures) refl))
 
 pub same-bus-spec : {M : Type 1} → statement M
 same-bus-spec =

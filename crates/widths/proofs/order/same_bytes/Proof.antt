@@ -1,4 +1,4 @@
-use Rattle.widths.proofs.Turns.{SameSoFar, same-begins, same-turn, same-ends, same-differs, same-lengths}
+use Rattle.lists.specs.laws.Same.{SameSoFar, same-begins, same-turn, same-ends, same-differs, same-lengths}
 use lib.ListN.{length}
 use Prim.Native.Nat.{_-_}
 use borrow.Author.Needs.{needs}

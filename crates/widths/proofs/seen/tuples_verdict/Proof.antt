@@ -1,4 +1,5 @@
-use Rattle.widths.proofs.Finds.{Finding, find-begins, find-turn, find-ends, width-is}
+use Rattle.lists.specs.laws.Turns.{Finding, find-begins, find-turn, find-ends}
+use Rattle.widths.proofs.Finds.{width-is}
 use Rattle.widths.specs.Asks.{seen}
 use Rattle.widths.specs.Widths.{tuple-refusal}
 use Rattle.expression.specs.Refusal.{refusal}

@@ -1,7 +1,6 @@
-use Rattle.widths.proofs.Finds.{widest-local, widest-bus}
+use Rattle.widths.proofs.Finds.{widest-local, widest-bus, width-is, tuples-in}
 use native.Mathlib.Omega.{arith}
 use Rattle.degree.specs.laws.Rising.{Rising, rise-begins, rise-turn, rise-ends}
-use Rattle.widths.proofs.Finds.{width-is, tuples-in}
 use Rattle.widths.specs.Widths.{widest-in-lookup}
 use Rattle.lookup.specs.Lookups.{tuple-width}
 use mathlib.Core.Path.{_∙_, refl, ap}

@@ -1,7 +1,6 @@
-use Rattle.widths.proofs.Finds.{has-tuple}
-use Rattle.widths.proofs.Finds.{named, tuples-in, seen-local, seen-other, seen-none, seen-width}
+use Rattle.lists.specs.Same.{same-list}
+use Rattle.widths.proofs.Finds.{has-tuple, named, tuples-in, seen-local, seen-other, seen-none, seen-width}
 use Rattle.widths.proofs.Turns.{name-in, name-is}
-use Rattle.widths.specs.Order.{same}
 use native.Mathlib.Omega.{arith}
 use Prim.Native.Nat.{ℕ}
 use mathlib.Core.List.{List}
@@ -41,13 +40,13 @@ same-bytes-requires : tie.Need-same-bytes-requires
 same-bytes-requires c κs = search needs
 
 returns-2 : tie.Need-returns-2
-returns-2 c = seen-other (c .before .before .before .before .before .before .before .before .before .before .before .before .args .bus .now) (c .before .before .before .before .before .before .before .before .before .before .before .before .args .lookups .now) (c .before .before .before .before .before .before .before .before .before .before .before .before .args .names .now) (c .before .before .before .before .before .before .before .before .before .before .before .before .args .tuples .now) (c .before .before .before .before .before .before .before .before .before .before .before .before .args .i) (c .before .before .before .before .before .before .before .on-bus .ensures) (c .before .before .before .before .before .before .if1 .left) (c .before .same-bytes .ensures ∙ ap (λ (x : List ℕ). same (c .before .before .before .before .before .before .before .before .before .before .before .before .args .bus .now) x) (name-is (c .before .before .before .before .before .before .before .before .before .before .before .before .args .lookups .now) (c .before .before .before .before .before .before .before .before .before .before .before .before .args .names .now) (c .before .before .before .before .before .before .before .before .before .before .before .before .args .i) (c .before .before .before .before .before .name-start .ensures .0) (c .before .before .before .index .ensures .0 ∙ c .before .before .before .before .name-length .ensures) refl)) (c .if2 .taken)
+returns-2 c = seen-other (c .before .before .before .before .before .before .before .before .before .before .before .before .args .bus .now) (c .before .before .before .before .before .before .before .before .before .before .before .before .args .lookups .now) (c .before .before .before .before .before .before .before .before .before .before .before .before .args .names .now) (c .before .before .before .before .before .before .before .before .before .before .before .before .args .tuples .now) (c .before .before .before .before .before .before .before .before .before .before .before .before .args .i) (c .before .before .before .before .before .before .before .on-bus .ensures) (c .before .before .before .before .before .before .if1 .left) (c .before .same-bytes .ensures ∙ ap (λ (x : List ℕ). same-list (c .before .before .before .before .before .before .before .before .before .before .before .before .args .bus .now) x) (name-is (c .before .before .before .before .before .before .before .before .before .before .before .before .args .lookups .now) (c .before .before .before .before .before .before .before .before .before .before .before .before .args .names .now) (c .before .before .before .before .before .before .before .before .before .before .before .before .args .i) (c .before .before .before .before .before .name-start .ensures .0) (c .before .before .before .index .ensures .0 ∙ c .before .before .before .before .name-length .ensures) refl)) (c .if2 .taken)
 
 tuple-count-requires : tie.Need-tuple-count-requires
 tuple-count-requires c κs = search needs
 
 returns-3 : tie.Need-returns-3
-returns-3 c = seen-none (c .before .before .before .before .before .before .before .before .before .before .before .before .before .before .args .bus .now) (c .before .before .before .before .before .before .before .before .before .before .before .before .before .before .args .lookups .now) (c .before .before .before .before .before .before .before .before .before .before .before .before .before .before .args .names .now) (c .before .before .before .before .before .before .before .before .before .before .before .before .before .before .args .tuples .now) (c .before .before .before .before .before .before .before .before .before .before .before .before .before .before .args .i) (c .before .before .before .before .before .before .before .before .before .on-bus .ensures) (c .before .before .before .before .before .before .before .before .if1 .left) (c .before .before .before .same-bytes .ensures ∙ ap (λ (x : List ℕ). same (c .before .before .before .before .before .before .before .before .before .before .before .before .before .before .args .bus .now) x) (name-is (c .before .before .before .before .before .before .before .before .before .before .before .before .before .before .args .lookups .now) (c .before .before .before .before .before .before .before .before .before .before .before .before .before .before .args .names .now) (c .before .before .before .before .before .before .before .before .before .before .before .before .before .before .args .i) (c .before .before .before .before .before .before .before .name-start .ensures .0) (c .before .before .before .before .before .index .ensures .0 ∙ c .before .before .before .before .before .before .name-length .ensures) refl)) (c .before .before .if2 .left) (c .before .tuple-count .ensures) (c .if3 .taken)
+returns-3 c = seen-none (c .before .before .before .before .before .before .before .before .before .before .before .before .before .before .args .bus .now) (c .before .before .before .before .before .before .before .before .before .before .before .before .before .before .args .lookups .now) (c .before .before .before .before .before .before .before .before .before .before .before .before .before .before .args .names .now) (c .before .before .before .before .before .before .before .before .before .before .before .before .before .before .args .tuples .now) (c .before .before .before .before .before .before .before .before .before .before .before .before .before .before .args .i) (c .before .before .before .before .before .before .before .before .before .on-bus .ensures) (c .before .before .before .before .before .before .before .before .if1 .left) (c .before .before .before .same-bytes .ensures ∙ ap (λ (x : List ℕ). same-list (c .before .before .before .before .before .before .before .before .before .before .before .before .before .before .args .bus .now) x) (name-is (c .before .before .before .before .before .before .before .before .before .before .before .before .before .before .args .lookups .now) (c .before .before .before .before .before .before .before .before .before .before .before .before .before .before .args .names .now) (c .before .before .before .before .before .before .before .before .before .before .before .before .before .before .args .i) (c .before .before .before .before .before .before .before .name-start .ensures .0) (c .before .before .before .before .before .index .ensures .0 ∙ c .before .before .before .before .before .before .name-length .ensures) refl)) (c .before .before .if2 .left) (c .before .tuple-count .ensures) (c .if3 .taken)
 
 tuple-start-requires : tie.Need-tuple-start-requires
 tuple-start-requires c κs = search needs
@@ -59,7 +58,7 @@ shared-slice-read-t12 : tie.Need-shared-slice-read-t12
 shared-slice-read-t12 c = omega (arith, tuples-in (c .before .before .before .before .before .before .before .before .before .before .before .before .before .before .before .before .args .i) (c .before .before .before .before .before .before .before .before .before .before .before .before .before .before .before .before .pre .0) (c .before .before .before .before .before .before .before .before .before .before .before .before .before .before .before .before .pre .1), c .before .tuple-start .ensures .0, c .before .before .before .tuple-count .ensures, has-tuple {n = c .before .before .before .tuple-count .result} (c .before .before .if3 .left))
 
 returns-4 : tie.Need-returns-4
-returns-4 c = seen-width (c .before .before .before .before .before .before .before .before .before .before .before .before .before .before .before .before .args .bus .now) (c .before .before .before .before .before .before .before .before .before .before .before .before .before .before .before .before .args .lookups .now) (c .before .before .before .before .before .before .before .before .before .before .before .before .before .before .before .before .args .names .now) (c .before .before .before .before .before .before .before .before .before .before .before .before .before .before .before .before .args .tuples .now) (c .before .before .before .before .before .before .before .before .before .before .before .before .before .before .before .before .args .i) (c .before .before .before .before .before .before .before .before .before .before .before .on-bus .ensures) (c .before .before .before .before .before .before .before .before .before .before .if1 .left) (c .before .before .before .before .before .same-bytes .ensures ∙ ap (λ (x : List ℕ). same (c .before .before .before .before .before .before .before .before .before .before .before .before .before .before .before .before .args .bus .now) x) (name-is (c .before .before .before .before .before .before .before .before .before .before .before .before .before .before .before .before .args .lookups .now) (c .before .before .before .before .before .before .before .before .before .before .before .before .before .before .before .before .args .names .now) (c .before .before .before .before .before .before .before .before .before .before .before .before .before .before .before .before .args .i) (c .before .before .before .before .before .before .before .before .before .name-start .ensures .0) (c .before .before .before .before .before .before .before .index .ensures .0 ∙ c .before .before .before .before .before .before .before .before .name-length .ensures) refl)) (c .before .before .before .before .if2 .left) (c .before .before .before .tuple-count .ensures) (c .before .before .if3 .left) (c .before .tuple-start .ensures .0)
+returns-4 c = seen-width (c .before .before .before .before .before .before .before .before .before .before .before .before .before .before .before .before .args .bus .now) (c .before .before .before .before .before .before .before .before .before .before .before .before .before .before .before .before .args .lookups .now) (c .before .before .before .before .before .before .before .before .before .before .before .before .before .before .before .before .args .names .now) (c .before .before .before .before .before .before .before .before .before .before .before .before .before .before .before .before .args .tuples .now) (c .before .before .before .before .before .before .before .before .before .before .before .before .before .before .before .before .args .i) (c .before .before .before .before .before .before .before .before .before .before .before .on-bus .ensures) (c .before .before .before .before .before .before .before .before .before .before .if1 .left) (c .before .before .before .before .before .same-bytes .ensures ∙ ap (λ (x : List ℕ). same-list (c .before .before .before .before .before .before .before .before .before .before .before .before .before .before .before .before .args .bus .now) x) (name-is (c .before .before .before .before .before .before .before .before .before .before .before .before .before .before .before .before .args .lookups .now) (c .before .before .before .before .before .before .before .before .before .before .before .before .before .before .before .before .args .names .now) (c .before .before .before .before .before .before .before .before .before .before .before .before .before .before .before .before .args .i) (c .before .before .before .before .before .before .before .before .before .name-start .ensures .0) (c .before .before .before .before .before .before .before .index .ensures .0 ∙ c .before .before .before .before .before .before .before .before .name-length .ensures) refl)) (c .before .before .before .before .if2 .left) (c .before .before .before .tuple-count .ensures) (c .before .before .if3 .left) (c .before .tuple-start .ensures .0)
 
 pub width-in-lookup-spec : {M : Type 1} → statement M
 width-in-lookup-spec =

@@ -1,5 +1,5 @@
 use native.Mathlib.Omega.{arith}
-use Rattle.widths.proofs.Finds.{Finding, find-begins, find-turn, find-ends}
+use Rattle.lists.specs.laws.Turns.{Finding, find-begins, find-turn, find-ends}
 use Rattle.widths.specs.Widths.{table-refusal, widths-refusal}
 use Rattle.expression.specs.Refusal.{refusal}
 use Rattle.widths.specs.laws.Tables.{lies, owned}

@@ -1,9 +1,8 @@
 use native.Mathlib.Omega.{arith}
-use Rattle.widths.proofs.Finds.{Finding, find-begins, find-turn, find-ends}
-use Rattle.widths.specs.Asks.{seen}
+use Rattle.lists.specs.laws.Turns.{Finding, find-begins, find-turn, find-ends}
+use Rattle.widths.specs.Asks.{seen, lent-lists}
 use Rattle.widths.specs.Widths.{width-in-table, expected}
 use Rattle.widths.specs.laws.Tables.{lies, owned}
-use Rattle.widths.specs.Asks.{lent-lists}
 use Rattle.widths.specs.Door.{table-count, table-at, tables-of}
 use Rattle.lookup.specs.Lookups.{Lookups}
 use mathlib.Core.Path.{_∙_, ap}

@@ -1,4 +1,5 @@
-use Rattle.widths.proofs.Finds.{Finding, find-begins, find-turn, find-ends, named, bus-at, bus-below}
+use Rattle.lists.specs.laws.Turns.{Finding, find-begins, find-turn, find-ends}
+use Rattle.widths.proofs.Finds.{named, bus-at, bus-below}
 use Rattle.widths.specs.Asks.{bare, lent-lists}
 use Rattle.widths.specs.Door.{tables-of}
 use Rattle.widths.specs.Widths.{by-bus, lookup-refusal, table-refusal}

@@ -1,4 +1,4 @@
-use Rattle.widths.proofs.Finds.{Finding, find-begins, find-turn, find-ends}
+use Rattle.lists.specs.laws.Turns.{Finding, find-begins, find-turn, find-ends}
 use Rattle.widths.specs.Asks.{bare, seen}
 use Rattle.widths.specs.Widths.{width-in-lookup, width-in-table}
 use Rattle.lookup.specs.Lookups.{lookup-count}

@@ -3,7 +3,7 @@ use Prim.Native.Nat.{_-_}
 use lib.ListN.{length, getD}
 use Rattle.lists.specs.laws.Writing.{Writing, begins, turn, ends}
 use Rattle.wire.specs.Wire.{word-bytes, bytes-of}
-use Rattle.wire.proofs.Turns.{four}
+use Rattle.wire.specs.laws.Trip.{four}
 use borrow.Author.Needs.{needs}
 use Rattle.wire.proofs.words.encode.Statement.{statement}
 use Rattle.wire.proofs.words.encode.Tie as tie
