@@ -13,7 +13,7 @@ use Rattle.field.specs.Word.{addM}
 use Rattle.logup.specs.Ledger.{Entry, post}
 use Rattle.slots.specs.Slots.{Slot, enter, meet, slots}
 
--- equal lists, the other way round
+-- lists that differ do so either way round
 same-list-flip : (a b : List ℕ) → same-list a b ≡ false → same-list b a ≡ false
 same-list-flip a b e = go (same-list b a) refl
   where
