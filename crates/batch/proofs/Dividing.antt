@@ -28,8 +28,8 @@ use Rattle.batch.specs.laws.Quotients.{factor-out, factor-in, inverts-re
 pub times-out : (p w m : ℕ) (a d : Ext) → Certificate p w → Word4 p (ws a) → true ≡ left-out m (ws d) → ws a ≡ mul4 p w (ws a) (factor m (ws d))
 times-out p w m a d C k e = sym (mul4-one p w C (a .c0) (a .c1) (a .c2) (a .c3) k) ∙ ap (mul4 p w (ws a)) (sym (factor-out p w C m (ws d) (sym e)))
 
-pub times-in : {r : List ℕ} (p w m : ℕ) (a d : Ext) → Certificate p w → false ≡ left-out m (ws d) → r ≡ mul4 p w (ws a) (ws d) → r ≡ mul4 p w (ws a) (factor m (ws d))
-times-in p w m a d C e k = k ∙ ap (mul4 p w (ws a)) (sym (factor-in p w C m (ws d) (sym e)))
+pub times-in : {r : List ℕ} (p w m : ℕ) (a d : Ext) → Certificate p w → false ≡ left-out m (ws d) → r ≡ mul4 p w (ws d) (ws a) → r ≡ mul4 p w (ws a) (factor m (ws d))
+times-in p w m a d C e k = k ∙ mul4-comm p w C (ws d) (ws a) ∙ ap (mul4 p w (ws a)) (sym (factor-in p w C m (ws d) (sym e)))
 
 -- a quotient, and the inverse of the rest
 pub step-out : (p w m : ℕ) (d q v : Ext) → Certificate p w → Word4 p (ws q) → mul4 p w (mul4 p w (ws q) (factor m (ws d))) (ws v) ≡ one4 → true ≡ left-out m (ws d)

@@ -31,7 +31,8 @@ fn times(p: u32, w: u32, product: Ext, m: u32, d: Ext) -> Ext
     if left_out(m, d) {
         return product;
     }
-    extension::mul(p, w, product, d)
+    // The denominator first: w times its words need not wait for the product.
+    extension::mul(p, w, d, product)
 }
 
 // The product of all, from the last on; `before` gets each product before its own factor comes to it.
