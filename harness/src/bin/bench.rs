@@ -1,7 +1,8 @@
 //! Times the port's doors beside the same work in Rust, interleaved in one run, and compares every result: row evaluation beside the same
 //! loop; generation beside the crate's own source and beside a version tuned by hand (src/tuned.rs); constraints and balance beside the crate's
 //! source, balance beside a hash map as well; and generation at growing heights. Measures how much stack the doors take. Prints tables; `--chart FILE` draws the ratios of
-//! generation; `--only PART` runs one part: evaluation, generation, constraints, growth, balance or stack.
+//! generation; `--only PART` runs one part: evaluation, generation, constraints, growth, balance or stack; `--rounds N` repeats long work N
+//! times in the place of 3.
 //!
 //!     cargo run --release --offline --features port --bin bench -- --chart ../docs/benchmarks.svg
 use std::collections::HashMap;
@@ -14,17 +15,20 @@ use harness::port::wrapped;
 use harness::table::{Lookup, Table};
 use harness::tuned;
 
-const ROUNDS: usize = 3;
 const ROWS: usize = 1 << 16;
 
 type Side<'a, A> = Box<dyn FnMut() -> A + 'a>;
 
+/// How often work on so many rows is repeated: short work more often.
+fn rounds(rows: usize) -> usize {
+    let given = argument("--rounds").map_or(3, |n| n.parse().expect("--rounds takes a number"));
+    if rows <= 1 << 14 { given.max(31) } else { given }
+}
+
 /// The medians of the sides, in nanoseconds a row, one round of each after the other; the first is the port.
 fn race<A: PartialEq + Debug>(rows: usize, mut sides: Vec<Side<'_, A>>) -> Vec<f64> {
     let mut times = vec![vec![]; sides.len()];
-    // Short work is repeated more often.
-    let rounds = if rows <= 1 << 14 { 31 } else { ROUNDS };
-    for _ in 0..rounds {
+    for _ in 0..rounds(rows) {
         let mut results = vec![];
         for (work, times) in sides.iter_mut().zip(&mut times) {
             let start = Instant::now();
@@ -334,7 +338,7 @@ fn main() {
     let mut random = Random(0x9E3779B97F4A7C15);
     let only = argument("--only");
     let wanted = |part: &str| only.as_deref().is_none_or(|only| only == part);
-    println!("Times are for a row. Medians of {ROUNDS} rounds, of 31 up to 2^14 rows.");
+    println!("Times are for a row. Medians of {} rounds, of {} up to 2^14 rows.", rounds(usize::MAX), rounds(0));
     if wanted("evaluation") {
         evaluation(&mut random);
     }
