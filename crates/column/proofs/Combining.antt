@@ -54,6 +54,10 @@ words l = at l 0 ∷ at l 1 ∷ at l 2 ∷ at l 3 ∷ []
 abbrev pub Ready : ℕ → ℕ → Sum → Sum → Type 0
 Ready p j sum held = (j ≡ 4 → Room 4 held) × ((n : ℕ) → Room n sum → Room n held) × (residues p held ≡ residues p sum)
 
+-- of at most four elements none needs it
+pub unready : {k j : ℕ} (p : ℕ) (sum : Sum) → j < k → k ≤ 4 → Ready p j sum sum
+unready p sum h l = (λ e. absurd (omega arith), λ n r. r, refl)
+
 -- element j's product fits, and those after it up to the fourth or the eighth
 module _ {p w : ℕ} {ps : List (List ℕ)} {vals nodes : List ℕ} {k j : ℕ} {sum held : Sum} (s : Combining p w ps vals nodes k j sum) (h : j < k) (q : Ready p j sum held) where
   low : j < 4 → Room (1 + (3 - j)) held

@@ -44,6 +44,24 @@ fn size_at(s: &[u32], i: usize) -> usize
     index(s[i])
 }
 
+// A tuple's denominator: most tuples have few elements.
+fn denominator_of(
+    p: u32,
+    w: u32,
+    powers: [[u32; 4]; 8],
+    alpha: Ext,
+    vals: &[u32],
+    nodes: &[u32],
+) -> Ext
+    requires { ⌜ Able p w (now vals) × Powers p w powers × Word4 p (ws alpha) × (length (now nodes) ≤ 8) ⌝ }
+    ensures { λ r. ⌜ Word4 p (ws r) × (ws r ≡ denominator p w (ws alpha) (beta-of powers) (map (word (now (vals .entry))) (now (nodes .entry)))) ⌝ }
+{
+    if nodes.len() <= 4 {
+        return extension::sub(p, alpha, tuple::combine_few(p, w, powers, vals, nodes));
+    }
+    tuple::denominator(p, w, powers, alpha, vals, nodes)
+}
+
 // The share of a tuple with multiplicity m; 0 ÷ 1 where it gives nothing.
 fn share_of(
     p: u32,
@@ -72,7 +90,7 @@ fn share_of(
     }
     Share {
         multiplicity: m,
-        denominator: tuple::denominator(p, w, powers, alpha, vals, nodes),
+        denominator: denominator_of(p, w, powers, alpha, vals, nodes),
     }
 }
 

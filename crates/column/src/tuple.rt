@@ -99,6 +99,23 @@ pub fn combine(p: u32, w: u32, powers: [[u32; 4]; 8], vals: &[u32], nodes: &[u32
     sum::total(p, sum)
 }
 
+// The same of at most four elements: their products fit 64 bits together, so that the loop is short enough to be compiled in place.
+pub fn combine_few(p: u32, w: u32, powers: [[u32; 4]; 8], vals: &[u32], nodes: &[u32]) -> Ext
+    requires { ⌜ Able p w (now vals) × Powers p w powers × (length (now nodes) ≤ 4) ⌝ }
+    ensures { λ r. ⌜ Word4 p (ws r) × (ws r ≡ combine p w (beta-of powers) (map (word (now (vals .entry))) (now (nodes .entry)))) ⌝ }
+{
+    let k = nodes.len();
+    let mut sum = sum::none(p);
+    let mut j = 0;
+    while j < k {
+        let v = value(vals, nodes[j]);
+        let power = powers[k - 1 - j];
+        sum = sum::more(p, sum, v, element(power));
+        j += 1;
+    }
+    sum::total(p, sum)
+}
+
 // Alpha minus the combined value.
 pub fn denominator(
     p: u32,

@@ -7,11 +7,11 @@ use Rattle.column.proofs.fractions.share_of.Tie as tie
 returns : tie.Need-returns
 returns c = nothing-shared _ _ _ (omega (arith, c .before .before .before .pre .0 .modulus .big)) (c .if1 .taken)
 
-denominator-requires : tie.Need-denominator-requires
-denominator-requires c κs = search needs
+denominator-of-requires : tie.Need-denominator-of-requires
+denominator-of-requires c κs = search needs
 
 returns-2 : tie.Need-returns-2
-returns-2 c = something-shared _ (c .before .if1 .left) (c .denominator .ensures)
+returns-2 c = something-shared _ (c .before .if1 .left) (c .denominator-of .ensures)
 
 pub share-of-spec : {M : Type 1} → statement M
-share-of-spec = tie.close (tie.spec returns denominator-requires returns-2)
+share-of-spec = tie.close (tie.spec returns denominator-of-requires returns-2)
