@@ -198,6 +198,16 @@ module _ (p w : ℕ) (own widths mults flags nodes vals alpha beta : List ℕ) w
       go true = (refl, refl, refl)
       go false = (refl, refl, refl)
 
+  -- an additive lookup has no flags to read
+  pub no-flags : false ≡ exclusive own 0 → Read false 0 0
+  unfolding branch-taken
+  no-flags e =
+      record {
+        over≡ = ap (λ (b : Bool). cond b (some-of (λ k. ltb 1 (flag whole k)) (branches whole)) false) e;
+        ones≡ = ap (λ (b : Bool). cond b (total (λ k. bit (eqb (flag whole k) 1)) (branches whole)) 0) e;
+        branch≡ = ap (λ (b : Bool). cond b (branch-code (chosen (flag whole) (branches whole))) 0) e;
+      }
+
   pub lookup-is : {over ex zero : Bool} {ones branch f : ℕ} {ms ds : List ℕ} → Read over ones branch → ex ≡ exclusive own 0
       → (zero ≡ some-of (λ k. is-zero (denominator-by p w (own-place own widths mults [] nodes vals alpha beta) ex branch k)) (tuple-count own 0))
       × (ms ≡ tab (multiplicity-by (own-place own widths mults [] nodes vals alpha beta) ex branch) 0 (tuple-count own 0))
