@@ -1,22 +1,23 @@
 -- The turns of the loop over the rows of a block, and the block.
-use mathlib.Core.Path.{_≡_, refl, sym, ap, ap₂, _∙_}
+use mathlib.Core.Path.{_≡_, refl, sym, ap, _∙_}
+use mathlib.Core.Option.{Option}
 use mathlib.Core.List.{List, _++_}
-use Prim.Native.Nat.{ℕ, suc, _+_, _*_, _-_, _<_, _≤_, zero-le}
-use native.Mathlib.Nat.{add-zero, suc-mul, mul-le-mul-right, zero-mul}
-use native.Mathlib.Numerals.{add-one}
+use Prim.Native.Nat.{ℕ, _+_, _*_, _-_, _<_, _≤_, zero-le}
+use native.Mathlib.Nat.{add-zero, mul-le-mul-right, zero-mul}
 use native.Mathlib.Omega.{arith}
 use lib.ListN.{length, take, drop}
 use borrow.Rule.Slice.PartMut.{putMid}
 use Rattle.lists.specs.Count.{or-else, first, joined}
-use Rattle.lists.specs.laws.Count.{joined-one}
+use Rattle.lists.specs.laws.Count.{joined-add}
 use Rattle.lists.specs.laws.Filled.{Filled, filled-none, filled-part, filled-whole}
 use Rattle.lists.specs.laws.Parts.{part-length}
 use Rattle.expression.specs.Refusal.{refusal}
+use Rattle.expression.specs.declared.refusal.Refusal.{Refusal}
 use Rattle.expression.specs.declared.refusal.Verdict.{Verdict}
 use Rattle.lookup.specs.Lookups.{Lookups, lookup-count, tuple-start}
 use Rattle.logup.specs.Rows.{row-fault}
 use Rattle.rows.specs.Shares.{row-multiplicities, row-denominators}
-use Rattle.blocks.specs.laws.Shares.{row-ms-length, row-ds-length}
+use Rattle.blocks.specs.laws.Shares.{run-ms-length, run-ds-length}
 
 -- j rows of a block
 pub record Filling (p w : ℕ) (l : Lookups) (cs : List ℕ) (values : ℕ → List ℕ) (size from k : ℕ) (dm dd ms ds : List ℕ) (verdict : Verdict) (at j : ℕ) : Type 0 where
@@ -53,56 +54,56 @@ filling-begins {p} {w} {l} {cs} {values} {size} {from} c lo es em ed ev =
       verdict≡ = ev ∙ ap (first (row-fault p w l cs values)) (sym (add-zero from));
     }
 
-next-times : (a b m : ℕ) → a < b → a * m + m ≤ b * m
-next-times a b m h = rw suc-mul at (mul-le-mul-right m h)
-
+-- n rows more
 module _ {p w : ℕ} {l : Lookups} {cs : List ℕ} {values : ℕ → List ℕ} {size from k : ℕ} {dm dd ms ds : List ℕ} {verdict : Verdict} {at j : ℕ}
-    (s : Filling p w l cs values size from k dm dd ms ds verdict at j) (h : j < k) where
-  pub ms-in : at + size ≤ length ms
-  ms-in = omega (arith, next-times j k size h, s .at≡, s .ms-size, s .ms-len)
+    (s : Filling p w l cs values size from k dm dd ms ds verdict at j) (n : ℕ) (h : j + n ≤ k) where
+  pub ms-in : at + n * size ≤ length ms
+  ms-in = omega (arith, mul-le-mul-right size h, s .at≡, s .ms-size, s .ms-len)
 
-  pub ds-in : 4 * (at + size) ≤ length ds
-  ds-in = omega (arith, next-times j k size h, s .at≡, s .ds-size, s .ds-len)
+  pub ds-in : 4 * (at + n * size) ≤ length ds
+  ds-in = omega (arith, mul-le-mul-right size h, s .at≡, s .ds-size, s .ds-len)
 
-  pub ms-part : length (take (at + size - at) (drop at ms)) ≡ size
-  ms-part = part-length ms at (at + size) (omega arith) ms-in ∙ omega arith
+  pub ms-part : length (take (at + n * size - at) (drop at ms)) ≡ n * size
+  ms-part = part-length ms at (at + n * size) (omega arith) ms-in ∙ omega arith
 
-  pub ds-part : length (take (4 * (at + size) - 4 * at) (drop (4 * at) ds)) ≡ 4 * size
-  ds-part = part-length ds (4 * at) (4 * (at + size)) (omega arith) ds-in ∙ omega arith
+  pub ds-part : length (take (4 * (at + n * size) - 4 * at) (drop (4 * at) ds)) ≡ 4 * (n * size)
+  ds-part = part-length ds (4 * at) (4 * (at + n * size)) (omega arith) ds-in ∙ omega arith
 
   pub filling-turn : {verdict′ : Verdict} (ys zs : List ℕ) (fault : Verdict)
-      → (refusal fault ≡ row-fault p w l cs values (from + j)) × (ys ≡ row-multiplicities p w l cs values (from + j)) × (zs ≡ row-denominators p w l cs values (from + j))
+      → (or-else (first (row-fault p w l cs values) (from + j)) (refusal fault) ≡ first (row-fault p w l cs values) (from + j + n))
+      × (ys ≡ joined (row-multiplicities p w l cs values) (from + j) n) × (zs ≡ joined (row-denominators p w l cs values) (from + j) n)
       → refusal verdict′ ≡ or-else (refusal verdict) (refusal fault)
-      → Filling p w l cs values size from k dm dd (putMid at (at + size - at) ms ys) (putMid (4 * at) (4 * (at + size) - 4 * at) ds zs) verdict′ (at + size) (j + 1)
-  unfolding first
+      → Filling p w l cs values size from k dm dd (putMid at (at + n * size - at) ms ys) (putMid (4 * at) (4 * (at + n * size) - 4 * at) ds zs) verdict′ (at + n * size) (j + n)
   filling-turn {verdict′} ys zs fault (ef, ey, ez) ev =
       record {
         cap = s .cap;
         low = s .low;
         size≡ = s .size≡;
-        within = omega arith;
-        at≡ = rw (add-one j, suc-mul j size, s .at≡);
+        within = h;
+        at≡ = omega (arith, s .at≡);
         ms-size = s .ms-size;
         ds-size = s .ds-size;
         ms-len = more .len;
         ds-len = grown .len;
         ms≡ = more;
         ds≡ = grown;
-        verdict≡ = rw next (ev ∙ ap₂ or-else (s .verdict≡) ef);
+        verdict≡ = ev ∙ ap (λ (o : Option Refusal). or-else o (refusal fault)) (s .verdict≡) ∙ ef ∙ ap (first (row-fault p w l cs values)) next;
       }
     where
-      next : from + (j + 1) ≡ suc (from + j)
+      next : from + j + n ≡ from + (j + n)
       next = omega arith
 
-      more : Filled dm (joined (row-multiplicities p w l cs values) from (j + 1)) (at + size) (putMid at (at + size - at) ms ys)
+      more : Filled dm (joined (row-multiplicities p w l cs values) from (j + n)) (at + n * size) (putMid at (at + n * size - at) ms ys)
       more =
-          filled-part ys (s .ms≡) (omega arith) (omega (arith, ms-in, s .ms-len)) (ap length ey ∙ row-ms-length p w l cs values (from + j) ∙ sym (s .size≡) ∙ omega arith)
-          (joined-one (row-multiplicities p w l cs values) from j ∙ ap (λ (y : List ℕ). joined (row-multiplicities p w l cs values) from j ++ y) (sym ey))
+          filled-part ys (s .ms≡) (omega arith) (omega (arith, ms-in, s .ms-len))
+          (ap length ey ∙ run-ms-length p w l cs values (from + j) n ∙ ap (λ (x : ℕ). n * x) (sym (s .size≡)) ∙ omega arith)
+          (joined-add (row-multiplicities p w l cs values) from j n ∙ ap (λ (y : List ℕ). joined (row-multiplicities p w l cs values) from j ++ y) (sym ey))
 
-      grown : Filled dd (joined (row-denominators p w l cs values) from (j + 1)) (4 * (at + size)) (putMid (4 * at) (4 * (at + size) - 4 * at) ds zs)
+      grown : Filled dd (joined (row-denominators p w l cs values) from (j + n)) (4 * (at + n * size)) (putMid (4 * at) (4 * (at + n * size) - 4 * at) ds zs)
       grown =
-          filled-part zs (s .ds≡) (omega arith) (omega (arith, ds-in, s .ds-len)) (ap length ez ∙ row-ds-length p w l cs values (from + j) ∙ omega (arith, s .size≡))
-          (joined-one (row-denominators p w l cs values) from j ∙ ap (λ (y : List ℕ). joined (row-denominators p w l cs values) from j ++ y) (sym ez))
+          filled-part zs (s .ds≡) (omega arith) (omega (arith, ds-in, s .ds-len))
+          (ap length ez ∙ run-ds-length p w l cs values (from + j) n ∙ ap (λ (x : ℕ). 4 * (n * x)) (sym (s .size≡)) ∙ omega arith)
+          (joined-add (row-denominators p w l cs values) from j n ∙ ap (λ (y : List ℕ). joined (row-denominators p w l cs values) from j ++ y) (sym ez))
 
 pub filling-ends : {p w : ℕ} {l : Lookups} {cs : List ℕ} {values : ℕ → List ℕ} {size from k : ℕ} {dm dd ms ds : List ℕ} {verdict : Verdict} {at j : ℕ}
     → Filling p w l cs values size from k dm dd ms ds verdict at j → k ≤ j

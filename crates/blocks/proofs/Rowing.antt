@@ -1,8 +1,9 @@
--- One row: its node values, its shares, and zeros again.
+-- A row's node values, and zeros again.
 use mathlib.Core.Path.{_≡_, refl, sym, ap, ap₂, _∙_}
 use mathlib.Core.List.{List, _++_}
 use mathlib.Core.Option.{Option, none, some}
-use Prim.Native.Nat.{ℕ, _+_, _-_, _≤_, zero-le}
+use Prim.Native.Nat.{ℕ, _+_, _-_, _%_, _<_, _≤_, zero-le}
+use native.Mathlib.Nat.{mod-eq-of-lt}
 use native.Mathlib.Omega.{arith}
 use lib.ListN.{length, take, drop, replicate, length-replicate, replicate-append-replicate, length-append}
 use lib.Seq.{drop-at}
@@ -17,29 +18,14 @@ use Rattle.expression.specs.laws.Values.{row-values-length}
 use Rattle.expression.specs.declared.refusal.Refusal.{Refusal}
 use Rattle.expression.specs.declared.refusal.Verdict.{Verdict}
 use Rattle.expression.specs.declared.refusal.Verdict.the-variants.{Accepted}
-use Rattle.lookup.specs.Lookups.{Lookups}
-use Rattle.logup.specs.Rows.{place, fault-at, row-fault}
 use Rattle.prepared.specs.laws.Values.{vals-are}
-use Rattle.rows.specs.Shares.{lookup-multiplicities, lookup-denominators, row-multiplicities, row-denominators}
-
-pub row-is : {b ms ds : List ℕ} (p w : ℕ) (nodes : List ℕ) (t : Traces) (r : ℕ) (l : Lookups) (cs : List ℕ) (verdict : Verdict)
-    → b ≡ row-values p nodes t r ++ replicate (1024 - node-count nodes) 0
-    → (refusal verdict ≡ row-fault p w l cs (λ _. take (node-count nodes - 0) b) r) × (ms ≡ row-multiplicities p w l cs (λ _. take (node-count nodes - 0) b) r)
-    × (ds ≡ row-denominators p w l cs (λ _. take (node-count nodes - 0) b) r)
-    → (refusal verdict ≡ row-fault p w l cs (row-values p nodes t) r) × (ms ≡ row-multiplicities p w l cs (row-values p nodes t) r) × (ds ≡ row-denominators p w l cs (row-values p nodes t) r)
-unfolding row-fault fault-at row-multiplicities row-denominators lookup-multiplicities lookup-denominators place
-row-is {b} p w nodes t r l cs verdict e (ev, em, ed) = (
-  ev ∙ ap (λ (v : List ℕ). row-fault p w l cs (λ _. v) r) vals,
-  em ∙ ap (λ (v : List ℕ). row-multiplicities p w l cs (λ _. v) r) vals,
-  ed ∙ ap (λ (v : List ℕ). row-denominators p w l cs (λ _. v) r) vals,
-)
-  where
-    vals : take (node-count nodes - 0) b ≡ row-values p nodes t r
-    vals = vals-are p nodes t r e
 
 module _ {b : List ℕ} (p : ℕ) (nodes : List ℕ) (t : Traces) (r : ℕ) (e : b ≡ row-values p nodes t r ++ replicate (1024 - node-count nodes) 0) where
   pub values-within : node-count nodes ≤ length b
   values-within = omega (arith, ap length e, length-append (row-values p nodes t r) (replicate (1024 - node-count nodes) 0), row-values-length p nodes t r)
+
+  pub first-values : row-values p nodes t r ≡ take (node-count nodes - 0) b
+  first-values = sym (vals-are p nodes t r e)
 
   -- the values that the nodes filled are zero again, so that all are
   pub cleared : {z : List ℕ} → z ≡ replicate (length (take (node-count nodes - 0) (drop 0 b))) 0 → node-count nodes ≤ 1024
@@ -54,6 +40,11 @@ module _ {b : List ℕ} (p : ℕ) (nodes : List ℕ) (t : Traces) (r : ℕ) (e :
 
       whole : node-count nodes + (1024 - node-count nodes) ≡ 1024
       whole = omega arith
+
+-- the values of the row after row r, where it is not row 0 again
+pub next-values : {b : List ℕ} (p : ℕ) (nodes : List ℕ) (t : Traces) (r : ℕ) → b ≡ row-values p nodes t ((r + 1) % t .shape .height) ++ replicate (1024 - node-count nodes) 0
+    → r + 1 < t .shape .height → row-values p nodes t (r + 1) ≡ take (node-count nodes - 0) b
+next-values p nodes t r e h = ap (row-values p nodes t) (sym (mod-eq-of-lt h)) ∙ first-values p nodes t ((r + 1) % t .shape .height) e
 
 -- a verdict after a row without a fault
 pub nothing-refused : (v : Option Refusal) (x : Verdict) → x ≡ Accepted → v ≡ or-else v (refusal x)

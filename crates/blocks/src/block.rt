@@ -14,14 +14,15 @@ ghost use Rattle.logup.specs.Rows.{accumulator, row-words, row-fault};
 ghost use Rattle.batch.specs.Quotients.{quotient-at};
 ghost use Rattle.prepared.specs.Ready.{lent-values, Ready};
 ghost use Rattle.rows.specs.Shares.{row-multiplicities, row-denominators};
+use crate::pair::pair_rows;
+use crate::pair::write_pair;
 use crate::writing::write_rows;
 use batch::division::divide_all;
-use evaluation::traits::row_values;
+use evaluation::traits::pair_values;
 use expression::refusal;
 use expression::refusal::Verdict;
 use expression::sizes::Shape;
 use field::extension::Ext;
-use rows::row::write_shares;
 use rows::zeros::zero;
 
 // The accumulator after a run of rows, and the first fault so far.
@@ -30,7 +31,7 @@ pub struct Progress {
     pub verdict: Verdict,
 }
 
-// The shares of k rows from row `from` on into `ms` and `ds`, and the first fault so far.
+// The shares of k rows from row `from` on into `ms` and `ds`, two rows at a time, and the first fault so far.
 fn fill(
     p: u32,
     w: u32,
@@ -63,13 +64,15 @@ fn fill(
     let size = tuples.len();
     let count = nodes.len() / 3;
     let mut vals = [0u32; 1024];
+    let mut next_vals = [0u32; 1024];
     let mut verdict = before;
     let mut at = 0;
     let mut j = 0;
     while j < k {
-        let end = at + size;
+        let n = pair_rows(j, k);
+        let end = at + n * size;
         let r = from + j;
-        row_values(
+        pair_values(
             p,
             shape,
             main,
@@ -78,8 +81,9 @@ fn fill(
             nodes,
             r,
             &mut vals,
+            &mut next_vals,
         );
-        let fault = write_shares(
+        let fault = write_pair(
             p,
             w,
             lookups,
@@ -90,12 +94,15 @@ fn fill(
             challenges,
             table,
             &vals[0..count],
+            &next_vals[0..count],
             r,
+            n,
             &mut ms[at..end],
             &mut ds[4 * at..4 * end],
         );
         // Zero at the start of every row: only the values that the nodes filled need it.
         zero(&mut vals[0..count]);
+        zero(&mut next_vals[0..count]);
         match fault {
             Verdict::Accepted => {}
             Verdict::Refused(_) => {
@@ -103,7 +110,7 @@ fn fill(
             }
         }
         at = end;
-        j += 1;
+        j = j + n;
     }
     verdict
 }

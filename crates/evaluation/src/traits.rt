@@ -125,7 +125,7 @@ pub fn evaluate_pair<'a, 'b>(
     let mut i = 0;
     while i < n {
         let node = node_at(nodes, i);
-        let v = node_value(
+        let current = node_value(
             p,
             node,
             main0,
@@ -137,7 +137,7 @@ pub fn evaluate_pair<'a, 'b>(
             height,
             vals,
         );
-        let u = node_value(
+        let following = node_value(
             p,
             node,
             main1,
@@ -149,8 +149,8 @@ pub fn evaluate_pair<'a, 'b>(
             height,
             next_vals,
         );
-        vals[i] = v;
-        next_vals[i] = u;
+        vals[i] = current;
+        next_vals[i] = following;
         i += 1;
     }
 }
