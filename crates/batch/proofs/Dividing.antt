@@ -1,8 +1,8 @@
--- The turns of the loop that multiplies the denominators and of the loop that divides.
+-- The turns of the loop that multiplies the factors and of the loop that divides.
 use mathlib.Core.Path.{_≡_, refl, sym, ap, ap₂, _∙_, subst}
-use mathlib.Core.Bool.{true, false}
+use mathlib.Core.Logic.{_≢_}
 use mathlib.Core.List.{List, [], _∷_, _++_}
-use Prim.Native.Nat.{ℕ, zero, suc, _+_, _*_, _-_, _%_, _<_, _≤_, zero-le}
+use Prim.Native.Nat.{ℕ, suc, _+_, _*_, _-_, _%_, _<_, _≤_, zero-le}
 use native.Mathlib.Nat.{zero-add, one-mul, mod-eq-of-lt}
 use native.Mathlib.Numerals.{add-one}
 use native.Mathlib.Omega.{arith}
@@ -16,75 +16,72 @@ use Rattle.lists.specs.laws.Parts.{part-length}
 use Rattle.field.specs.declared.extension.Ext.{Ext}
 use Rattle.field.specs.Ext.{ws}
 use Rattle.field.specs.Modulus.{Modulus, Certificate}
-use Rattle.field.specs.Element.{at, Word4, zero4, one4, mul4, scale4, product4, element}
-use Rattle.field.specs.laws.Element.{word-lift, word-mul4, mul4-comm, mul4-one}
-use Rattle.field.specs.laws.Extension.{h}
+use Rattle.field.specs.Word.{mulM}
+use Rattle.field.specs.Element.{at, Word4, lift, zero4, mul4, norm2, norm, cofactor, element}
 use Rattle.field.specs.laws.Slice.{word-element}
-use Rattle.batch.specs.Quotients.{quotient, quotient-at, left-out, factor, from-last, Divisible}
+use Rattle.batch.specs.Quotients.{quotient, quotient-at, nonzero, factor, productM, kept, factor-from-last, kept-from-last, Divisible}
 use Rattle.batch.specs.laws.Joined.{joined-size, total-same, element-of, element-past}
-use Rattle.batch.specs.laws.Quotients.{factor-out, factor-in, inverts-rest, quotient-out, quotient-in}
+use Rattle.batch.specs.laws.Quotients.{inverts-rest, inverts-same, quotient-none, quotient-in, kept-in, kept-out, kept-factor, kept-product, kept-word, product-below, one-below}
 
--- the product with a factor that is left out, and with one that is not
-pub times-out : (p w m : ℕ) (a d : Ext) → Certificate p w → Word4 p (ws a) → true ≡ left-out m (ws d) → ws a ≡ mul4 p w (ws a) (factor m (ws d))
-times-out p w m a d C k e = sym (mul4-one p w C (a .c0) (a .c1) (a .c2) (a .c3) k) ∙ ap (mul4 p w (ws a)) (sym (factor-out p w C m (ws d) (sym e)))
+kept-four : (p w : ℕ) (ms ds : List ℕ) (j : ℕ) → length (kept-from-last p w ms ds j) ≡ 4
+unfolding kept-from-last kept
+kept-four p w ms ds j = refl
 
-pub times-in : {r : List ℕ} (p w m : ℕ) (a d : Ext) → Certificate p w → false ≡ left-out m (ws d) → r ≡ mul4 p w (ws d) (ws a) → r ≡ mul4 p w (ws a) (factor m (ws d))
-times-in p w m a d C e k = k ∙ mul4-comm p w C (ws d) (ws a) ∙ ap (mul4 p w (ws a)) (sym (factor-in p w C m (ws d) (sym e)))
+pub kept-length : {ys : List ℕ} (p w : ℕ) (ms ds : List ℕ) (n : ℕ) → ys ≡ joined (kept-from-last p w ms ds) 0 n → length ys ≡ 4 * n
+kept-length p w ms ds n e = ap length e ∙ joined-size (kept-from-last p w ms ds) (λ _. 4) n (kept-four p w ms ds) ∙ total-same 4 n ∙ omega arith
 
--- a quotient, and the inverse of the rest
-pub step-out : (p w m : ℕ) (d q v : Ext) → Certificate p w → Word4 p (ws q) → mul4 p w (mul4 p w (ws q) (factor m (ws d))) (ws v) ≡ one4 → true ≡ left-out m (ws d)
-    → (mul4 p w (ws q) (ws v) ≡ one4) × (zero4 ≡ quotient p w m (ws d))
-step-out p w m d q v C k i e = (
-  ap (λ (x : List ℕ). mul4 p w x (ws v)) (times-out p w m q d C k e) ∙ i,
-  quotient-out p w C m (d .c0) (d .c1) (d .c2) (d .c3) (sym e),
-)
+-- the third word of what is kept is the factor
+pub factor-kept : (p w m q : ℕ) (d : List ℕ) (k : Ext) → ws k ≡ kept p w m d q → k .c2 ≡ factor p w m d
+factor-kept p w m q d k e = ap (λ (l : List ℕ). at l 2) e ∙ kept-factor p w m d q
+
+pub product-kept : (p w m q : ℕ) (d : List ℕ) (k : Ext) → ws k ≡ kept p w m d q → k .c3 ≡ q
+product-kept p w m q d k e = ap (λ (l : List ℕ). at l 3) e ∙ kept-product p w m d q
+
+-- what is kept where the multiplicity is not 0
+pub keep-in : {x y n z : ℕ} (p w m : ℕ) (d : Ext) (q : ℕ) → m ≢ 0 → x ≡ at (norm2 p w (ws d)) 0 → y ≡ at (norm2 p w (ws d)) 2 → n ≡ norm p w (ws d) → z ≡ nonzero n
+    → x ∷ y ∷ z ∷ q ∷ [] ≡ kept p w m (ws d) q
+keep-in p w m d q l ex ey en ez = (λ j. ex j ∷ ey j ∷ (ez ∙ ap nonzero en) j ∷ q ∷ []) ∙ sym (kept-in p w m (ws d) q l)
+
+pub words-kept : (p w m q : ℕ) (d k : Ext) → m ≢ 0 → ws k ≡ kept p w m (ws d) q
+    → (k .c0 ≡ at (norm2 p w (ws d)) 0) × (k .c1 ≡ at (norm2 p w (ws d)) 2) × (k .c2 ≡ nonzero (norm p w (ws d)))
+words-kept p w m q d k l e =
+    let f : ws k ≡ at (norm2 p w (ws d)) 0 ∷ at (norm2 p w (ws d)) 2 ∷ nonzero (norm p w (ws d)) ∷ q ∷ [] = e ∙ kept-in p w m (ws d) q l in
+    (ap (λ (l : List ℕ). at l 0) f, ap (λ (l : List ℕ). at l 1) f, ap (λ (l : List ℕ). at l 2) f)
 
 -- a multiplicity of 1
-pub count-one : (p m : ℕ) (a : Ext) → m ≡ 1 → Word4 p (ws a) → ws a ≡ scale4 p m (ws a)
-unfolding scale4
-count-one p m a e k = rw e (λ i. once (a .c0) (k .w0) i ∷ once (a .c1) (k .w1) i ∷ once (a .c2) (k .w2) i ∷ once (a .c3) (k .w3) i ∷ [])
-  where
-    once : (x : ℕ) → x < p → x ≡ (1 * x) % p
-    once x l = sym (mod-eq-of-lt l) ∙ ap (λ (n : ℕ). n % p) (sym (one-mul x))
+pub count-one : (p m a : ℕ) → m ≡ 1 → a < p → a ≡ mulM p m a
+count-one p m a e l = sym (ap (λ (n : ℕ). mulM p n a) e ∙ ap (λ (n : ℕ). n % p) (one-mul a) ∙ mod-eq-of-lt l)
 
-pub step-in : {r s v′ : List ℕ} (p w m : ℕ) (d q v : Ext) → Certificate p w → Modulus p → mul4 p w (mul4 p w (ws q) (factor m (ws d))) (ws v) ≡ one4 → false ≡ left-out m (ws d)
-    → r ≡ mul4 p w (ws v) (ws q) → s ≡ scale4 p m r → v′ ≡ mul4 p w (ws v) (ws d) → (mul4 p w (ws q) v′ ≡ one4) × (s ≡ quotient p w m (ws d))
-step-in p w m d q v C o i e er es ev = (
-  ap (mul4 p w (ws q)) (ev ∙ mul4-comm p w C (ws v) (ws d)) ∙ inverts-rest p w C (ws q) (ws d) (ws v) whole,
-  es ∙ ap (scale4 p m) (er ∙ mul4-comm p w C (ws v) (ws q)) ∙ quotient-in p w C (ws q) (ws d) (ws v) m o whole,
+-- a quotient, and the inverse of the rest: where the multiplicity is 0, and where not
+pub step-out : (p w m v : ℕ) (d k : Ext) → m ≡ 0 → ws k ≡ kept p w m (ws d) (k .c3) → mulM p (mulM p (k .c3) (k .c2)) v ≡ 1
+    → (mulM p (k .c3) v ≡ 1) × (zero4 ≡ quotient p w m (ws d))
+step-out p w m v d k e ek i =
+    let f : k .c2 ≡ 1 = ap (λ (l : List ℕ). at l 2) (ek ∙ kept-out p w m (ws d) (k .c3) e) in
+    (inverts-same (k .c3) v p (ap (λ (n : ℕ). mulM p (mulM p (k .c3) n) v) (sym f) ∙ i), quotient-none p w m (ws d) e)
+
+pub step-in : {u t v′ : ℕ} {r : List ℕ} (p w m v : ℕ) (d k : Ext) → Modulus p → Certificate p w → Word4 p (ws d) → m ≢ 0 → ws k ≡ kept p w m (ws d) (k .c3)
+    → mulM p (mulM p (k .c3) (k .c2)) v ≡ 1 → u ≡ mulM p v (k .c3) → t ≡ mulM p m u → r ≡ mul4 p w (cofactor p w (ws d)) (lift t) → v′ ≡ mulM p v (k .c2)
+    → (mulM p (k .c3) v′ ≡ 1) × (r ≡ quotient p w m (ws d))
+step-in {u} {t} p w m v d k o C l n ek i eu et er ev = (
+  ap (mulM p (k .c3)) ev ∙ inverts-rest (k .c3) (k .c2) v p i,
+  er ∙ quotient-in p w C (d .c0) (d .c1) (d .c2) (d .c3) m (k .c3) (k .c2) v t o l (words-kept p w m (k .c3) d k n ek .2) i (et ∙ ap (mulM p m) eu),
 )
-  where
-    whole : mul4 p w (mul4 p w (ws q) (ws d)) (ws v) ≡ one4
-    whole = ap (λ (x : List ℕ). mul4 p w (mul4 p w (ws q) x) (ws v)) (sym (factor-in p w C m (ws d) (sym e))) ∙ i
 
-product-four : (p w : ℕ) (f : ℕ → List ℕ) (n : ℕ) → length (product4 p w f n) ≡ 4
-unfolding product4 mul4
-product-four p w f zero = refl
-product-four p w f (suc n) = refl
-
-pub products-length : {ys : List ℕ} (p w : ℕ) (f : ℕ → List ℕ) (n : ℕ) → ys ≡ joined (product4 p w f) 0 n → length ys ≡ 4 * n
-products-length p w f n e = ap length e ∙ joined-size (product4 p w f) (λ _. 4) n (product-four p w f) ∙ total-same 4 n ∙ omega arith
-
-pub product-word : (p w : ℕ) (f : ℕ → List ℕ) (n : ℕ) → Certificate p w → Word4 p (product4 p w f n)
-unfolding product4
-product-word p w f zero C = word-lift p (h p w C) 1 (C .prime .big)
-product-word p w f (suc n) C = word-mul4 p (h p w C) w (product4 p w f n) (f n)
-
-pub record Multiplying (p w : ℕ) (ms ds d : List ℕ) (n : ℕ) (before : List ℕ) (product : Ext) (j : ℕ) : Type 0 where
+pub record Multiplying (p w : ℕ) (ms ds d : List ℕ) (n : ℕ) (held : List ℕ) (product j : ℕ) : Type 0 where
   pub divisible : Divisible p w ms ds
   pub cap : 4 * length d < 18446744073709551616
   pub count : n ≡ length ms
   pub within : j ≤ n
   pub size : length d ≡ 4 * n
-  pub len : length before ≡ 4 * n
-  pub out≡ : Filled d (joined (product4 p w (from-last ms ds)) 0 j) (4 * j) before
-  pub word4 : Word4 p (ws product)
-  pub product≡ : ws product ≡ product4 p w (from-last ms ds) j
+  pub len : length held ≡ 4 * n
+  pub out≡ : Filled d (joined (kept-from-last p w ms ds) 0 j) (4 * j) held
+  pub below : product < p
+  pub product≡ : product ≡ productM p (factor-from-last p w ms ds) j
 
-pub multiplying-begins : {p w n : ℕ} {ms ds d : List ℕ} {product : Ext} → Divisible p w ms ds → 4 * length d < 18446744073709551616 → n ≡ length ms → length d ≡ 4 * length ms → ws product ≡ one4
-    → Multiplying p w ms ds d n d product 0
-unfolding joined product4
-multiplying-begins {p} {w} s c e l q =
+pub multiplying-begins : {p w n : ℕ} {ms ds d : List ℕ} → Divisible p w ms ds → 4 * length d < 18446744073709551616 → n ≡ length ms → length d ≡ 4 * length ms
+    → Multiplying p w ms ds d n d 1 0
+unfolding joined productM
+multiplying-begins {p} {w} s c e l =
     record {
       divisible = s;
       cap = c;
@@ -93,123 +90,148 @@ multiplying-begins {p} {w} s c e l q =
       size = omega arith;
       len = omega arith;
       out≡ = filled-none;
-      word4 = subst (Word4 p) (sym q) (word-lift p (h p w (s .certificate)) 1 (s .certificate .prime .big));
-      product≡ = q;
+      below = one-below p w (s .certificate);
+      product≡ = refl;
     }
 
-module _ {p w n : ℕ} {ms ds d before : List ℕ} {product : Ext} {j : ℕ} (s : Multiplying p w ms ds d n before product j) (h : j < n) where
-  pub multiplying-part : length (take (4 * j + 4 - 4 * j) (drop (4 * j) before)) ≡ 4
-  multiplying-part = part-length before (4 * j) (4 * j + 4) (omega arith) (omega (arith, s .len)) ∙ omega arith
+module _ {p w n : ℕ} {ms ds d held : List ℕ} {product j : ℕ} (s : Multiplying p w ms ds d n held product j) (h : j < n) where
+  pub multiplying-part : length (take (4 * j + 4 - 4 * j) (drop (4 * j) held)) ≡ 4
+  multiplying-part = part-length held (4 * j) (4 * j + 4) (omega arith) (omega (arith, s .len)) ∙ omega arith
 
-  pub multiplying-turn : {m : ℕ} {x product′ : Ext} (ys : List ℕ) → ys ≡ ws product → m ≡ at ms (n - 1 - j) → ws x ≡ element ds (n - 1 - j)
-      → Word4 p (ws product′) × (ws product′ ≡ mul4 p w (ws product) (factor m (ws x))) → Multiplying p w ms ds d n (putMid (4 * j) (4 * j + 4 - 4 * j) before ys) product′ (j + 1)
-  unfolding product4 from-last
-  multiplying-turn {m} {x} {product′} ys ey em ex (q, ep) =
-      record {
-        divisible = s .divisible;
-        cap = s .cap;
-        count = s .count;
-        within = omega arith;
-        size = s .size;
-        len = grown .len ∙ s .size;
-        out≡ = subst (λ (k : ℕ). Filled d (joined f 0 (j + 1)) k (putMid (4 * j) (4 * j + 4 - 4 * j) before ys)) next grown;
-        word4 = q;
-        product≡ = rw (add-one j) (ep ∙ ap₂ (mul4 p w) (s .product≡) (ap₂ factor em ex ∙ ap (λ (k : ℕ). factor (at ms (k - 1 - j)) (element ds (k - 1 - j))) (s .count)));
-      }
-    where
-      f : ℕ → List ℕ
-      f = product4 p w (from-last ms ds)
+  module _ {m : ℕ} {x k : Ext} (em : m ≡ at ms (n - 1 - j)) (ex : ws x ≡ element ds (n - 1 - j)) (ek : ws k ≡ kept p w m (ws x) product) where
+    kept-is : ws k ≡ kept-from-last p w ms ds j
+    unfolding kept-from-last
+    kept-is =
+        ek ∙ ap₂ (λ (a : ℕ) (b : List ℕ). kept p w a b product) em ex ∙ ap (λ (i : ℕ). kept p w (at ms (i - 1 - j)) (element ds (i - 1 - j)) product) (s .count)
+        ∙ ap (kept p w (at ms (length ms - 1 - j)) (element ds (length ms - 1 - j))) (s .product≡)
 
-      next : 4 * j + 4 ≡ 4 * (j + 1)
-      next = omega arith
+    pub multiplying-factor : k .c2 < p
+    unfolding kept-from-last
+    multiplying-factor =
+        subst (λ (l : List ℕ). at l 2 < p) (sym kept-is)
+        (kept-word p w (s .divisible .certificate) _ _ _ (product-below p w (s .divisible .certificate) (factor-from-last p w ms ds) j) .w2)
 
-      grown : Filled d (joined f 0 (j + 1)) (4 * j + 4) (putMid (4 * j) (4 * j + 4 - 4 * j) before ys)
-      grown =
-          filled-part ys (s .out≡) (omega arith) (omega (arith, s .size)) (ap length ey ∙ omega arith)
-          (joined-one f 0 j ∙ ap (λ (y : List ℕ). joined f 0 j ++ y) (ap f (zero-add j) ∙ sym (s .product≡) ∙ sym ey))
+    pub multiplying-turn : {product′ : ℕ} (ys : List ℕ) → ys ≡ ws k → (product′ < p) × (product′ ≡ mulM p product (k .c2))
+        → Multiplying p w ms ds d n (putMid (4 * j) (4 * j + 4 - 4 * j) held ys) product′ (j + 1)
+    unfolding productM factor-from-last
+    multiplying-turn {product′} ys ey (l, ep) =
+        record {
+          divisible = s .divisible;
+          cap = s .cap;
+          count = s .count;
+          within = omega arith;
+          size = s .size;
+          len = grown .len ∙ s .size;
+          out≡ = subst (λ (i : ℕ). Filled d (joined f 0 (j + 1)) i (putMid (4 * j) (4 * j + 4 - 4 * j) held ys)) next grown;
+          below = l;
+          product≡ =
+              rw (add-one j)
+              (ep ∙ ap₂ (mulM p) (s .product≡) (factor-kept p w m product (ws x) k ek ∙ ap₂ (factor p w) em ex ∙ ap (λ (i : ℕ). factor p w (at ms (i - 1 - j)) (element ds (i - 1 - j))) (s .count)));
+        }
+      where
+        f : ℕ → List ℕ
+        f = kept-from-last p w ms ds
 
-pub multiplying-ends : {p w n : ℕ} {ms ds d before : List ℕ} {product : Ext} {j : ℕ} → Multiplying p w ms ds d n before product j → n ≤ j
-    → Word4 p (ws product) × (ws product ≡ product4 p w (from-last ms ds) (length ms)) × (before ≡ joined (product4 p w (from-last ms ds)) 0 (length ms))
+        next : 4 * j + 4 ≡ 4 * (j + 1)
+        next = omega arith
+
+        grown : Filled d (joined f 0 (j + 1)) (4 * j + 4) (putMid (4 * j) (4 * j + 4 - 4 * j) held ys)
+        grown =
+            filled-part ys (s .out≡) (omega arith) (omega (arith, s .size)) (ap length ey ∙ omega arith)
+            (joined-one f 0 j ∙ ap (λ (y : List ℕ). joined f 0 j ++ y) (ap f (zero-add j) ∙ sym kept-is ∙ sym ey))
+
+pub multiplying-ends : {p w n : ℕ} {ms ds d held : List ℕ} {product j : ℕ} → Multiplying p w ms ds d n held product j → n ≤ j
+    → (product < p) × (product ≡ productM p (factor-from-last p w ms ds) (length ms)) × (held ≡ joined (kept-from-last p w ms ds) 0 (length ms))
 multiplying-ends {p} {w} {n} {ms} {ds} {d} {j = j} s h =
     let e : j ≡ length ms = omega (arith, s .within, s .count) in (
-      s .word4,
-      s .product≡ ∙ ap (product4 p w (from-last ms ds)) e,
-      filled-whole (s .out≡) (omega (arith, s .size)) ∙ ap (joined (product4 p w (from-last ms ds)) 0) e,
+      s .below,
+      s .product≡ ∙ ap (productM p (factor-from-last p w ms ds)) e,
+      filled-whole (s .out≡) (omega (arith, s .size)) ∙ ap (joined (kept-from-last p w ms ds) 0) e,
     )
 
--- the quotients of the first i; `rest` inverts the product of the others
-pub record Dividing (p w : ℕ) (ms before d : List ℕ) (n : ℕ) (ds : List ℕ) (rest : Ext) (i : ℕ) : Type 0 where
+-- the quotients of the first i; `rest` inverts the product of the other factors
+pub record Dividing (p w : ℕ) (ms held d : List ℕ) (n : ℕ) (ds : List ℕ) (rest i : ℕ) : Type 0 where
   pub divisible : Divisible p w ms d
   pub cap : 4 * length d < 18446744073709551616
   pub count : n ≡ length ms
   pub within : i ≤ n
   pub len : length ds ≡ 4 * n
-  pub before≡ : before ≡ joined (product4 p w (from-last ms d)) 0 n
-  pub before-len : length before ≡ 4 * n
+  pub held≡ : held ≡ joined (kept-from-last p w ms d) 0 n
+  pub held-len : length held ≡ 4 * n
   pub out≡ : Filled d (joined (quotient-at p w ms d) 0 i) (4 * i) ds
-  pub word4 : Word4 p (ws rest)
-  pub inverts : mul4 p w (product4 p w (from-last ms d) (n - i)) (ws rest) ≡ one4
+  pub below : rest < p
+  pub inverts : mulM p (productM p (factor-from-last p w ms d) (n - i)) rest ≡ 1
 
-pub dividing-begins : {p w n : ℕ} {ms before d : List ℕ} {rest : Ext} → Divisible p w ms d → 4 * length d < 18446744073709551616 → n ≡ length ms
-    → before ≡ joined (product4 p w (from-last ms d)) 0 (length ms) → Word4 p (ws rest) → mul4 p w (product4 p w (from-last ms d) (length ms)) (ws rest) ≡ one4
-    → Dividing p w ms before d n d rest 0
+pub dividing-begins : {p w n : ℕ} {ms held d : List ℕ} {rest : ℕ} → Divisible p w ms d → 4 * length d < 18446744073709551616 → n ≡ length ms
+    → held ≡ joined (kept-from-last p w ms d) 0 (length ms) → rest < p → mulM p (productM p (factor-from-last p w ms d) (length ms)) rest ≡ 1
+    → Dividing p w ms held d n d rest 0
 unfolding joined
-dividing-begins {p} {w} {n} {ms} {before} {d} {rest} s c e b k i =
+dividing-begins {p} {w} {n} {ms} {held} {d} {rest} s c e b k i =
     record {
       divisible = s;
       cap = c;
       count = e;
       within = zero-le;
       len = omega (arith, s .size);
-      before≡ = b ∙ ap (joined (product4 p w (from-last ms d)) 0) (sym e);
-      before-len = products-length p w (from-last ms d) (length ms) b ∙ omega arith;
+      held≡ = b ∙ ap (joined (kept-from-last p w ms d) 0) (sym e);
+      held-len = kept-length p w ms d (length ms) b ∙ omega arith;
       out≡ = filled-none;
-      word4 = k;
-      inverts = ap (λ (j : ℕ). mul4 p w (product4 p w (from-last ms d) j) (ws rest)) (omega arith) ∙ i;
+      below = k;
+      inverts = ap (λ (j : ℕ). mulM p (productM p (factor-from-last p w ms d) j) rest) (omega arith) ∙ i;
     }
 
-module _ {p w n : ℕ} {ms before d ds : List ℕ} {rest : Ext} {i : ℕ} (s : Dividing p w ms before d n ds rest i) (h : i < n) where
+module _ {p w n : ℕ} {ms held d ds : List ℕ} {rest i : ℕ} (s : Dividing p w ms held d n ds rest i) (h : i < n) where
   pub dividing-part : length (take (4 * i + 4 - 4 * i) (drop (4 * i) ds)) ≡ 4
   dividing-part = part-length ds (4 * i) (4 * i + 4) (omega arith) (omega (arith, s .len)) ∙ omega arith
 
-  module _ {m : ℕ} {x q : Ext} (em : m ≡ at ms i) (ex : ws x ≡ element ds i) (eq : ws q ≡ element before (n - 1 - i)) where
+  module _ {m : ℕ} {x k : Ext} (em : m ≡ at ms i) (ex : ws x ≡ element ds i) (ek : ws k ≡ element held (n - 1 - i)) where
+    abbrev before : ℕ
+    before = productM p (factor-from-last p w ms d) (n - 1 - i)
+
+    back : i ≡ length ms - 1 - (n - 1 - i)
+    back = omega (arith, s .count)
+
     x-is : ws x ≡ element d i
     x-is = ex ∙ element-past i (s .out≡)
 
-    q-is : ws q ≡ product4 p w (from-last ms d) (n - 1 - i)
-    q-is = eq ∙ ap (λ (l : List ℕ). element l (n - 1 - i)) (s .before≡) ∙ element-of (product4 p w (from-last ms d)) n (n - 1 - i) (product-four p w (from-last ms d)) (omega arith)
+    k-is : ws k ≡ kept p w m (ws x) before
+    unfolding kept-from-last
+    k-is =
+        ek ∙ ap (λ (l : List ℕ). element l (n - 1 - i)) (s .held≡) ∙ element-of (kept-from-last p w ms d) n (n - 1 - i) (kept-four p w ms d) (omega arith)
+        ∙ ap (λ (j : ℕ). kept p w (at ms j) (element d j) before) (sym back) ∙ ap₂ (λ (a : ℕ) (b : List ℕ). kept p w a b before) (sym em) (sym x-is)
 
-    pub dividing-step : (m < p) × Word4 p (ws x) × Word4 p (ws q) × (mul4 p w (mul4 p w (ws q) (factor m (ws x))) (ws rest) ≡ one4)
-    unfolding product4 from-last
+    last-is : k .c3 ≡ before
+    last-is = product-kept p w m before (ws x) k k-is
+
+    pub dividing-step : (m < p) × Word4 p (ws x) × Word4 p (ws k) × (ws k ≡ kept p w m (ws x) (k .c3)) × (mulM p (mulM p (k .c3) (k .c2)) rest ≡ 1)
+    unfolding productM factor-from-last
     dividing-step = (
-      subst (λ (k : ℕ). k < p) (sym em) (s .divisible .ms-below i),
+      subst (λ (j : ℕ). j < p) (sym em) (s .divisible .ms-below i),
       subst (Word4 p) (sym x-is) (word-element d i (s .divisible .ds-below)),
-      subst (Word4 p) (sym q-is) (product-word p w (from-last ms d) (n - 1 - i) (s .divisible .certificate)),
-      ap (λ (l : List ℕ). mul4 p w l (ws rest)) (ap₂ (mul4 p w) q-is (ap₂ factor (em ∙ ap (at ms) back) (x-is ∙ ap (element d) back)))
-          ∙ ap (λ (k : ℕ). mul4 p w (product4 p w (from-last ms d) k) (ws rest)) (sym next) ∙ s .inverts,
+      subst (Word4 p) (sym k-is) (kept-word p w (s .divisible .certificate) m (ws x) before (product-below p w (s .divisible .certificate) (factor-from-last p w ms d) (n - 1 - i))),
+      k-is ∙ ap (kept p w m (ws x)) (sym last-is),
+      ap₂ (λ (a b : ℕ). mulM p (mulM p a b) rest) last-is (factor-kept p w m before (ws x) k k-is ∙ ap₂ (factor p w) (em ∙ ap (at ms) back) (x-is ∙ ap (element d) back))
+          ∙ ap (λ (j : ℕ). mulM p (productM p (factor-from-last p w ms d) j) rest) (sym next) ∙ s .inverts,
     )
       where
-        back : i ≡ length ms - 1 - (n - 1 - i)
-        back = omega (arith, s .count)
-
         next : n - i ≡ suc (n - 1 - i)
         next = omega arith
 
-    pub dividing-turn : {rest′ quot : Ext} (ys : List ℕ) → Word4 p (ws rest′) × (mul4 p w (ws q) (ws rest′) ≡ one4) × (ws quot ≡ quotient p w m (ws x)) → ys ≡ ws quot
-        → Dividing p w ms before d n (putMid (4 * i) (4 * i + 4 - 4 * i) ds ys) rest′ (i + 1)
+    pub dividing-turn : {rest′ : ℕ} {quot : Ext} (ys : List ℕ) → (rest′ < p) × (mulM p (k .c3) rest′ ≡ 1) × (ws quot ≡ quotient p w m (ws x)) → ys ≡ ws quot
+        → Dividing p w ms held d n (putMid (4 * i) (4 * i + 4 - 4 * i) ds ys) rest′ (i + 1)
     unfolding quotient-at
-    dividing-turn {rest′} {quot} ys (k, e, eo) ey =
+    dividing-turn {rest′} {quot} ys (l, e, eo) ey =
         record {
           divisible = s .divisible;
           cap = s .cap;
           count = s .count;
           within = omega arith;
           len = grown .len ∙ omega (arith, s .divisible .size, s .count);
-          before≡ = s .before≡;
-          before-len = s .before-len;
-          out≡ = subst (λ (k : ℕ). Filled d (joined (quotient-at p w ms d) 0 (i + 1)) k (putMid (4 * i) (4 * i + 4 - 4 * i) ds ys)) next grown;
-          word4 = k;
-          inverts = ap (λ (l : List ℕ). mul4 p w l (ws rest′)) (ap (product4 p w (from-last ms d)) less ∙ sym q-is) ∙ e;
+          held≡ = s .held≡;
+          held-len = s .held-len;
+          out≡ = subst (λ (j : ℕ). Filled d (joined (quotient-at p w ms d) 0 (i + 1)) j (putMid (4 * i) (4 * i + 4 - 4 * i) ds ys)) next grown;
+          below = l;
+          inverts = ap (λ (j : ℕ). mulM p j rest′) (ap (productM p (factor-from-last p w ms d)) less ∙ sym last-is) ∙ e;
         }
       where
         next : 4 * i + 4 ≡ 4 * (i + 1)
@@ -226,15 +248,15 @@ module _ {p w n : ℕ} {ms before d ds : List ℕ} {rest : Ext} {i : ℕ} (s : D
             filled-part ys (s .out≡) (omega arith) (omega (arith, s .divisible .size, s .count)) (ap length ey ∙ omega arith)
             (joined-one (quotient-at p w ms d) 0 i ∙ ap (λ (y : List ℕ). joined (quotient-at p w ms d) 0 i ++ y) (ap (quotient-at p w ms d) (zero-add i) ∙ sym is))
 
-pub dividing-ends : {p w n : ℕ} {ms before d ds : List ℕ} {rest : Ext} {i : ℕ} → Dividing p w ms before d n ds rest i → n ≤ i → ds ≡ joined (quotient-at p w ms d) 0 (length ms)
+pub dividing-ends : {p w n : ℕ} {ms held d ds : List ℕ} {rest i : ℕ} → Dividing p w ms held d n ds rest i → n ≤ i → ds ≡ joined (quotient-at p w ms d) 0 (length ms)
 dividing-ends {p} {w} {n} {ms} {d = d} {i = i} s h =
     let e : i ≡ length ms = omega (arith, s .within, s .count) in
     filled-whole (s .out≡) (omega (arith, s .divisible .size, s .count)) ∙ ap (joined (quotient-at p w ms d) 0) e
 
--- the first words of an array were lent for the products, and are lent again
-module _ {ys : List ℕ} (d : List ℕ) (p w : ℕ) (f : ℕ → List ℕ) (n : ℕ) (e : ys ≡ joined (product4 p w f) 0 n) where
-  pub again-in : 4 * n ≤ length d → 4 * n ≤ length (putMid 0 (4 * n - 0) d ys)
-  again-in h = simp length-append (omega (arith, products-length p w f n e))
+-- the first words of an array were lent for what is kept, and are lent again
+module _ {ys : List ℕ} (a : List ℕ) (p w : ℕ) (ms ds : List ℕ) (n : ℕ) (e : ys ≡ joined (kept-from-last p w ms ds) 0 n) where
+  pub again-in : 4 * n ≤ length a → 4 * n ≤ length (putMid 0 (4 * n - 0) a ys)
+  again-in h = simp length-append (omega (arith, kept-length p w ms ds n e))
 
-  pub again-is : take (4 * n - 0) (putMid 0 (4 * n - 0) d ys) ≡ joined (product4 p w f) 0 n
-  again-is = let k : 4 * n - 0 ≡ 4 * n = omega arith in rw k (take-at ys (drop (4 * n) d) (4 * n) (products-length p w f n e) ∙ e)
+  pub again-is : take (4 * n - 0) (putMid 0 (4 * n - 0) a ys) ≡ joined (kept-from-last p w ms ds) 0 n
+  again-is = let k : 4 * n - 0 ≡ 4 * n = omega arith in rw k (take-at ys (drop (4 * n) a) (4 * n) (kept-length p w ms ds n e) ∙ e)

@@ -1,12 +1,13 @@
 -- Many quotients at once: multiplicities, and as many denominators of four words each.
 use mathlib.Core.Path.{_≡_}
-use mathlib.Core.Bool.{Bool, cond, _||_}
-use mathlib.Core.List.{List}
-use Prim.Native.Nat.{ℕ, _*_, _-_, _<_}
+use mathlib.Core.Bool.{cond}
+use mathlib.Core.List.{List, [], _∷_}
+use Prim.Native.Nat.{ℕ, zero, suc, _*_, _-_, _<_}
 use lib.Dec.{eqb}
 use lib.ListN.{length}
 use Rattle.field.specs.Modulus.{Modulus, Certificate}
-use Rattle.field.specs.Element.{at, one4, scale4, inverse4, is-zero, element}
+use Rattle.field.specs.Word.{mulM}
+use Rattle.field.specs.Element.{at, scale4, norm2, norm, inverse4, element}
 
 -- m ÷ d, and 0 where d is 0
 unfoldable pub quotient : ℕ → ℕ → ℕ → List ℕ → List ℕ
@@ -16,17 +17,31 @@ quotient p w m d = scale4 p m (inverse4 p w d)
 unfoldable pub quotient-at : ℕ → ℕ → List ℕ → List ℕ → ℕ → List ℕ
 quotient-at p w ms ds i = quotient p w (at ms i) (element ds i)
 
--- a quotient that is 0 whatever the inverse is
-abbrev pub left-out : ℕ → List ℕ → Bool
-left-out m d = eqb m 0 || is-zero d
+-- a number, and 1 for 0
+abbrev pub nonzero : ℕ → ℕ
+nonzero n = cond (eqb n 0) 1 n
 
--- what a denominator gives to the product of all: one where its quotient is 0 without it
-unfoldable pub factor : ℕ → List ℕ → List ℕ
-factor m d = cond (left-out m d) one4 d
+-- what a denominator gives to the product of all: its norm, and 1 where its quotient is 0 without it
+unfoldable pub factor : ℕ → ℕ → ℕ → List ℕ → ℕ
+factor p w m d = cond (eqb m 0) 1 (nonzero (norm p w d))
 
--- the factors in the order in which they come to the product: the last first
-unfoldable pub from-last : List ℕ → List ℕ → ℕ → List ℕ
-from-last ms ds j = factor (at ms (length ms - 1 - j)) (element ds (length ms - 1 - j))
+-- f 0 · .. · f (n - 1)
+unfoldable pub productM : ℕ → (ℕ → ℕ) → ℕ → ℕ
+productM p f zero = 1
+productM p f (suc n) = mulM p (productM p f n) (f n)
+
+-- the four words that are kept of a denominator until all are multiplied: n0 and n1 of a(X)·a(-X) = n0 + n1·X², its factor, and the product
+-- before it
+unfoldable pub kept : ℕ → ℕ → ℕ → List ℕ → ℕ → List ℕ
+kept p w m d product = cond (eqb m 0) 0 (at (norm2 p w d) 0) ∷ cond (eqb m 0) 0 (at (norm2 p w d) 2) ∷ factor p w m d ∷ product ∷ []
+
+-- the denominators come to the product the last first
+module _ (p w : ℕ) (ms ds : List ℕ) where
+  unfoldable pub factor-from-last : ℕ → ℕ
+  factor-from-last j = factor p w (at ms (length ms - 1 - j)) (element ds (length ms - 1 - j))
+
+  unfoldable pub kept-from-last : ℕ → List ℕ
+  kept-from-last j = kept p w (at ms (length ms - 1 - j)) (element ds (length ms - 1 - j)) (productM p factor-from-last j)
 
 -- p, w and the words, as they must be
 pub record Divisible (p w : ℕ) (ms ds : List ℕ) : Type 0 where

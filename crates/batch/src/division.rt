@@ -1,82 +1,91 @@
-// The product of all denominators is inverted, and each single inverse is taken from that one (Montgomery's trick).
+// A quotient by an element is a product with its cofactor and a quotient by its norm, which is a word. The product of all norms is inverted,
+// and each single inverse is taken from that one (Montgomery's trick).
 ghost use mathlib.Core.Path.{_≡_};
 ghost use Prim.Native.Nat.{_<_, _≤_, _*_};
 ghost use lib.ListN.{length};
 ghost use Rattle.lists.specs.Count.{joined};
 ghost use Rattle.field.specs.Modulus.{Modulus, Certificate};
-ghost use Rattle.field.specs.Element.{Word4, one4, mul4, scale4, product4};
+ghost use Rattle.field.specs.Word.{mulM};
+ghost use Rattle.field.specs.Element.{Word4};
 ghost use Rattle.field.specs.Ext.{ws};
-ghost use Rattle.batch.specs.Quotients.{quotient, quotient-at, left-out, factor, from-last, Divisible};
+ghost use Rattle.batch.specs.Quotients.{quotient, quotient-at, nonzero, productM, kept, factor-from-last, kept-from-last, Divisible};
 use field::extension;
 use field::extension::Ext;
+use field::word;
 
-// A quotient, and the inverse of the product without its denominator.
+// A quotient, and the inverse of the product without its factor.
 pub struct Split {
     pub quotient: Ext,
-    pub inverse: Ext,
+    pub inverse: u32,
 }
 
-// Where the quotient is 0, whatever is inverted.
-fn left_out(m: u32, d: Ext) -> bool
-    ensures { λ r. ⌜ r ≡ left-out m (ws d) ⌝ }
+fn nonzero(n: u32) -> u32
+    ensures { λ r. ⌜ r ≡ nonzero n ⌝ }
 {
-    (m == 0) | extension::is_zero(d)
+    if n == 0 { 1 } else { n }
 }
 
-// The product with one denominator more.
-fn times(p: u32, w: u32, product: Ext, m: u32, d: Ext) -> Ext
-    requires { ⌜ Modulus p × (w < p) × Certificate p w × Word4 p (ws product) × Word4 p (ws d) ⌝ }
-    ensures { λ r. ⌜ Word4 p (ws r) × (ws r ≡ mul4 p w (ws product) (factor m (ws d))) ⌝ }
+// What is kept of a denominator, with the product before it. Where the multiplicity is 0 its norm is not needed.
+fn keep(p: u32, w: u32, m: u32, d: Ext, product: u32) -> Ext
+    requires { ⌜ Modulus p × (w < p) × Certificate p w × Word4 p (ws d) ⌝ }
+    ensures { λ r. ⌜ ws r ≡ kept p w m (ws d) product ⌝ }
 {
-    if left_out(m, d) {
-        return product;
+    if m == 0 {
+        return Ext {
+            c0: 0,
+            c1: 0,
+            c2: 1,
+            c3: product,
+        };
     }
-    // The denominator first: w times its words need not wait for the product.
-    extension::mul(p, w, d, product)
+    let x = extension::norm_lo(p, w, d);
+    let y = extension::norm_hi(p, w, d);
+    Ext {
+        c0: x,
+        c1: y,
+        c2: nonzero(extension::norm_of(p, w, d, x, y)),
+        c3: product,
+    }
 }
 
-// The product of all, from the last on; `before` gets each product before its own factor comes to it.
-fn products(p: u32, w: u32, ms: &[u32], ds: &[u32], before: &mut [u32]) -> Ext
-    requires { ⌜ Divisible p w (now ms) (now ds) × (length (now before) ≡ 4 * length (now ms)) ⌝ }
-    ensures { λ r. ⌜ Word4 p (ws r) × (ws r ≡ product4 p w (from-last (now (ms .entry)) (now (ds .entry))) (length (now (ms .entry))))
-        × (now (before .exit) ≡ joined (product4 p w (from-last (now (ms .entry)) (now (ds .entry)))) 0 (length (now (ms .entry)))) ⌝ }
+// The product of all factors, from the last on, and what is kept of each denominator.
+fn products(p: u32, w: u32, ms: &[u32], ds: &[u32], held: &mut [u32]) -> u32
+    requires { ⌜ Divisible p w (now ms) (now ds) × (length (now held) ≡ 4 * length (now ms)) ⌝ }
+    ensures { λ r. ⌜ (r < p) × (r ≡ productM p (factor-from-last p w (now (ms .entry)) (now (ds .entry))) (length (now (ms .entry))))
+        × (now (held .exit) ≡ joined (kept-from-last p w (now (ms .entry)) (now (ds .entry))) 0 (length (now (ms .entry)))) ⌝ }
 {
     let n = ms.len();
-    let mut product = Ext {
-        c0: 1,
-        c1: 0,
-        c2: 0,
-        c3: 0,
-    };
+    let mut product: u32 = 1;
     let mut j = 0;
     while j < n {
-        let at = 4 * j;
-        extension::store(&mut before[at..at + 4], product);
         let i = n - 1 - j;
-        product = times(p, w, product, ms[i], extension::load(ds, i));
+        let k = keep(p, w, ms[i], extension::load(ds, i), product);
+        let at = 4 * j;
+        extension::store(&mut held[at..at + 4], k);
+        product = word::mul(p, product, k.c2);
         j += 1;
     }
     product
 }
 
 // m·a. Most multiplicities are 1, and need no product.
-fn times_count(p: u32, m: u32, a: Ext) -> Ext
-    requires { ⌜ Modulus p × (m < p) × Word4 p (ws a) ⌝ }
-    ensures { λ r. ⌜ ws r ≡ scale4 p m (ws a) ⌝ }
+fn times_count(p: u32, m: u32, a: u32) -> u32
+    requires { ⌜ Modulus p × (m < p) × (a < p) ⌝ }
+    ensures { λ r. ⌜ (r < p) × (r ≡ mulM p m a) ⌝ }
 {
     if m == 1 {
         return a;
     }
-    extension::scale(p, m, a)
+    word::mul(p, m, a)
 }
 
-// m ÷ d and the inverse of q, from the inverse of the product of q and d.
-fn step(p: u32, w: u32, m: u32, d: Ext, q: Ext, inverse: Ext) -> Split
-    requires { ⌜ Modulus p × (w < p) × Certificate p w × (m < p) × Word4 p (ws d) × Word4 p (ws q) × Word4 p (ws inverse)
-        × (mul4 p w (mul4 p w (ws q) (factor m (ws d))) (ws inverse) ≡ one4) ⌝ }
-    ensures { λ r. ⌜ Word4 p (ws (r .inverse)) × (mul4 p w (ws q) (ws (r .inverse)) ≡ one4) × (ws (r .quotient) ≡ quotient p w m (ws d)) ⌝ }
+// m ÷ d and the inverse of the product before d, from what is kept of d and the inverse of the product with it.
+fn step(p: u32, w: u32, m: u32, d: Ext, k: Ext, inverse: u32) -> Split
+    requires { ⌜ Modulus p × (w < p) × Certificate p w × (m < p) × Word4 p (ws d) × Word4 p (ws k) × (inverse < p)
+        × (ws k ≡ kept p w m (ws d) (k .c3)) × (mulM p (mulM p (k .c3) (k .c2)) inverse ≡ 1) ⌝ }
+    ensures { λ r. ⌜ (r .inverse < p) × (mulM p (k .c3) (r .inverse) ≡ 1) × (ws (r .quotient) ≡ quotient p w m (ws d)) ⌝ }
 {
-    if left_out(m, d) {
+    if m == 0 {
         return Split {
             quotient: Ext {
                 c0: 0,
@@ -87,18 +96,18 @@ fn step(p: u32, w: u32, m: u32, d: Ext, q: Ext, inverse: Ext) -> Split
             inverse,
         };
     }
-    // `inverse` is the first factor of both products, so that w times its words is computed once.
+    let t = times_count(p, m, word::mul(p, inverse, k.c3));
     Split {
-        quotient: times_count(p, m, extension::mul(p, w, inverse, q)),
-        inverse: extension::mul(p, w, inverse, d),
+        quotient: extension::cofactor_times(p, w, d, k.c0, k.c1, t),
+        inverse: word::mul(p, inverse, k.c2),
     }
 }
 
-// Each denominator becomes its quotient, from the inverse of their product.
-fn quotients(p: u32, w: u32, ms: &[u32], before: &[u32], inverse: Ext, ds: &mut [u32])
-    requires { ⌜ Divisible p w (now ms) (now ds) × Word4 p (ws inverse)
-        × (now before ≡ joined (product4 p w (from-last (now ms) (now ds))) 0 (length (now ms)))
-        × (mul4 p w (product4 p w (from-last (now ms) (now ds)) (length (now ms))) (ws inverse) ≡ one4) ⌝ }
+// Each denominator becomes its quotient, from the inverse of the product.
+fn quotients(p: u32, w: u32, ms: &[u32], held: &[u32], inverse: u32, ds: &mut [u32])
+    requires { ⌜ Divisible p w (now ms) (now ds) × (inverse < p)
+        × (now held ≡ joined (kept-from-last p w (now ms) (now ds)) 0 (length (now ms)))
+        × (mulM p (productM p (factor-from-last p w (now ms) (now ds)) (length (now ms))) inverse ≡ 1) ⌝ }
     ensures { λ _. ⌜ now (ds .exit) ≡ joined (quotient-at p w (now (ms .entry)) (now (ds .entry))) 0 (length (now (ms .entry))) ⌝ }
 {
     let n = ms.len();
@@ -106,8 +115,8 @@ fn quotients(p: u32, w: u32, ms: &[u32], before: &[u32], inverse: Ext, ds: &mut 
     let mut i = 0;
     while i < n {
         let d = extension::load(ds, i);
-        let q = extension::load(before, n - 1 - i);
-        let s = step(p, w, ms[i], d, q, rest);
+        let k = extension::load(held, n - 1 - i);
+        let s = step(p, w, ms[i], d, k, rest);
         let quotient = s.quotient;
         let at = 4 * i;
         extension::store(&mut ds[at..at + 4], quotient);
@@ -122,8 +131,8 @@ pub fn divide_all(p: u32, w: u32, ms: &[u32], ds: &mut [u32])
     ensures { λ _. ⌜ now (ds .exit) ≡ joined (quotient-at p w (now (ms .entry)) (now (ds .entry))) 0 (length (now (ms .entry))) ⌝ }
 {
     let end = 4 * ms.len();
-    let mut before = [0u32; 1024];
-    let product = products(p, w, ms, ds, &mut before[0..end]);
-    let inverse = extension::inv(p, w, product);
-    quotients(p, w, ms, &before[0..end], inverse, ds);
+    let mut held = [0u32; 1024];
+    let product = products(p, w, ms, ds, &mut held[0..end]);
+    let inverse = word::inv(p, product);
+    quotients(p, w, ms, &held[0..end], inverse, ds);
 }

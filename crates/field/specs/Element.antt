@@ -79,9 +79,13 @@ norm2 p w a = mul4 p w a (conjugate p a)
 unfoldable pub norm : ℕ → ℕ → List ℕ → ℕ
 norm p w a = at (mul4 p w (norm2 p w a) (conjugate2 p (norm2 p w a))) 0
 
--- 1 ÷ a = a(-X)·(n0 - n1·X²) ÷ norm, 0 where a is 0
+-- a(-X)·(n0 - n1·X²): its product with a is the norm
+abbrev pub cofactor : ℕ → ℕ → List ℕ → List ℕ
+cofactor p w a = mul4 p w (conjugate p a) (conjugate2 p (norm2 p w a))
+
+-- 1 ÷ a = cofactor ÷ norm, 0 where a is 0
 unfoldable pub inverse4 : ℕ → ℕ → List ℕ → List ℕ
-inverse4 p w a = mul4 p w (mul4 p w (conjugate p a) (conjugate2 p (norm2 p w a))) (lift (inverse1 p (norm p w a)))
+inverse4 p w a = mul4 p w (cofactor p w a) (lift (inverse1 p (norm p w a)))
 
 unfoldable pub is-zero : List ℕ → Bool
 is-zero a = eqb (at a 0) 0 && eqb (at a 1) 0 && eqb (at a 2) 0 && eqb (at a 3) 0

@@ -4,8 +4,7 @@ ghost use mathlib.Core.Path.{_≡_};
 ghost use Prim.Native.Nat.{_<_, _≤_, _+_, _*_};
 ghost use lib.ListN.{length};
 ghost use Rattle.field.specs.Modulus.{Modulus, Certificate};
-ghost use Rattle.field.specs.Word.{inverse1};
-ghost use Rattle.field.specs.Element.{at, Word4, add4, sub4, neg4, mul4, scale4, power4, norm2, norm, inverse4, is-zero, same4, element};
+ghost use Rattle.field.specs.Element.{at, Word4, add4, sub4, neg4, mul4, scale4, power4, norm2, norm, cofactor, lift, inverse4, is-zero, same4, element};
 ghost use Rattle.field.specs.Ext.{ws};
 
 pub struct Ext {
@@ -99,44 +98,39 @@ pub fn power(p: u32, w: u32, b: Ext, n: u32) -> Ext
     r
 }
 
-// The first and the third word of a(X)·a(-X) = n0 + n1·X².
-fn norm_lo(p: u32, w: u32, a: Ext) -> u32
+// The first and the third word of a(X)·a(-X) = n0 + n1·X². The minus signs are in the factors, so that each is one sum of four products.
+pub fn norm_lo(p: u32, w: u32, a: Ext) -> u32
     requires { ⌜ Modulus p × (w < p) × Certificate p w × Word4 p (ws a) ⌝ }
     ensures { λ r. ⌜ (r < p) × (r ≡ at (norm2 p w (ws a)) 0) ⌝ }
 {
     let v1 = word::mul(p, w, a.c1);
     let v2 = word::mul(p, w, a.c2);
-    word::sub(
-        p,
-        word::dot2(p, a.c0, a.c0, v2, a.c2),
-        word::dot2(p, v1, a.c3, v1, a.c3),
-    )
+    let minus3 = word::neg(p, a.c3);
+    word::dot4(p, a.c0, a.c0, v2, a.c2, v1, minus3, v1, minus3)
 }
 
-fn norm_hi(p: u32, w: u32, a: Ext) -> u32
+pub fn norm_hi(p: u32, w: u32, a: Ext) -> u32
     requires { ⌜ Modulus p × (w < p) × Certificate p w × Word4 p (ws a) ⌝ }
     ensures { λ r. ⌜ (r < p) × (r ≡ at (norm2 p w (ws a)) 2) ⌝ }
 {
     let v3 = word::mul(p, w, a.c3);
-    word::sub(
-        p,
-        word::dot2(p, a.c0, a.c2, a.c0, a.c2),
-        word::dot2(p, a.c1, a.c1, v3, a.c3),
-    )
+    let minus1 = word::neg(p, a.c1);
+    let minus3 = word::neg(p, a.c3);
+    word::dot4(p, a.c0, a.c2, a.c0, a.c2, a.c1, minus1, v3, minus3)
 }
 
 // The norm, from these two words.
-fn norm_of(p: u32, w: u32, a: Ext, x: u32, y: u32) -> u32
+pub fn norm_of(p: u32, w: u32, a: Ext, x: u32, y: u32) -> u32
     requires { ⌜ Modulus p × (w < p) × Certificate p w × (x < p) × (y < p) × (x ≡ at (norm2 p w (ws a)) 0) × (y ≡ at (norm2 p w (ws a)) 2) ⌝ }
     ensures { λ r. ⌜ (r < p) × (r ≡ norm p w (ws a)) ⌝ }
 {
-    word::sub(p, word::mul(p, x, x), word::mul(p, word::mul(p, w, y), y))
+    word::dot2(p, x, x, word::mul(p, w, y), word::neg(p, y))
 }
 
-// The inverse, from these two words and the inverse of the norm.
-fn inv_by(p: u32, w: u32, a: Ext, x: u32, y: u32, i: u32) -> Ext
-    requires { ⌜ Modulus p × (w < p) × Certificate p w × Word4 p (ws a) × (x < p) × (y < p) × (i < p) × (x ≡ at (norm2 p w (ws a)) 0) × (y ≡ at (norm2 p w (ws a)) 2) × (i ≡ inverse1 p (norm p w (ws a))) ⌝ }
-    ensures { λ r. ⌜ Word4 p (ws r) × (ws r ≡ inverse4 p w (ws a)) ⌝ }
+// The cofactor times i, from these two words.
+pub fn cofactor_times(p: u32, w: u32, a: Ext, x: u32, y: u32, i: u32) -> Ext
+    requires { ⌜ Modulus p × (w < p) × Certificate p w × Word4 p (ws a) × (x < p) × (y < p) × (i < p) × (x ≡ at (norm2 p w (ws a)) 0) × (y ≡ at (norm2 p w (ws a)) 2) ⌝ }
+    ensures { λ r. ⌜ Word4 p (ws r) × (ws r ≡ mul4 p w (cofactor p w (ws a)) (lift i)) ⌝ }
 {
     let e0 = word::mul(p, x, i);
     let e1 = word::mul(p, word::neg(p, y), i);
@@ -161,7 +155,7 @@ pub fn inv(p: u32, w: u32, a: Ext) -> Ext
     let y = norm_hi(p, w, a);
     let m = norm_of(p, w, a, x, y);
     let i = word::inv(p, m);
-    inv_by(p, w, a, x, y, i)
+    cofactor_times(p, w, a, x, y, i)
 }
 
 pub fn is_zero(a: Ext) -> bool

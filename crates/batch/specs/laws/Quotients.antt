@@ -1,21 +1,45 @@
--- The product of all factors has an inverse, and from it each factor's inverse is had (Montgomery's trick).
-use mathlib.Core.Path.{_≡_, refl, sym, ap, _∙_}
-use mathlib.Core.Bool.{Bool, true, false, cond, _||_, true≢false}
+-- The product of all factors has an inverse, and from it each factor's inverse is had (Montgomery's trick); an element's quotient is had from
+-- the inverse of its norm.
+use mathlib.Core.Path.{_≡_, refl, sym, ap, ap₂, _∙_}
+use mathlib.Core.Logic.{_≢_}
+use mathlib.Core.Bool.{Bool, true, false, cond, true≢false}
 use mathlib.Core.List.{List, [], _∷_}
-use Prim.Native.Nat.{ℕ, zero, suc, _*_, _-_, _%_}
-use native.Mathlib.Nat.{zero-mod, mul-zero, zero-mul}
+use Prim.Native.Nat.{ℕ, zero, suc, _*_, _-_, _%_, _<_}
+use native.Mathlib.Nat.{mod-lt, mod-eq-of-lt, zero-mod, mul-zero, zero-mul, pos-of-ne-zero}
+use native.Mathlib.Omega.{arith}
 use lib.Dec.{T, eqb, eqb→eq}
 use lib.ListN.{length}
-use Rattle.algebra.specs.laws.Solve.{O, X, _⊗_, solve}
-use Rattle.lists.specs.laws.Count.{and-left, and-right, of-true, eq-of-eqb}
+use Rattle.algebra.specs.laws.Remainder.{mul-mod-mod, mod-mul-mod}
+use Rattle.lists.specs.laws.Count.{and-left, and-right, of-true, eqb-true, eqb-false, eq-of-eqb, ne-of-eqb}
 use Rattle.field.specs.Modulus.{Modulus, Certificate}
-use Rattle.field.specs.Element.{at, Word4, zero4, one4, mul4, scale4, product4, inverse4, is-zero, element}
-use Rattle.field.specs.laws.Extension.{K, h}
-use Rattle.field.specs.laws.Homomorphism.{KEl, el, el-mul, el-same}
-use Rattle.field.specs.laws.Element.{word-mul4, word-lift, mul4-assoc, mul4-comm, mul4-one}
-use Rattle.field.specs.laws.Norm.{NonZero4, inverse4-ok, inverse4-unique, inverse4-zero}
-use Rattle.field.specs.laws.Slice.{word-element}
-use Rattle.batch.specs.Quotients.{quotient, left-out, factor, from-last, Divisible}
+use Rattle.field.specs.Word.{mulM, inverse1}
+use Rattle.field.specs.Element.{at, Word4, lift, zero4, mul4, scale4, conjugate, norm2, norm, cofactor, inverse4, is-zero, element}
+use Rattle.field.specs.laws.Ring.{one≢zero}
+use Rattle.field.specs.laws.Extension.{h}
+use Rattle.field.specs.laws.Homomorphism.{el-same}
+use Rattle.field.specs.laws.Element.{word-lift, word-mul4}
+use Rattle.field.specs.laws.Inverse.{inverse1-ok, inverse1-unique}
+use Rattle.field.specs.laws.Norm.{NonZero4, norm-nonzero, norm-below, cofactor-zero, inverse4-zero, quotient-by}
+use Rattle.batch.specs.Quotients.{quotient, nonzero, factor, productM, kept, factor-from-last}
+
+-- products modulo p, in another order
+triple : (a b c p : ℕ) → mulM p (mulM p a b) c ≡ (a * b * c) % p
+triple a b c p = mod-mul-mod (a * b) c p
+
+triple-right : (a b c p : ℕ) → mulM p a (mulM p b c) ≡ (a * (b * c)) % p
+triple-right a b c p = mul-mod-mod a (b * c) p
+
+-- v inverts the product of q and f: then v·q inverts f
+inverts-own : (q f v p : ℕ) → mulM p (mulM p q f) v ≡ 1 → mulM p f (mulM p v q) ≡ 1
+inverts-own q f v p e = triple-right f v q p ∙ ap (λ (n : ℕ). n % p) (omega arith) ∙ sym (triple q f v p) ∙ e
+
+-- and v·f inverts q
+pub inverts-rest : (q f v p : ℕ) → mulM p (mulM p q f) v ≡ 1 → mulM p q (mulM p v f) ≡ 1
+inverts-rest q f v p e = triple-right q v f p ∙ ap (λ (n : ℕ). n % p) (omega arith) ∙ sym (triple q f v p) ∙ e
+
+-- a factor of 1 changes nothing
+pub inverts-same : (q v p : ℕ) → mulM p (mulM p q 1) v ≡ 1 → mulM p q v ≡ 1
+inverts-same q v p e = ap (λ (n : ℕ). n % p) (omega arith) ∙ sym (triple q 1 v p) ∙ e
 
 is-zero-zero : is-zero zero4 ≡ true
 unfolding is-zero
@@ -42,96 +66,138 @@ zero-scale p a = λ j. nil (at a 0) j ∷ nil (at a 1) j ∷ nil (at a 2) j ∷ 
     nil : (n : ℕ) → (0 * n) % p ≡ 0
     nil n = ap (λ (k : ℕ). k % p) (zero-mul n) ∙ zero-mod p
 
+-- a quotient of 0 is 0
+pub quotient-none : (p w m : ℕ) (d : List ℕ) → m ≡ 0 → zero4 ≡ quotient p w m d
+unfolding quotient
+quotient-none p w m d e = sym (zero-scale p (inverse4 p w d)) ∙ ap (λ (n : ℕ). scale4 p n (inverse4 p w d)) (sym e)
+
+-- what is kept of a denominator that is needed
+pub kept-in : (p w m : ℕ) (d : List ℕ) (q : ℕ) → m ≢ 0 → kept p w m d q ≡ at (norm2 p w d) 0 ∷ at (norm2 p w d) 2 ∷ nonzero (norm p w d) ∷ q ∷ []
+unfolding kept factor
+kept-in p w m d q n = ap (λ (b : Bool). cond b 0 (at (norm2 p w d) 0) ∷ cond b 0 (at (norm2 p w d) 2) ∷ cond b 1 (nonzero (norm p w d)) ∷ q ∷ []) (eqb-false n)
+
+-- and of one that is not
+pub kept-out : (p w m : ℕ) (d : List ℕ) (q : ℕ) → m ≡ 0 → kept p w m d q ≡ 0 ∷ 0 ∷ 1 ∷ q ∷ []
+unfolding kept factor
+kept-out p w m d q e = ap (λ (b : Bool). cond b 0 (at (norm2 p w d) 0) ∷ cond b 0 (at (norm2 p w d) 2) ∷ cond b 1 (nonzero (norm p w d)) ∷ q ∷ []) (eqb-true e)
+
+pub kept-factor : (p w m : ℕ) (d : List ℕ) (q : ℕ) → at (kept p w m d q) 2 ≡ factor p w m d
+unfolding kept
+kept-factor p w m d q = refl
+
+pub kept-product : (p w m : ℕ) (d : List ℕ) (q : ℕ) → at (kept p w m d q) 3 ≡ q
+unfolding kept
+kept-product p w m d q = refl
+
+cond-below : (b : Bool) {x y n : ℕ} → x < n → y < n → cond b x y < n
+cond-below true h k = h
+cond-below false h k = k
+
 module _ (p w : ℕ) (C : Certificate p w) where
+  pub one-below : 1 < p
+  one-below = C .prime .big
+
+  pub factor-below : (m : ℕ) (d : List ℕ) → factor p w m d < p
+  unfolding factor
+  factor-below m d = cond-below (eqb m 0) one-below (cond-below (eqb (norm p w d) 0) one-below (norm-below p w C d))
+
+  pub kept-word : (m : ℕ) (d : List ℕ) (q : ℕ) → q < p → Word4 p (kept p w m d q)
+  unfolding kept norm2
+  kept-word m d q l =
+      let n : Word4 p (norm2 p w d) = word-mul4 p (h p w C) w d (conjugate p d) in
+      record { w0 = cond-below (eqb m 0) (h p w C) (n .w0); w1 = cond-below (eqb m 0) (h p w C) (n .w2); w2 = factor-below m d; w3 = l }
+
+  pub product-below : (f : ℕ → ℕ) (n : ℕ) → productM p f n < p
+  unfolding productM
+  product-below f zero = one-below
+  product-below f (suc n) = mod-lt _ (h p w C)
+
   -- four words that are not all 0
-  nonzero : (a0 a1 a2 a3 : ℕ) → Word4 p (a0 ∷ a1 ∷ a2 ∷ a3 ∷ []) → is-zero (a0 ∷ a1 ∷ a2 ∷ a3 ∷ []) ≡ false → NonZero4 p w C (a0 ∷ a1 ∷ a2 ∷ a3 ∷ [])
-  nonzero a0 a1 a2 a3 k e n =
+  some-word : (a0 a1 a2 a3 : ℕ) → Word4 p (a0 ∷ a1 ∷ a2 ∷ a3 ∷ []) → is-zero (a0 ∷ a1 ∷ a2 ∷ a3 ∷ []) ≡ false → NonZero4 p w C (a0 ∷ a1 ∷ a2 ∷ a3 ∷ [])
+  some-word a0 a1 a2 a3 k e n =
       true≢false (sym (ap is-zero (el-same p w C (a0 ∷ a1 ∷ a2 ∷ a3 ∷ []) zero4 k (word-lift p (h p w C) 0 (h p w C)) n) ∙ is-zero-zero) ∙ e)
 
-  -- what has an inverse is not 0
-  inverted : (a b : List ℕ) → mul4 p w a b ≡ one4 → NonZero4 p w C a
-  inverted a b e z =
-      K p w C .u≢z (sym (ap (el p w C) e) ∙ el-mul p w C a b ∙ ap (λ (x : KEl p w C). K p w C .ring .mul x (el p w C b)) z ∙ zero-times (el p w C b))
+  -- an element whose norm is 0 is 0
+  norm-zero : (a0 a1 a2 a3 : ℕ) → Word4 p (a0 ∷ a1 ∷ a2 ∷ a3 ∷ []) → norm p w (a0 ∷ a1 ∷ a2 ∷ a3 ∷ []) ≡ 0 → a0 ∷ a1 ∷ a2 ∷ a3 ∷ [] ≡ zero4
+  norm-zero a0 a1 a2 a3 k e = go (is-zero a) refl
     where
-      zero-times : (x : KEl p w C) → K p w C .ring .mul (K p w C .ring .z) x ≡ K p w C .ring .z
-      zero-times x = solve (K p w C .ring) (x ∷ []) (O ⊗ X 0) O tt
+      a : List ℕ
+      a = a0 ∷ a1 ∷ a2 ∷ a3 ∷ []
 
-  -- v inverts the product of q and d: then q·v inverts d
-  inverts-last : (q d v : List ℕ) → mul4 p w (mul4 p w q d) v ≡ one4 → mul4 p w d (mul4 p w q v) ≡ one4
-  inverts-last q d v e = sym (mul4-assoc p w C d q v) ∙ ap (λ (x : List ℕ). mul4 p w x v) (mul4-comm p w C d q) ∙ e
+      go : (b : Bool) → is-zero a ≡ b → a ≡ zero4
+      go true t = zeros a0 a1 a2 a3 (of-true t)
+      go false t = absurd (norm-nonzero p w C a (some-word a0 a1 a2 a3 k t) e)
 
-  -- and d·v inverts q
-  pub inverts-rest : (q d v : List ℕ) → mul4 p w (mul4 p w q d) v ≡ one4 → mul4 p w q (mul4 p w d v) ≡ one4
-  inverts-rest q d v e = sym (mul4-assoc p w C q d v) ∙ e
-
-  -- so the inverse of d is q·v
-  pub last-inverse : (q d v : List ℕ) → Modulus p → mul4 p w (mul4 p w q d) v ≡ one4 → mul4 p w q v ≡ inverse4 p w d
-  unfolding mul4
-  last-inverse q d v m e =
-      let i : mul4 p w d (mul4 p w q v) ≡ one4 = inverts-last q d v e in
-      inverse4-unique p w C m d _ _ _ _ (word-mul4 p (h p w C) w q v) (inverted d (mul4 p w q v) i) i
-
-  one-one : mul4 p w one4 one4 ≡ one4
-  one-one = mul4-one p w C 1 0 0 0 (word-lift p (h p w C) 1 (C .prime .big))
-
-  -- a product of two that have inverses has one
-  product-inverted : (a b u v : List ℕ) → mul4 p w a u ≡ one4 → mul4 p w b v ≡ one4 → mul4 p w (mul4 p w a b) (mul4 p w u v) ≡ one4
-  product-inverted a b u v e f =
-      mul4-assoc p w C a b (mul4 p w u v)
-      ∙ ap (mul4 p w a) (sym (mul4-assoc p w C b u v) ∙ ap (λ (x : List ℕ). mul4 p w x v) (mul4-comm p w C b u) ∙ mul4-assoc p w C u b v ∙ ap (mul4 p w u) f)
-      ∙ sym (mul4-assoc p w C a u one4) ∙ ap (λ (x : List ℕ). mul4 p w x one4) e ∙ one-one
-
-  -- every factor has an inverse
-  factor-inverted : (m d0 d1 d2 d3 : ℕ) → Modulus p → Word4 p (d0 ∷ d1 ∷ d2 ∷ d3 ∷ []) → (v : List ℕ) × (mul4 p w (factor m (d0 ∷ d1 ∷ d2 ∷ d3 ∷ [])) v ≡ one4)
-  unfolding factor
-  factor-inverted m d0 d1 d2 d3 o k = go (eqb m 0) (is-zero d) refl
+  -- v inverts the product of q and the factor of d: then m·v·q is m ÷ norm, and the cofactor times it is m ÷ d
+  pub quotient-in : (d0 d1 d2 d3 m q f v t : ℕ) → Modulus p → Word4 p (d0 ∷ d1 ∷ d2 ∷ d3 ∷ []) → f ≡ nonzero (norm p w (d0 ∷ d1 ∷ d2 ∷ d3 ∷ []))
+      → mulM p (mulM p q f) v ≡ 1 → t ≡ mulM p m (mulM p v q) → mul4 p w (cofactor p w (d0 ∷ d1 ∷ d2 ∷ d3 ∷ [])) (lift t) ≡ quotient p w m (d0 ∷ d1 ∷ d2 ∷ d3 ∷ [])
+  unfolding quotient
+  quotient-in d0 d1 d2 d3 m q f v t o k ef ev et = go (eqb n 0) refl
     where
       d : List ℕ
       d = d0 ∷ d1 ∷ d2 ∷ d3 ∷ []
 
-      go : (a b : Bool) → is-zero d ≡ b → (v : List ℕ) × (mul4 p w (cond (a || b) one4 d) v ≡ one4)
-      go true b e = (one4, one-one)
-      go false true e = (one4, one-one)
-      go false false e = (inverse4 p w d, inverse4-ok p w C o d (nonzero d0 d1 d2 d3 k e))
+      n : ℕ
+      n = norm p w d
 
-  products-inverted : (f : ℕ → List ℕ) (n : ℕ) → ((j : ℕ) → (v : List ℕ) × (mul4 p w (f j) v ≡ one4)) → (v : List ℕ) × (mul4 p w (product4 p w f n) v ≡ one4)
-  unfolding product4
-  products-inverted f zero e = (one4, one-one)
-  products-inverted f (suc n) e =
-      let (u, a) = products-inverted f n e in
-      let (v, b) = e n in
-      (mul4 p w u v, product-inverted (product4 p w f n) (f n) u v a b)
+      go : (b : Bool) → eqb n 0 ≡ b → mul4 p w (cofactor p w d) (lift t) ≡ scale4 p m (inverse4 p w d)
+      go true e =
+          let z : d ≡ zero4 = norm-zero d0 d1 d2 d3 k (eq-of-eqb n 0 e) in
+          ap (λ (x : List ℕ). mul4 p w (cofactor p w x) (lift t)) z ∙ cofactor-zero p w C t
+          ∙ sym (ap (λ (x : List ℕ). scale4 p m (inverse4 p w x)) z ∙ ap (scale4 p m) (inverse4-zero p w C) ∙ scale-zero p m)
+      go false e =
+          let is : f ≡ n = ef ∙ ap (λ (b : Bool). cond b 1 n) e in
+          let own : mulM p v q ≡ inverse1 p n =
+          inverse1-unique p o (C .prime) n (mulM p v q) (pos-of-ne-zero (ne-of-eqb n 0 e)) (norm-below p w C d) (mod-lt _ (h p w C))
+          (inverts-own q n v p (ap (λ (x : ℕ). mulM p (mulM p q x) v) (sym is) ∙ ev)) in
+          quotient-by p w C d m t (et ∙ ap (mulM p m) own)
 
-  -- the product of all has an inverse, and the definition's inverse is one
-  pub all-inverted : {ms ds product : List ℕ} → Divisible p w ms ds → product ≡ product4 p w (from-last ms ds) (length ms)
-      → mul4 p w (product4 p w (from-last ms ds) (length ms)) (inverse4 p w product) ≡ one4
-  unfolding from-last element
-  all-inverted {ms} {ds} {product} s e =
-      let all = product4 p w (from-last ms ds) (length ms) in
-      let (v, i) = products-inverted (from-last ms ds) (length ms) (λ j. factor-inverted (at ms (length ms - 1 - j)) _ _ _ _ (s .modulus) (word-element ds (length ms - 1 - j) (s .ds-below))) in
-      ap (λ (x : List ℕ). mul4 p w all (inverse4 p w x)) e ∙ inverse4-ok p w C (s .modulus) all (inverted all v i)
+  -- words that are not 0 have a product that is not 0
+  module _ (o : Modulus p) where
+    one-product : mulM p 1 1 ≡ 1
+    one-product = mod-eq-of-lt one-below
 
-  pub factor-out : (m : ℕ) (d : List ℕ) → left-out m d ≡ true → factor m d ≡ one4
-  unfolding factor
-  factor-out m d e = ap (λ (b : Bool). cond b one4 d) e
+    product-pos : (a b : ℕ) → (0 < a) × (a < p) → (0 < b) × (b < p) → 0 < mulM p a b
+    product-pos a b (a0, al) (b0, bl) =
+        pos-of-ne-zero
+        (λ z.
+        one≢zero
+        (sym
+        (swap ∙ ap₂ (mulM p) (inverse1-ok p o (C .prime) a a0 al) (inverse1-ok p o (C .prime) b b0 bl) ∙ one-product)
+        ∙ ap (λ (n : ℕ). mulM p n (mulM p x y)) z ∙ ap (λ (n : ℕ). n % p) (zero-mul (mulM p x y)) ∙ zero-mod p))
+      where
+        x : ℕ
+        x = inverse1 p a
 
-  pub factor-in : (m : ℕ) (d : List ℕ) → left-out m d ≡ false → factor m d ≡ d
-  unfolding factor
-  factor-in m d e = ap (λ (b : Bool). cond b one4 d) e
+        y : ℕ
+        y = inverse1 p b
 
-  -- a quotient that is left out is 0
-  pub quotient-out : (m d0 d1 d2 d3 : ℕ) → left-out m (d0 ∷ d1 ∷ d2 ∷ d3 ∷ []) ≡ true → zero4 ≡ quotient p w m (d0 ∷ d1 ∷ d2 ∷ d3 ∷ [])
-  unfolding quotient
-  quotient-out m d0 d1 d2 d3 t = go (eqb m 0) (is-zero d) refl refl t
-    where
-      d : List ℕ
-      d = d0 ∷ d1 ∷ d2 ∷ d3 ∷ []
+        swap : mulM p (mulM p a b) (mulM p x y) ≡ mulM p (mulM p a x) (mulM p b y)
+        swap =
+            triple a b (mulM p x y) p ∙ mul-mod-mod (a * b) (x * y) p ∙ ap (λ (n : ℕ). n % p) (omega arith)
+            ∙ sym (triple a x (mulM p b y) p ∙ mul-mod-mod (a * x) (b * y) p)
 
-      go : (a b : Bool) → eqb m 0 ≡ a → is-zero d ≡ b → (a || b) ≡ true → zero4 ≡ scale4 p m (inverse4 p w d)
-      go true b e f k = sym (zero-scale p (inverse4 p w d)) ∙ ap (λ (n : ℕ). scale4 p n (inverse4 p w d)) (sym (eq-of-eqb m 0 e))
-      go false true e f k = sym (scale-zero p m) ∙ ap (scale4 p m) (sym (inverse4-zero p w C) ∙ ap (inverse4 p w) (sym (zeros d0 d1 d2 d3 (of-true f))))
-      go false false e f k = absurd (true≢false (sym k))
+    factor-pos : (m : ℕ) (d : List ℕ) → 0 < factor p w m d
+    unfolding factor
+    factor-pos m d = go (eqb m 0) (eqb (norm p w d) 0) refl
+      where
+        go : (a b : Bool) → eqb (norm p w d) 0 ≡ b → 0 < cond a 1 (cond b 1 (norm p w d))
+        go true b e = omega arith
+        go false true e = omega arith
+        go false false e = pos-of-ne-zero (ne-of-eqb (norm p w d) 0 e)
 
-  pub quotient-in : (q d v : List ℕ) (m : ℕ) → Modulus p → mul4 p w (mul4 p w q d) v ≡ one4 → scale4 p m (mul4 p w q v) ≡ quotient p w m d
-  unfolding quotient
-  quotient-in q d v m o e = ap (scale4 p m) (last-inverse q d v o e)
+    products-pos : (f : ℕ → ℕ) (n : ℕ) → ((j : ℕ) → (0 < f j) × (f j < p)) → 0 < productM p f n
+    unfolding productM
+    products-pos f zero e = omega arith
+    products-pos f (suc n) e = product-pos (productM p f n) (f n) (products-pos f n e, product-below f n) (e n)
+
+    -- the product of all has an inverse
+    pub all-inverted : (ms ds : List ℕ) (product : ℕ) → product ≡ productM p (factor-from-last p w ms ds) (length ms)
+        → mulM p (productM p (factor-from-last p w ms ds) (length ms)) (inverse1 p product) ≡ 1
+    unfolding factor-from-last
+    all-inverted ms ds product e =
+        let f : ℕ → ℕ = factor-from-last p w ms ds in
+        ap (λ (n : ℕ). mulM p (productM p f (length ms)) (inverse1 p n)) e
+        ∙ inverse1-ok p o (C .prime) (productM p f (length ms))
+        (products-pos f (length ms) (λ j. (factor-pos (at ms (length ms - 1 - j)) (element ds (length ms - 1 - j)), factor-below (at ms (length ms - 1 - j)) (element ds (length ms - 1 - j)))))
+        (product-below f (length ms))

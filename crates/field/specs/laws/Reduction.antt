@@ -4,9 +4,9 @@ use mathlib.Core.Path.{_≡_, sym, ap, _∙_}
 use mathlib.Core.List.{List, [], _∷_}
 use Prim.Native.Nat.{ℕ, zero, suc, _+_, _*_, _-_, _<_, _≤_, _%_, _/_}
 use native.Mathlib.Omega.{arith}
-use native.Mathlib.Nat.{mod-eq-of-lt, mod-eq-sub-mod, mod-self, zero-mod, mul-le-mul, add-mod-mod, add-mod-right, div-add-mod, div-le-self, add-mul-mod-self-left, mod-lt, mul-assoc, lt-trans}
+use native.Mathlib.Nat.{mod-eq-of-lt, mod-eq-sub-mod, mod-self, zero-mod, mul-le-mul, add-mod, add-mod-mod, add-mod-right, div-add-mod, div-le-self, add-mul-mod-self-left, mod-lt, mul-assoc, lt-trans}
 use Rattle.algebra.specs.laws.Remainder.{mul-mod-mod, mod-mul-mod}
-use Rattle.field.specs.Word.{subM, mulM, negM}
+use Rattle.field.specs.Word.{addM, subM, mulM, negM}
 use Rattle.field.specs.Element.{at, mul4}
 use Rattle.field.specs.Modulus.{Modulus}
 
@@ -60,6 +60,12 @@ fold1 p w x s t =
 
 abbrev pub dot : ℕ → ℕ → ℕ → ℕ → ℕ → ℕ → ℕ → ℕ → ℕ → ℕ
 dot p a b c d e f g h = (a * b + c * d + e * f + g * h) % p
+
+-- the same by operations modulo p
+pub dot-sums : (p a b c d e f g h : ℕ) → dot p a b c d e f g h ≡ addM p (addM p (addM p (mulM p a b) (mulM p c d)) (mulM p e f)) (mulM p g h)
+dot-sums p a b c d e f g h =
+    add-mod (a * b + c * d + e * f) (g * h) p
+    ∙ ap (λ (n : ℕ). addM p n (mulM p g h)) (add-mod (a * b + c * d) (e * f) p ∙ ap (λ (n : ℕ). addM p n (mulM p e f)) (add-mod (a * b) (c * d) p))
 
 -- the product by four sums of four products
 pub mul4-by : (p w : ℕ) (a b : List ℕ) (w1 w2 w3 c0 c1 c2 c3 : ℕ)

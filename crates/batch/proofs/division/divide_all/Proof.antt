@@ -1,9 +1,9 @@
-use Rattle.batch.proofs.Dividing.{again-in, again-is}
-use Rattle.batch.specs.laws.Quotients.{all-inverted}
-use Rattle.field.specs.Element.{mul4}
-use lib.ListN.{replicate}
-use native.Mathlib.Omega.{arith}
 use mathlib.Core.Path.{ap, _∙_}
+use native.Mathlib.Omega.{arith}
+use lib.ListN.{replicate}
+use Rattle.field.specs.Word.{mulM}
+use Rattle.batch.specs.laws.Quotients.{all-inverted}
+use Rattle.batch.proofs.Dividing.{again-in, again-is}
 use borrow.Author.Needs.{needs}
 use Rattle.batch.proofs.division.divide_all.Statement.{statement}
 use Rattle.batch.proofs.division.divide_all.Tie as tie
@@ -14,11 +14,11 @@ mul-end c = search needs
 sub-products : tie.Need-sub-products
 sub-products c = search needs
 
-part-before-start : tie.Need-part-before-start
-part-before-start c = search needs
+part-held-start : tie.Need-part-held-start
+part-held-start c = search needs
 
-part-before-end : tie.Need-part-before-end
-part-before-end c = search needs
+part-held-end : tie.Need-part-held-end
+part-held-end c = search needs
 
 products-requires : tie.Need-products-requires
 products-requires c κs = search needs
@@ -33,10 +33,10 @@ part-quotients-start : tie.Need-part-quotients-start
 part-quotients-start c = search needs
 
 part-quotients-end : tie.Need-part-quotients-end
-part-quotients-end c = again-in (replicate 1024 0) _ _ _ _ (c .before .before .before .products .ensures .2) (omega (arith, c .before .before .before .before .before .before .before .before .pre .1))
+part-quotients-end c = again-in (replicate 1024 0) _ _ _ _ _ (c .before .before .before .products .ensures .2) (omega (arith, c .before .before .before .before .before .before .before .before .pre .1))
 
 quotients-requires : tie.Need-quotients-requires
-quotients-requires c κs = (c .before .before .before .before .before .before .before .before .before .before .pre .0, c .before .before .before .inv .ensures .0, again-is (replicate 1024 0) _ _ _ _ (c .before .before .before .before .before .products .ensures .2), ap (mul4 _ _ _) (c .before .before .before .inv .ensures .1) ∙ all-inverted _ _ (c .before .before .before .before .before .before .before .before .before .before .pre .0 .certificate) (c .before .before .before .before .before .before .before .before .before .before .pre .0) (c .before .before .before .before .before .products .ensures .1))
+quotients-requires c κs = let t = c .before .before .before .before .before .before .before .before .before .before .pre .0 in let r = c .before .before .before .before .before .products in let v = c .before .before .before .inv in (t, v .ensures .0, again-is (replicate 1024 0) _ _ _ _ _ (r .ensures .2), ap (mulM _ _) (v .ensures .1) ∙ all-inverted _ _ (t .certificate) (t .modulus) _ _ _ (r .ensures .1))
 
 same-length : tie.Need-same-length
 same-length c = search needs
@@ -50,8 +50,8 @@ divide-all-spec =
     (tie.spec
     mul-end
     sub-products
-    part-before-start
-    part-before-end
+    part-held-start
+    part-held-end
     products-requires
     inv-requires
     sub-quotients

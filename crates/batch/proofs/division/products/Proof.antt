@@ -1,21 +1,38 @@
-use Rattle.field.specs.Element.{Word4}
-use mathlib.Core.Path.{sym, subst}
-use Rattle.batch.proofs.Dividing.{Multiplying, multiplying-begins, multiplying-part, multiplying-turn, multiplying-ends}
-use Rattle.field.specs.laws.Slice.{word-element}
-use mathlib.Core.Path.{refl}
 use Prim.Native.Nat.{_-_}
+use mathlib.Core.Path.{refl, sym, subst}
+use Rattle.field.specs.laws.Slice.{word-element}
+use Rattle.field.specs.Element.{Word4}
+use Rattle.batch.proofs.Dividing.{Multiplying, multiplying-begins, multiplying-part, multiplying-factor, multiplying-turn, multiplying-ends}
 use borrow.Author.Needs.{needs}
 use Rattle.batch.proofs.division.products.Statement.{statement}
 use Rattle.batch.proofs.division.products.Tie as tie
 
 abbrev Inv-loop : tie.InvT-loop
-Inv-loop p w ms ds before₀ n product₀ j₀ before product j = Multiplying p w ms ds before₀ n before product j
+Inv-loop p w ms ds held₀ n product₀ j₀ held product j = Multiplying p w ms ds held₀ n held product j
 
 abbrev μ-loop : tie.MeasureT-loop
-μ-loop p w ms ds before₀ n product₀ j₀ before product j = n - j
+μ-loop p w ms ds held₀ n product₀ j₀ held product j = n - j
 
 loop-holds : tie.Need-loop-holds Inv-loop μ-loop
-loop-holds c = multiplying-begins (c .before .before .before .pre .0) (search needs) refl (c .before .before .before .pre .1) refl
+loop-holds c = multiplying-begins (c .before .before .before .pre .0) (search needs) refl (c .before .before .before .pre .1)
+
+sub-i : tie.Need-sub-i Inv-loop μ-loop
+sub-i c = search needs
+
+sub-i-2 : tie.Need-sub-i-2 Inv-loop μ-loop
+sub-i-2 c = search needs
+
+mul-keep : tie.Need-mul-keep Inv-loop μ-loop
+mul-keep c = search needs
+
+shared-slice-read-keep : tie.Need-shared-slice-read-keep Inv-loop μ-loop
+shared-slice-read-keep c = search needs
+
+load-requires : tie.Need-load-requires Inv-loop μ-loop
+load-requires c κs = search needs
+
+keep-requires : tie.Need-keep-requires Inv-loop μ-loop
+keep-requires c κs = let s = c .before .before .before .before .before .before .before in (s .pre .0 .modulus, s .pre .0 .low, s .pre .0 .certificate, subst (Word4 (s .args .p)) (sym (c .load .ensures)) (word-element _ _ (s .pre .0 .ds-below)))
 
 mul-at : tie.Need-mul-at Inv-loop μ-loop
 mul-at c = search needs
@@ -36,25 +53,10 @@ part-store-end : tie.Need-part-store-end Inv-loop μ-loop
 part-store-end c = search needs
 
 store-requires : tie.Need-store-requires Inv-loop μ-loop
-store-requires c κs = multiplying-part (c .before .before .loop .inv) (c .before .loop-test .taken)
+store-requires c κs = multiplying-part (c .before .before .before .before .before .loop .inv) (c .before .before .before .before .loop-test .taken)
 
-sub-i : tie.Need-sub-i Inv-loop μ-loop
-sub-i c = search needs
-
-sub-i-2 : tie.Need-sub-i-2 Inv-loop μ-loop
-sub-i-2 c = search needs
-
-mul-times : tie.Need-mul-times Inv-loop μ-loop
-mul-times c = search needs
-
-shared-slice-read-times : tie.Need-shared-slice-read-times Inv-loop μ-loop
-shared-slice-read-times c = search needs
-
-load-requires : tie.Need-load-requires Inv-loop μ-loop
-load-requires c κs = search needs
-
-times-requires : tie.Need-times-requires Inv-loop μ-loop
-times-requires c κs = (c .before .before .before .before .before .before .before .before .before .before .before .pre .0 .modulus, c .before .before .before .before .before .before .before .before .before .before .before .pre .0 .low, c .before .before .before .before .before .before .before .before .before .before .before .pre .0 .certificate, c .before .before .before .before .before .before .before .loop .inv .word4, subst (Word4 (c .before .before .before .before .before .before .before .before .before .before .before .args .p)) (sym (c .load .ensures)) (word-element _ _ (c .before .before .before .before .before .before .before .before .before .before .before .pre .0 .ds-below)))
+mul-requires : tie.Need-mul-requires Inv-loop μ-loop
+mul-requires c κs = (c .before .before .before .before .before .before .before .before .before .before .before .before .pre .0 .modulus, c .before .before .before .before .before .before .before .before .loop .inv .below, multiplying-factor (c .before .before .before .before .before .before .before .before .loop .inv) (c .before .before .before .before .before .before .before .loop-test .taken) refl (c .before .before .before .before .before .load .ensures) (c .before .before .before .before .keep .ensures))
 
 add-j : tie.Need-add-j Inv-loop μ-loop
 add-j c = search needs
@@ -63,7 +65,7 @@ loop-less : tie.Need-loop-less Inv-loop μ-loop
 loop-less c = search needs
 
 loop-again : tie.Need-loop-again Inv-loop μ-loop
-loop-again c = multiplying-turn (c .before .before .before .before .before .before .before .before .loop .inv) (c .before .before .before .before .before .before .before .loop-test .taken) _ (c .before .before .before .before .before .store .ensures) refl (c .before .load .ensures) (c .times .ensures)
+loop-again c = multiplying-turn (c .before .before .before .before .before .before .before .before .before .loop .inv) (c .before .before .before .before .before .before .before .before .loop-test .taken) refl (c .before .before .before .before .before .before .load .ensures) (c .before .before .before .before .before .keep .ensures) _ (c .before .before .before .store .ensures) (c .mul .ensures)
 
 same-length : tie.Need-same-length Inv-loop μ-loop
 same-length c = search needs
@@ -78,6 +80,12 @@ products-spec =
     Inv-loop
     μ-loop
     loop-holds
+    sub-i
+    sub-i-2
+    mul-keep
+    shared-slice-read-keep
+    load-requires
+    keep-requires
     mul-at
     add-store
     mul-store
@@ -85,12 +93,7 @@ products-spec =
     part-store-start
     part-store-end
     store-requires
-    sub-i
-    sub-i-2
-    mul-times
-    shared-slice-read-times
-    load-requires
-    times-requires
+    mul-requires
     add-j
     loop-less
     loop-again

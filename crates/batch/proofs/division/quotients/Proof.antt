@@ -1,18 +1,18 @@
-use Rattle.batch.proofs.Dividing.{Dividing, dividing-begins, dividing-part, dividing-step, dividing-turn, dividing-ends}
-use mathlib.Core.Path.{refl}
 use Prim.Native.Nat.{_-_}
+use mathlib.Core.Path.{refl}
+use Rattle.batch.proofs.Dividing.{Dividing, dividing-begins, dividing-part, dividing-step, dividing-turn, dividing-ends}
 use borrow.Author.Needs.{needs}
 use Rattle.batch.proofs.division.quotients.Statement.{statement}
 use Rattle.batch.proofs.division.quotients.Tie as tie
 
 abbrev Inv-loop : tie.InvT-loop
-Inv-loop p w ms before ds₀ n rest₀ i₀ ds rest i = Dividing p w ms before ds₀ n ds rest i
+Inv-loop p w ms held inverse ds₀ n rest₀ i₀ ds rest i = Dividing p w ms held ds₀ n ds rest i
 
 abbrev μ-loop : tie.MeasureT-loop
-μ-loop p w ms before ds₀ n rest₀ i₀ ds rest i = n - i
+μ-loop p w ms held inverse ds₀ n rest₀ i₀ ds rest i = n - i
 
 loop-holds : tie.Need-loop-holds Inv-loop μ-loop
-loop-holds c = dividing-begins (c .before .before .before .pre .0) (search needs) refl (c .before .before .before .pre .2) (c .before .before .before .pre .1) (c .before .before .before .pre .3)
+loop-holds c = let t = c .before .before .before .pre in dividing-begins (t .0) (search needs) refl (t .2) (t .1) (t .3)
 
 load-requires : tie.Need-load-requires Inv-loop μ-loop
 load-requires c κs = search needs
@@ -33,7 +33,7 @@ shared-slice-read-step : tie.Need-shared-slice-read-step Inv-loop μ-loop
 shared-slice-read-step c = search needs
 
 step-requires : tie.Need-step-requires Inv-loop μ-loop
-step-requires c κs = let k = dividing-step (c .before .before .before .before .before .loop .inv) (c .before .before .before .before .loop-test .taken) refl (c .before .before .load .ensures) (c .before .load2 .ensures) in (c .before .before .before .before .before .before .before .before .before .pre .0 .modulus, c .before .before .before .before .before .before .before .before .before .pre .0 .low, c .before .before .before .before .before .before .before .before .before .pre .0 .certificate, k .0, k .1, k .2, c .before .before .before .before .before .loop .inv .word4, k .3)
+step-requires c κs = let t = c .before .before .before .before .before .before .before .before .before .pre .0 in let s = c .before .before .before .before .before .loop .inv in let k = dividing-step s (c .before .before .before .before .loop-test .taken) refl (c .before .before .load .ensures) (c .before .load2 .ensures) in (t .modulus, t .low, t .certificate, k .0, k .1, k .2, s .below, k .3, k .4)
 
 mul-at : tie.Need-mul-at Inv-loop μ-loop
 mul-at c = search needs
@@ -63,7 +63,7 @@ loop-less : tie.Need-loop-less Inv-loop μ-loop
 loop-less c = search needs
 
 loop-again : tie.Need-loop-again Inv-loop μ-loop
-loop-again c = dividing-turn (c .before .before .before .before .before .before .before .before .before .before .before .before .loop .inv) (c .before .before .before .before .before .before .before .before .before .before .before .loop-test .taken) refl (c .before .before .before .before .before .before .before .before .before .load .ensures) (c .before .before .before .before .before .before .before .before .load2 .ensures) _ (c .before .before .before .before .before .before .step .ensures) (c .before .before .before .store .ensures)
+loop-again c = dividing-turn (c .before .before .before .before .before .before .before .before .before .before .before .loop .inv) (c .before .before .before .before .before .before .before .before .before .before .loop-test .taken) refl (c .before .before .before .before .before .before .before .before .load .ensures) (c .before .before .before .before .before .before .before .load2 .ensures) _ (c .before .before .before .before .before .step .ensures) (c .before .before .store .ensures)
 
 same-length : tie.Need-same-length Inv-loop μ-loop
 same-length c = search needs

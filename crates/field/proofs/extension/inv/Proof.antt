@@ -1,3 +1,8 @@
+use mathlib.Core.Path.{_∙_, ap}
+use Prim.Native.Nat.{ℕ}
+use Rattle.field.specs.Word.{inverse1}
+use Rattle.field.specs.Element.{mul4, lift, cofactor, inverse4}
+use Rattle.field.specs.Ext.{ws}
 use borrow.Author.Needs.{needs}
 use Rattle.field.proofs.extension.inv.Statement.{statement}
 use Rattle.field.proofs.extension.inv.Tie as tie
@@ -14,23 +19,12 @@ norm-of-requires c κs = search needs
 inv-requires : tie.Need-inv-requires
 inv-requires c κs = search needs
 
-inv-by-requires : tie.Need-inv-by-requires
-inv-by-requires c κs =
-    let s = c .before .before .before .before in (
-      s .pre .0,
-      s .pre .1,
-      s .pre .2,
-      s .pre .3,
-      c .before .before .before .norm-lo .ensures .0,
-      c .before .before .norm-hi .ensures .0,
-      c .inv .ensures .0,
-      c .before .before .before .norm-lo .ensures .1,
-      c .before .before .norm-hi .ensures .1,
-      cc,
-    )
+cofactor-times-requires : tie.Need-cofactor-times-requires
+cofactor-times-requires c κs = search needs
 
 returns : tie.Need-returns
-returns c = search needs
+unfolding inverse4
+returns c = let s = c .before .before .before .before .before .args in (c .cofactor-times .ensures .0, c .cofactor-times .ensures .1 ∙ ap (λ (i : ℕ). mul4 (s .p) (s .w) (cofactor (s .p) (s .w) (ws (s .a))) (lift i)) (c .before .inv .ensures .1 ∙ ap (inverse1 (s .p)) (c .before .before .norm-of .ensures .1)))
 
 pub inv-spec : {M : Type 1} → statement M
 inv-spec =
@@ -40,5 +34,5 @@ inv-spec =
     norm-hi-requires
     norm-of-requires
     inv-requires
-    inv-by-requires
+    cofactor-times-requires
     returns)
