@@ -3,7 +3,7 @@ use mathlib.Core.Path.{_≡_, refl, sym, ap, ap₂, _∙_, subst}
 use mathlib.Core.Logic.{_≢_}
 use mathlib.Core.List.{List, [], _∷_, _++_}
 use Prim.Native.Nat.{ℕ, suc, _+_, _*_, _-_, _%_, _<_, _≤_, zero-le}
-use native.Mathlib.Nat.{zero-add, one-mul, mod-eq-of-lt}
+use native.Mathlib.Nat.{zero-add, one-mul, mul-comm, mod-eq-of-lt}
 use native.Mathlib.Numerals.{add-one}
 use native.Mathlib.Omega.{arith}
 use lib.ListN.{length, take, drop, length-append}
@@ -48,9 +48,9 @@ words-kept p w m q d k l e =
     let f : ws k ≡ at (norm2 p w (ws d)) 0 ∷ at (norm2 p w (ws d)) 2 ∷ nonzero (norm p w (ws d)) ∷ q ∷ [] = e ∙ kept-in p w m (ws d) q l in
     (ap (λ (l : List ℕ). at l 0) f, ap (λ (l : List ℕ). at l 1) f, ap (λ (l : List ℕ). at l 2) f)
 
--- a multiplicity of 1
-pub count-one : (p m a : ℕ) → m ≡ 1 → a < p → a ≡ mulM p m a
-count-one p m a e l = sym (ap (λ (n : ℕ). mulM p n a) e ∙ ap (λ (n : ℕ). n % p) (one-mul a) ∙ mod-eq-of-lt l)
+-- a factor of 1
+pub times-one : (p a b : ℕ) → a ≡ 1 → b < p → b ≡ mulM p a b
+times-one p a b e l = sym (ap (λ (n : ℕ). mulM p n b) e ∙ ap (λ (n : ℕ). n % p) (one-mul b) ∙ mod-eq-of-lt l)
 
 -- a quotient, and the inverse of the rest: where the multiplicity is 0, and where not
 pub step-out : (p w m v : ℕ) (d k : Ext) → m ≡ 0 → ws k ≡ kept p w m (ws d) (k .c3) → mulM p (mulM p (k .c3) (k .c2)) v ≡ 1
@@ -111,7 +111,7 @@ module _ {p w n : ℕ} {ms ds d held : List ℕ} {product j : ℕ} (s : Multiply
         subst (λ (l : List ℕ). at l 2 < p) (sym kept-is)
         (kept-word p w (s .divisible .certificate) _ _ _ (product-below p w (s .divisible .certificate) (factor-from-last p w ms ds) j) .w2)
 
-    pub multiplying-turn : {product′ : ℕ} (ys : List ℕ) → ys ≡ ws k → (product′ < p) × (product′ ≡ mulM p product (k .c2))
+    pub multiplying-turn : {product′ : ℕ} (ys : List ℕ) → ys ≡ ws k → (product′ < p) × (product′ ≡ mulM p (k .c2) product)
         → Multiplying p w ms ds d n (putMid (4 * j) (4 * j + 4 - 4 * j) held ys) product′ (j + 1)
     unfolding productM factor-from-last
     multiplying-turn {product′} ys ey (l, ep) =
@@ -126,7 +126,7 @@ module _ {p w n : ℕ} {ms ds d held : List ℕ} {product j : ℕ} (s : Multiply
           below = l;
           product≡ =
               rw (add-one j)
-              (ep ∙ ap₂ (mulM p) (s .product≡) (factor-kept p w m product (ws x) k ek ∙ ap₂ (factor p w) em ex ∙ ap (λ (i : ℕ). factor p w (at ms (i - 1 - j)) (element ds (i - 1 - j))) (s .count)));
+              (ep ∙ ap (λ (i : ℕ). i % p) (mul-comm (k .c2) product) ∙ ap₂ (mulM p) (s .product≡) (factor-kept p w m product (ws x) k ek ∙ ap₂ (factor p w) em ex ∙ ap (λ (i : ℕ). factor p w (at ms (i - 1 - j)) (element ds (i - 1 - j))) (s .count)));
         }
       where
         f : ℕ → List ℕ

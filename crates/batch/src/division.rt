@@ -25,6 +25,17 @@ fn nonzero(n: u32) -> u32
     if n == 0 { 1 } else { n }
 }
 
+// a·b. Most multiplicities are 1, and so are the factors of denominators that are not needed: these take no product.
+fn times(p: u32, a: u32, b: u32) -> u32
+    requires { ⌜ Modulus p × (a < p) × (b < p) ⌝ }
+    ensures { λ r. ⌜ (r < p) × (r ≡ mulM p a b) ⌝ }
+{
+    if a == 1 {
+        return b;
+    }
+    word::mul(p, a, b)
+}
+
 // What is kept of a denominator, with the product before it. Where the multiplicity is 0 its norm is not needed.
 fn keep(p: u32, w: u32, m: u32, d: Ext, product: u32) -> Ext
     requires { ⌜ Modulus p × (w < p) × Certificate p w × Word4 p (ws d) ⌝ }
@@ -62,21 +73,10 @@ fn products(p: u32, w: u32, ms: &[u32], ds: &[u32], held: &mut [u32]) -> u32
         let k = keep(p, w, ms[i], extension::load(ds, i), product);
         let at = 4 * j;
         extension::store(&mut held[at..at + 4], k);
-        product = word::mul(p, product, k.c2);
+        product = times(p, k.c2, product);
         j += 1;
     }
     product
-}
-
-// m·a. Most multiplicities are 1, and need no product.
-fn times_count(p: u32, m: u32, a: u32) -> u32
-    requires { ⌜ Modulus p × (m < p) × (a < p) ⌝ }
-    ensures { λ r. ⌜ (r < p) × (r ≡ mulM p m a) ⌝ }
-{
-    if m == 1 {
-        return a;
-    }
-    word::mul(p, m, a)
 }
 
 // m ÷ d and the inverse of the product before d, from what is kept of d and the inverse of the product with it.
@@ -96,7 +96,7 @@ fn step(p: u32, w: u32, m: u32, d: Ext, k: Ext, inverse: u32) -> Split
             inverse,
         };
     }
-    let t = times_count(p, m, word::mul(p, inverse, k.c3));
+    let t = times(p, m, word::mul(p, inverse, k.c3));
     Split {
         quotient: extension::cofactor_times(p, w, d, k.c0, k.c1, t),
         inverse: word::mul(p, inverse, k.c2),

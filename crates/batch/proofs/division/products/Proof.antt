@@ -55,8 +55,8 @@ part-store-end c = search needs
 store-requires : tie.Need-store-requires Inv-loop μ-loop
 store-requires c κs = multiplying-part (c .before .before .before .before .before .loop .inv) (c .before .before .before .before .loop-test .taken)
 
-mul-requires : tie.Need-mul-requires Inv-loop μ-loop
-mul-requires c κs = (c .before .before .before .before .before .before .before .before .before .before .before .before .pre .0 .modulus, c .before .before .before .before .before .before .before .before .loop .inv .below, multiplying-factor (c .before .before .before .before .before .before .before .before .loop .inv) (c .before .before .before .before .before .before .before .loop-test .taken) refl (c .before .before .before .before .before .load .ensures) (c .before .before .before .before .keep .ensures))
+times-requires : tie.Need-times-requires Inv-loop μ-loop
+times-requires c κs = (c .before .before .before .before .before .before .before .before .before .before .before .before .pre .0 .modulus, multiplying-factor (c .before .before .before .before .before .before .before .before .loop .inv) (c .before .before .before .before .before .before .before .loop-test .taken) refl (c .before .before .before .before .before .load .ensures) (c .before .before .before .before .keep .ensures), c .before .before .before .before .before .before .before .before .loop .inv .below)
 
 add-j : tie.Need-add-j Inv-loop μ-loop
 add-j c = search needs
@@ -65,7 +65,7 @@ loop-less : tie.Need-loop-less Inv-loop μ-loop
 loop-less c = search needs
 
 loop-again : tie.Need-loop-again Inv-loop μ-loop
-loop-again c = multiplying-turn (c .before .before .before .before .before .before .before .before .before .loop .inv) (c .before .before .before .before .before .before .before .before .loop-test .taken) refl (c .before .before .before .before .before .before .load .ensures) (c .before .before .before .before .before .keep .ensures) _ (c .before .before .before .store .ensures) (c .mul .ensures)
+loop-again c = multiplying-turn (c .before .before .before .before .before .before .before .before .before .loop .inv) (c .before .before .before .before .before .before .before .before .loop-test .taken) refl (c .before .before .before .before .before .before .load .ensures) (c .before .before .before .before .before .keep .ensures) _ (c .before .before .before .store .ensures) (c .times .ensures)
 
 same-length : tie.Need-same-length Inv-loop μ-loop
 same-length c = search needs
@@ -93,7 +93,7 @@ products-spec =
     part-store-start
     part-store-end
     store-requires
-    mul-requires
+    times-requires
     add-j
     loop-less
     loop-again
