@@ -32,7 +32,11 @@ fn dot2(a: u32, b: u32, c: u32, d: u32) -> u32 {
     reduce(product(a, b) + product(c, d))
 }
 
-fn inv_word(a: u32) -> u32 {
+fn dot4(a: [u32; 4], b: [u32; 4]) -> u32 {
+    reduce(product(a[0], b[0]) + product(a[1], b[1]) + product(a[2], b[2]) + product(a[3], b[3]))
+}
+
+pub fn inv_word(a: u32) -> u32 {
     if a == 0 {
         return 0;
     }
@@ -62,14 +66,12 @@ pub fn scale(z: u32, a: Ext) -> Ext {
 
 #[inline]
 pub fn mul(a: Ext, b: Ext) -> Ext {
-    let w1 = mul_word(W, a[1]);
-    let w2 = mul_word(W, a[2]);
-    let w3 = mul_word(W, a[3]);
+    let (w1, w2, w3) = (mul_word(W, a[1]), mul_word(W, a[2]), mul_word(W, a[3]));
     [
-        reduce(product(a[0], b[0]) + product(w1, b[3]) + product(w2, b[2]) + product(w3, b[1])),
-        reduce(product(a[0], b[1]) + product(a[1], b[0]) + product(w2, b[3]) + product(w3, b[2])),
-        reduce(product(a[0], b[2]) + product(a[1], b[1]) + product(a[2], b[0]) + product(w3, b[3])),
-        reduce(product(a[0], b[3]) + product(a[1], b[2]) + product(a[2], b[1]) + product(a[3], b[0])),
+        dot4([a[0], w1, w2, w3], [b[0], b[3], b[2], b[1]]),
+        dot4([a[0], a[1], w2, w3], [b[1], b[0], b[3], b[2]]),
+        dot4([a[0], a[1], a[2], w3], [b[2], b[1], b[0], b[3]]),
+        dot4(a, [b[3], b[2], b[1], b[0]]),
     ]
 }
 
@@ -82,15 +84,29 @@ pub fn power(a: Ext, n: u32) -> Ext {
     r
 }
 
-#[inline(never)]
-pub fn inverse(a: Ext) -> Ext {
+/// The words n0 and n1 of a(X)·a(-X) = n0 + n1·X², and the norm of a.
+#[inline]
+pub fn norms(a: Ext) -> [u32; 3] {
     let (v1, v2, v3) = (mul_word(W, a[1]), mul_word(W, a[2]), mul_word(W, a[3]));
-    let x = sub_word(dot2(a[0], a[0], v2, a[2]), dot2(v1, a[3], v1, a[3]));
-    let y = sub_word(dot2(a[0], a[2], a[0], a[2]), dot2(a[1], a[1], v3, a[3]));
-    let i = inv_word(sub_word(mul_word(x, x), mul_word(mul_word(W, y), y)));
+    let (minus1, minus3) = (neg_word(a[1]), neg_word(a[3]));
+    let x = dot4([a[0], v2, v1, v1], [a[0], a[2], minus3, minus3]);
+    let y = dot4([a[0], a[0], a[1], v3], [a[2], a[2], minus1, minus3]);
+    [x, y, dot2(x, x, mul_word(W, y), neg_word(y))]
+}
+
+/// The cofactor of a times i, from n0 and n1.
+#[inline]
+pub fn cofactor_times(a: Ext, x: u32, y: u32, i: u32) -> Ext {
     let (e0, e1) = (mul_word(x, i), mul_word(neg_word(y), i));
     let (f0, f1) = (neg_word(e0), neg_word(e1));
+    let (v2, v3) = (mul_word(W, a[2]), mul_word(W, a[3]));
     [dot2(a[0], e0, v2, e1), dot2(a[1], f0, v3, f1), dot2(a[0], e1, a[2], e0), dot2(a[1], f1, a[3], f0)]
+}
+
+#[inline(never)]
+pub fn inverse(a: Ext) -> Ext {
+    let [x, y, norm] = norms(a);
+    cofactor_times(a, x, y, inv_word(norm))
 }
 
 /// A small generator of numbers, so that runs repeat: xorshift64*.

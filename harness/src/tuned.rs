@@ -1,10 +1,18 @@
 //! Generation as one would tune it by hand for one thread: nodes decoded once, sums of products reduced once, all denominators of a block of
-//! rows inverted together. It takes only tables that the port accepts, and tests nothing.
+//! rows inverted together, by a product of these or, as the port does, by one of their norms. It takes only tables that the port accepts, and
+//! tests nothing.
 use crate::plain::{self, Ext, P};
 use crate::table::Table;
 
 /// The denominators that are inverted together.
 const BLOCK: usize = 1024;
+
+/// What is multiplied in order to invert all denominators of a block together.
+#[derive(Clone, Copy)]
+pub enum Product {
+    Denominators,
+    Norms,
+}
 
 #[derive(Clone, Copy)]
 enum Node {
@@ -131,8 +139,24 @@ fn invert_all(denominators: &mut [Ext], prefixes: &mut Vec<Ext>) {
     }
 }
 
+/// The same, with one inversion of a word.
+fn invert_by_norms(denominators: &mut [Ext], kept: &mut Vec<Ext>) {
+    kept.clear();
+    let mut product = 1;
+    for d in denominators.iter() {
+        let [x, y, norm] = plain::norms(*d);
+        kept.push([x, y, norm, product]);
+        product = plain::mul_word(product, norm);
+    }
+    let mut inverse = plain::inv_word(product);
+    for (d, [x, y, norm, before]) in denominators.iter_mut().zip(kept.iter()).rev() {
+        *d = plain::cofactor_times(*d, *x, *y, plain::mul_word(inverse, *before));
+        inverse = plain::mul_word(inverse, *norm);
+    }
+}
+
 /// The trace and the terminal.
-pub fn generate(t: &Table, challenges: &[u32]) -> (Vec<u32>, Option<Ext>) {
+pub fn generate(t: &Table, challenges: &[u32], product: Product) -> (Vec<u32>, Option<Ext>) {
     let nodes: Vec<Node> = t.nodes.chunks_exact(3).map(node).collect();
     let lookups = lookups(t, challenges);
     if lookups.is_empty() {
@@ -144,7 +168,7 @@ pub fn generate(t: &Table, challenges: &[u32]) -> (Vec<u32>, Option<Ext>) {
     let block = (BLOCK / terms.max(1)).max(1);
     let mut trace = vec![0; 4 * height * columns];
     let mut values = vec![0; nodes.len()];
-    let (mut denominators, mut multiplicities, mut ends, mut prefixes) = (vec![], vec![], vec![], vec![]);
+    let (mut denominators, mut multiplicities, mut ends, mut kept) = (vec![], vec![], vec![], vec![]);
     let mut accumulator = [0; 4];
     for (b, out) in trace.chunks_mut(4 * columns * block).enumerate() {
         denominators.clear();
@@ -163,7 +187,10 @@ pub fn generate(t: &Table, challenges: &[u32]) -> (Vec<u32>, Option<Ext>) {
                 ends.push(denominators.len());
             }
         }
-        invert_all(&mut denominators, &mut prefixes);
+        match product {
+            Product::Denominators => invert_all(&mut denominators, &mut kept),
+            Product::Norms => invert_by_norms(&mut denominators, &mut kept),
+        }
         let mut at = 0;
         for (row, ends) in out.chunks_exact_mut(4 * columns).zip(ends.chunks_exact(lookups.len())) {
             row[..4].copy_from_slice(&accumulator);

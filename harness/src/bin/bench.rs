@@ -13,7 +13,7 @@ use delmatik::LookupTerminal;
 use harness::plain::{self, Ext, P, Random};
 use harness::port::wrapped;
 use harness::table::{Lookup, Table};
-use harness::tuned;
+use harness::tuned::{self, Product};
 
 const ROWS: usize = 1 << 16;
 
@@ -161,15 +161,19 @@ fn challenges(random: &mut Random, count: u32) -> Vec<Ext> {
     (0..2 * count).map(|_| random.element()).collect()
 }
 
-/// The shapes beside the tuned version and the crate; the ratios of each.
+/// The shapes beside the tuned version, with either way to invert, and the crate; the ratios of each.
 fn generation(random: &mut Random) -> Vec<(&'static str, Vec<f64>)> {
-    heading(&["generation", "port", "tuned Rust", "ratio", "the crate", "ratio"]);
+    heading(&["generation", "port", "tuned Rust", "ratio", "by norms too", "ratio", "the crate", "ratio"]);
     let mut ratios = vec![];
     for shape in &SHAPES {
         let t = shape.table(random, ROWS);
         let (port, challenges) = (wrapped(&t), challenges(random, shape.lookups));
         let words = challenges.as_flattened();
-        let mut sides: Vec<Side<'_, _>> = vec![Box::new(|| generated(&port, &challenges)), Box::new(|| tuned::generate(&t, words))];
+        let mut sides: Vec<Side<'_, _>> = vec![
+            Box::new(|| generated(&port, &challenges)),
+            Box::new(|| tuned::generate(&t, words, Product::Denominators)),
+            Box::new(|| tuned::generate(&t, words, Product::Norms)),
+        ];
         sides.extend(crate_generation(&t, words));
         let times = race(ROWS, sides);
         report(shape.name, &times);
@@ -207,7 +211,8 @@ fn growth(random: &mut Random) {
         let t = SHAPES[1].table(random, rows);
         let (port, challenges) = (wrapped(&t), challenges(random, SHAPES[1].lookups));
         let words = challenges.as_flattened();
-        let times = race(rows, vec![Box::new(|| generated(&port, &challenges)), Box::new(|| tuned::generate(&t, words))]);
+        let times =
+            race(rows, vec![Box::new(|| generated(&port, &challenges)), Box::new(|| tuned::generate(&t, words, Product::Denominators))]);
         report(&format!("2^{bits} rows"), &times);
     }
 }
@@ -292,7 +297,7 @@ fn stack(random: &mut Random) {
 
 /// Bars of the ratios port ÷ other, with a line at 1.
 fn chart(ratios: &[(&str, Vec<f64>)]) -> String {
-    let (left, scale, step) = (330.0, 240.0, 46.0);
+    let (left, scale, step) = (330.0, 240.0, 58.0);
     let mut svg = String::new();
     let height = step * ratios.len() as f64 + 70.0;
     let _ = writeln!(
@@ -304,7 +309,8 @@ fn chart(ratios: &[(&str, Vec<f64>)]) -> String {
         svg,
         "<text x=\"16\" y=\"22\">Generation, 2^16 rows: time of the port ÷ time of the other. Left of the line the port is faster.</text>"
     );
-    for (x, fill, name) in [(16.0, "#2b6cb0", "tuned Rust"), (130.0, "#dd9b3d", "the crate's own source")] {
+    let sides = [("#2b6cb0", "tuned Rust"), ("#7fb2e5", "the same, by norms too"), ("#dd9b3d", "the crate's own source")];
+    for (x, (fill, name)) in [16.0, 130.0, 310.0].into_iter().zip(sides) {
         let _ = writeln!(
             svg,
             "<rect x=\"{x}\" y=\"32\" width=\"12\" height=\"12\" fill=\"{fill}\"/><text x=\"{}\" y=\"42\">{name}</text>",
@@ -314,7 +320,7 @@ fn chart(ratios: &[(&str, Vec<f64>)]) -> String {
     for (i, (name, bars)) in ratios.iter().enumerate() {
         let y = 60.0 + step * i as f64;
         let _ = writeln!(svg, "<text x=\"16\" y=\"{}\">{name}</text>", y + 19.0);
-        for (k, (ratio, fill)) in bars.iter().zip(["#2b6cb0", "#dd9b3d"]).enumerate() {
+        for (k, (ratio, (fill, _))) in bars.iter().zip(sides).enumerate() {
             let (top, length) = (y + 16.0 * k as f64, (ratio * scale).min(380.0));
             let _ = writeln!(svg, "<rect x=\"{left}\" y=\"{top}\" width=\"{length:.0}\" height=\"13\" fill=\"{fill}\"/>");
             let _ = writeln!(svg, "<text x=\"{:.0}\" y=\"{}\">{ratio:.2}</text>", left + length + 5.0, top + 11.0);
