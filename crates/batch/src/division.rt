@@ -36,7 +36,7 @@ fn times(p: u32, a: u32, b: u32) -> u32
     word::mul(p, a, b)
 }
 
-// What is kept of a denominator, with the product before it. Where the multiplicity is 0 its norm is not needed.
+// What is kept of a denominator, with the product before it: four words, as an element has. Where the multiplicity is 0 the norm is not needed.
 fn keep(p: u32, w: u32, m: u32, d: Ext, product: u32) -> Ext
     requires { ⌜ Modulus p × (w < p) × Certificate p w × Word4 p (ws d) ⌝ }
     ensures { λ r. ⌜ ws r ≡ kept p w m (ws d) product ⌝ }
@@ -96,6 +96,7 @@ fn step(p: u32, w: u32, m: u32, d: Ext, k: Ext, inverse: u32) -> Split
             inverse,
         };
     }
+    // m ÷ norm: the inverse of the factor is that of the product with it, times the product before it.
     let t = times(p, m, word::mul(p, inverse, k.c3));
     Split {
         quotient: extension::cofactor_times(p, w, d, k.c0, k.c1, t),

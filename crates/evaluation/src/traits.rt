@@ -100,7 +100,7 @@ pub fn evaluate<'a, 'b>(
 }
 
 // The same on two rows, one after the other: while a node of the one row waits for its operands, that of the other is computed.
-pub fn evaluate_pair<'a, 'b>(
+fn evaluate_pair<'a, 'b>(
     p: u32,
     nodes: &[u32],
     n: usize,

@@ -297,7 +297,7 @@ fn stack(random: &mut Random) {
 
 /// Bars of the ratios port ÷ other, with a line at 1.
 fn chart(ratios: &[(&str, Vec<f64>)]) -> String {
-    let (left, scale, step) = (330.0, 240.0, 58.0);
+    let (left, scale, step) = (330.0, 170.0, 58.0);
     let mut svg = String::new();
     let height = step * ratios.len() as f64 + 70.0;
     let _ = writeln!(
