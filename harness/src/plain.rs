@@ -86,7 +86,7 @@ pub fn power(a: Ext, n: u32) -> Ext {
 
 /// The words n0 and n1 of a(X)·a(-X) = n0 + n1·X², and the norm of a.
 #[inline]
-pub fn norms(a: Ext) -> [u32; 3] {
+fn norms(a: Ext) -> [u32; 3] {
     let (v1, v2, v3) = (mul_word(W, a[1]), mul_word(W, a[2]), mul_word(W, a[3]));
     let (minus1, minus3) = (neg_word(a[1]), neg_word(a[3]));
     let x = dot4([a[0], v2, v1, v1], [a[0], a[2], minus3, minus3]);
@@ -96,7 +96,7 @@ pub fn norms(a: Ext) -> [u32; 3] {
 
 /// The cofactor of a times i, from n0 and n1.
 #[inline]
-pub fn cofactor_times(a: Ext, x: u32, y: u32, i: u32) -> Ext {
+fn cofactor_times(a: Ext, x: u32, y: u32, i: u32) -> Ext {
     let (e0, e1) = (mul_word(x, i), mul_word(neg_word(y), i));
     let (f0, f1) = (neg_word(e0), neg_word(e1));
     let (v2, v3) = (mul_word(W, a[2]), mul_word(W, a[3]));

@@ -139,19 +139,34 @@ fn invert_all(denominators: &mut [Ext], prefixes: &mut Vec<Ext>) {
     }
 }
 
-/// The same, with one inversion of a word.
+/// The same, with one inversion of a word. Differences are sums with p - a, which need no test: such a product fits beside the others.
 fn invert_by_norms(denominators: &mut [Ext], kept: &mut Vec<Ext>) {
+    let product_of = |a: u32, b: u32| u64::from(a) * u64::from(b);
+    let reduce = |sum: u64| (sum % u64::from(P)) as u32;
+    let times_w = |a: u32| plain::mul_word(plain::W, a);
     kept.clear();
     let mut product = 1;
-    for d in denominators.iter() {
-        let [x, y, norm] = plain::norms(*d);
+    for a in denominators.iter() {
+        let (v1, v2, v3) = (times_w(a[1]), times_w(a[2]), times_w(a[3]));
+        // n0 and -n1 of a(X)·a(-X) = n0 + n1·X², and the norm.
+        let x = reduce(product_of(a[0], a[0]) + product_of(v2, a[2]) + 2 * product_of(v1, P - a[3]));
+        let y = reduce(product_of(a[1], a[1]) + product_of(v3, a[3]) + 2 * product_of(a[0], P - a[2]));
+        let norm = reduce(product_of(x, x) + product_of(times_w(y), P - y));
         kept.push([x, y, norm, product]);
         product = plain::mul_word(product, norm);
     }
     let mut inverse = plain::inv_word(product);
     for (d, [x, y, norm, before]) in denominators.iter_mut().zip(kept.iter()).rev() {
-        *d = plain::cofactor_times(*d, *x, *y, plain::mul_word(inverse, *before));
+        let (a, i) = (*d, plain::mul_word(inverse, *before));
         inverse = plain::mul_word(inverse, *norm);
+        let (e0, e1) = (plain::mul_word(*x, i), plain::mul_word(*y, i));
+        let (f0, f1, v2, v3) = (P - e0, P - e1, times_w(a[2]), times_w(a[3]));
+        *d = [
+            reduce(product_of(a[0], e0) + product_of(v2, e1)),
+            reduce(product_of(a[1], f0) + product_of(v3, f1)),
+            reduce(product_of(a[0], e1) + product_of(a[2], e0)),
+            reduce(product_of(a[1], f1) + product_of(a[3], f0)),
+        ];
     }
 }
 
