@@ -1,14 +1,16 @@
 /*
- * Delmatik's doors for C: a verified LogUp lookup argument over the field of p = 2013265921 and its extension of degree 4 (X^4 = 11).
+ * Delmatik for C: a verified LogUp lookup argument over the field of p = 2013265921 and its extension of degree 4 (X^4 = 11).
  *
- * Build the library with `rt staticlib doors` and link target/staticlib/libdoors.a. A first call is in first.c. The functions whose names end
- * in _bytes are in a library of their own: `rt staticlib byte_doors`, target/staticlib/libbyte_doors.a. A program may link both.
+ * Build the library with `rt staticlib delmatik` and link target/staticlib/libdelmatik.a. A first call is in first.c. The functions whose
+ * names end in _bytes are in a library of their own: `rt staticlib delmatik_bytes`, target/staticlib/libdelmatik_bytes.a. A program may link
+ * both.
  *
  * - Words are below p. An extension element is four words, c0 to c3.
- * - A list is a pointer and a length; the pointer of an empty list may be any that is not NULL. A door takes any words and lengths: it tests
- *   them itself, and reads and writes the lent lists alone.
- * - A door returns document 01's number of the refusal, 0 where nothing is refused, and writes three details, zero unless document 01 names
- *   them. Outputs are untouched by refusals 1 to 12.
+ * - A list is a pointer and a length; the pointer of an empty list may be any that is not NULL. A function takes any words and lengths: it
+ *   tests them itself, and reads and writes the lent lists alone.
+ * - It returns the number of the refusal, 0 where nothing is refused, and writes three details, zero unless the table of refusals in
+ *   docs/SPECIFICATION.md names them. Lists are untouched by refusals 1 to 12; a terminal and the numbers that are written beside the details
+ *   are zero then.
  * - Everything above is proved; docs/PROMISES.md says what, and by which definitions.
  */
 #ifndef DELMATIK_H
@@ -22,7 +24,7 @@ extern "C" {
 #endif
 
 /*
- * A table's lists, in the order in which every door takes them:
+ * A table's lists, in the order in which every function takes them:
  *   main, preprocessed   the traces, row by row
  *   public_values
  *   nodes                kind, a, b for each node
@@ -106,11 +108,15 @@ uint32_t delmatik_balance(const uint32_t *main, size_t main_len, const uint32_t 
     const uint32_t *sizes, size_t sizes_len, uint32_t *workspace, size_t workspace_len, uint64_t details[3]);
 
 /*
- * The same doors for a caller that holds bytes. Each list of words is a byte slice, four bytes a word, the least byte first; names are bytes in
- * any case. Beside each list stands a room of words, one word for each four bytes of it, into which the door decodes it. A list whose length is
- * no multiple of four, or a room of another length, is refusal 1, and nothing is written then. What a door writes is encoded into the byte
- * slice again; bytes past it come back as they were. Lengths are in elements: bytes for lists, words for rooms.
+ * The same functions for a caller that holds bytes. Each list of words is a byte slice, four bytes a word, the least byte first; names are bytes in
+ * any case. A function decodes the lists into two rooms of words that the caller lends as working memory: one for the lists that are read, and one for
+ * those that are written. A room has exactly one word for each four bytes of its lists. A list whose length is no multiple of four, or a room of
+ * another length, is refusal 1, and the lists and rooms stay as they were then. Otherwise the rooms hold the words of their lists afterwards, one list after the
+ * other. What a function writes is encoded into the byte slice again; bytes past it come back as they were. Lengths are in elements: bytes for lists,
+ * words for rooms.
  */
+
+/* room: main, preprocessed, public values, nodes, challenges, lookups, tuples, multiplicities, flags, elements. trace_room: the trace. */
 uint32_t delmatik_generate_bytes(size_t main_width, size_t height, size_t pre_width, size_t pre_height,
     const uint8_t *main, size_t main_len, const uint8_t *preprocessed, size_t preprocessed_len,
     const uint8_t *public_values, size_t public_values_len, const uint8_t *nodes, size_t nodes_len,
@@ -119,15 +125,11 @@ uint32_t delmatik_generate_bytes(size_t main_width, size_t height, size_t pre_wi
     const uint8_t *flags, size_t flags_len, const uint8_t *elements, size_t elements_len,
     const uint8_t *challenges, size_t challenges_len,
     uint8_t *trace, size_t trace_len,
-    uint32_t *main_room, size_t main_room_len, uint32_t *preprocessed_room, size_t preprocessed_room_len,
-    uint32_t *public_values_room, size_t public_values_room_len, uint32_t *nodes_room, size_t nodes_room_len,
-    uint32_t *lookups_room, size_t lookups_room_len, uint32_t *tuples_room, size_t tuples_room_len,
-    uint32_t *multiplicities_room, size_t multiplicities_room_len, uint32_t *flags_room, size_t flags_room_len,
-    uint32_t *elements_room, size_t elements_room_len, uint32_t *challenges_room, size_t challenges_room_len,
-    uint32_t *trace_room, size_t trace_room_len,
+    uint32_t *room, size_t room_len, uint32_t *trace_room, size_t trace_room_len,
     uint32_t terminal[5], uint64_t details[3]);
 
-/* used counts words, and bytes of names. */
+/* used counts words, and bytes of names. room: nodes, lookups, tuples, multiplicities, flags, elements. out_room: the lists that are written,
+ * lookups_out, tuples_out, multiplicities_out, flags_out, elements_out. */
 uint32_t delmatik_pack_bytes(uint64_t limit, size_t main_width, size_t pre_width, size_t public_values,
     const uint8_t *nodes, size_t nodes_len, const uint8_t *lookups, size_t lookups_len,
     const uint8_t *names, size_t names_len, const uint8_t *tuples, size_t tuples_len,
@@ -136,14 +138,10 @@ uint32_t delmatik_pack_bytes(uint64_t limit, size_t main_width, size_t pre_width
     uint8_t *lookups_out, size_t lookups_out_len, uint8_t *names_out, size_t names_out_len,
     uint8_t *tuples_out, size_t tuples_out_len, uint8_t *multiplicities_out, size_t multiplicities_out_len,
     uint8_t *flags_out, size_t flags_out_len, uint8_t *elements_out, size_t elements_out_len,
-    uint32_t *nodes_room, size_t nodes_room_len, uint32_t *lookups_room, size_t lookups_room_len,
-    uint32_t *tuples_room, size_t tuples_room_len, uint32_t *multiplicities_room, size_t multiplicities_room_len,
-    uint32_t *flags_room, size_t flags_room_len, uint32_t *elements_room, size_t elements_room_len,
-    uint32_t *lookups_out_room, size_t lookups_out_room_len, uint32_t *tuples_out_room, size_t tuples_out_room_len,
-    uint32_t *multiplicities_out_room, size_t multiplicities_out_room_len, uint32_t *flags_out_room, size_t flags_out_room_len,
-    uint32_t *elements_out_room, size_t elements_out_room_len,
+    uint32_t *room, size_t room_len, uint32_t *out_room, size_t out_room_len,
     uint64_t used[6], uint64_t details[3]);
 
+/* room: main, preprocessed, public values, nodes, sizes, lookups, tuples, multiplicities, flags, elements. workspace_room: the workspace. */
 uint32_t delmatik_balance_bytes(
     const uint8_t *main, size_t main_len, const uint8_t *preprocessed, size_t preprocessed_len,
     const uint8_t *public_values, size_t public_values_len, const uint8_t *nodes, size_t nodes_len,
@@ -152,12 +150,7 @@ uint32_t delmatik_balance_bytes(
     const uint8_t *flags, size_t flags_len, const uint8_t *elements, size_t elements_len,
     const uint8_t *sizes, size_t sizes_len,
     uint8_t *workspace, size_t workspace_len,
-    uint32_t *main_room, size_t main_room_len, uint32_t *preprocessed_room, size_t preprocessed_room_len,
-    uint32_t *public_values_room, size_t public_values_room_len, uint32_t *nodes_room, size_t nodes_room_len,
-    uint32_t *lookups_room, size_t lookups_room_len, uint32_t *tuples_room, size_t tuples_room_len,
-    uint32_t *multiplicities_room, size_t multiplicities_room_len, uint32_t *flags_room, size_t flags_room_len,
-    uint32_t *elements_room, size_t elements_room_len, uint32_t *sizes_room, size_t sizes_room_len,
-    uint32_t *workspace_room, size_t workspace_room_len,
+    uint32_t *room, size_t room_len, uint32_t *workspace_room, size_t workspace_room_len,
     uint64_t details[3]);
 
 /* One element: its power, and its inverse, 0 where it is 0. */

@@ -1,4 +1,4 @@
-//! Each door on one case: the model beside the crate, and beside the port where it is linked.
+//! Each function on one case: the model beside the crate, and beside the port where it is linked.
 use std::collections::BTreeMap;
 
 use crate::generator::Case;
@@ -6,7 +6,7 @@ use crate::model::{self, Answer};
 use crate::plain::{self, Ext, P};
 use crate::port::Port;
 
-/// How a door's answer was compared.
+/// How a function's answer was compared.
 #[derive(Clone, Copy, Debug, PartialEq, Eq, PartialOrd, Ord)]
 pub enum Compared {
     /// The crate answers the same, or panics where the model refuses.
@@ -21,11 +21,11 @@ pub enum Compared {
 
 #[derive(Debug)]
 pub struct Disagreement {
-    pub door: &'static str,
+    pub function: &'static str,
     pub text: String,
 }
 
-/// How often each door gave each number.
+/// How often each function gave each number.
 #[derive(Default)]
 pub struct Tally {
     pub counts: BTreeMap<(&'static str, u32, Compared), u64>,
@@ -35,12 +35,12 @@ pub struct Tally {
 type Checked = Result<Compared, String>;
 
 pub fn check(case: &Case, port: Option<&dyn Port>, tally: &mut Tally) -> Result<(), Disagreement> {
-    let mut run = |door: &'static str, (answer, compared): (Answer, Checked)| match compared {
+    let mut run = |function: &'static str, (answer, compared): (Answer, Checked)| match compared {
         Ok(compared) => {
-            *tally.counts.entry((door, answer.number, compared)).or_default() += 1;
+            *tally.counts.entry((function, answer.number, compared)).or_default() += 1;
             Ok(())
         }
-        Err(text) => Err(Disagreement { door, text: format!("the model has {answer:?}; {text}") }),
+        Err(text) => Err(Disagreement { function, text: format!("the model has {answer:?}; {text}") }),
     };
     run("generation", generation(case))?;
     for lookup in 0..case.tables[0].lookup_count().min(4) + 1 {
@@ -116,8 +116,8 @@ mod against_crate {
     use super::*;
 
     macro_rules! untaken {
-        ($($door:ident),*) => {
-            $(pub fn $door(_case: &Case) -> (Answer, Checked) {
+        ($($function:ident),*) => {
+            $(pub fn $function(_case: &Case) -> (Answer, Checked) {
                 (model::ACCEPTED, Ok(Compared::Untaken))
             })*
         };
@@ -377,10 +377,10 @@ pub use against_crate::{
 /// The model beside the port, on every input.
 fn check_port(case: &Case, port: &dyn Port, tally: &mut Tally) -> Result<(), Disagreement> {
     let t = &case.tables[0];
-    let mut run = |door: &'static str, compared: Option<Result<(), String>>| {
+    let mut run = |function: &'static str, compared: Option<Result<(), String>>| {
         let Some(compared) = compared else { return Ok(()) };
-        *tally.ported.entry(door).or_default() += 1;
-        compared.map_err(|text| Disagreement { door, text: format!("model and port differ; {text}") })
+        *tally.ported.entry(function).or_default() += 1;
+        compared.map_err(|text| Disagreement { function, text: format!("model and port differ; {text}") })
     };
 
     let (mut expected, mut trace, mut words) = (vec![7; case.buffer], vec![7; case.buffer], [7; 5]);

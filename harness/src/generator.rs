@@ -1,11 +1,11 @@
-//! Random tables with what each door needs besides, damaged copies of them, and a fixed list of tables at the limits.
+//! Random tables with what each function needs besides, damaged copies of them, and a fixed list of tables at the limits.
 use std::fmt;
 
 use crate::model;
 use crate::plain::{self, Ext, P, Random};
 use crate::table::{Interaction, LOOKUP_WORDS, Lookup, Part, Table, line};
 
-/// One input for each door. The doors of one table take the first.
+/// One input for each function. Those of one table take the first.
 #[derive(Clone, Debug, Default, PartialEq)]
 pub struct Case {
     pub tables: Vec<Table>,
@@ -391,7 +391,7 @@ fn meet_tuple(random: &mut Random, t: &Table, challenges: &mut [u32]) {
     }
 }
 
-/// The tables with inputs for each door that none of refusals 1 to 12 meets.
+/// The tables with inputs for each function that none of refusals 1 to 12 meets.
 fn case_of(random: &mut Random, tables: Vec<Table>) -> Case {
     let n = tables[0].lookup_count();
     let shared = random.one_in(2).then(|| [random.challenge(), random.challenge()].concat());
@@ -441,7 +441,7 @@ pub fn shorten<T>(list: &mut Vec<T>) {
     list.truncate(list.len().saturating_sub(1));
 }
 
-/// Breaks something: a word, a length, a size, or one of the doors' own inputs.
+/// Breaks something: a word, a length, a size, or one of the functions' own inputs.
 pub fn damage(random: &mut Random, case: &mut Case) {
     for _ in 0..1 + random.below(2) {
         match random.below(16) {
@@ -559,7 +559,7 @@ fn to_build(over: usize) -> Vec<(String, Vec<Interaction>)> {
     ]
 }
 
-/// The limits of document 01, each met and passed by one, with a name.
+/// The limits of docs/SPECIFICATION.md, each met and passed by one, with a name.
 pub fn boundaries() -> Vec<(String, Case)> {
     let mut random = Random(7);
     let mut cases = vec![];

@@ -1,4 +1,4 @@
-//! Lists lent to a door in memory that notices what it should not do: each list lies against a page that may not be touched, so that a read or a
+//! Lists lent to a function in memory that notices what it should not do: each list lies against a page that may not be touched, so that a read or a
 //! write past it stops the program; on its other side stand known bytes, which are looked at afterwards.
 use std::ffi::{c_int, c_long, c_void};
 
@@ -25,7 +25,7 @@ struct Place {
     kind: Kind,
 }
 
-/// What a door may do with a list.
+/// What a function may do with a list.
 #[derive(Clone, Copy, PartialEq)]
 enum Kind {
     /// Read it.
@@ -53,11 +53,21 @@ impl Place {
         Place { start, list: start, bytes: 0, lent: vec![], kind: Kind::Input }
     }
 
-    /// The known bytes beside the list.
-    fn beside(&self, high: bool) -> &mut [u8] {
+    /// Where the known bytes beside the list stand, and how many.
+    fn beside(&self, high: bool) -> (*mut u8, usize) {
         let n = BESIDE.min(ROOM - self.bytes);
-        let at = if high { self.list.wrapping_sub(n) } else { self.list.wrapping_add(self.bytes) };
-        unsafe { std::slice::from_raw_parts_mut(at, n) }
+        (if high { self.list.wrapping_sub(n) } else { self.list.wrapping_add(self.bytes) }, n)
+    }
+
+    fn write_beside(&mut self, high: bool) {
+        let (at, n) = self.beside(high);
+        unsafe { std::ptr::write_bytes(at, KNOWN, n) };
+    }
+
+    /// Whether the bytes beside the list are still the known ones.
+    fn kept_beside(&self, high: bool) -> bool {
+        let (at, n) = self.beside(high);
+        unsafe { std::slice::from_raw_parts(at, n) }.iter().all(|b| *b == KNOWN)
     }
 
     fn bytes(&self) -> &[u8] {
@@ -93,7 +103,7 @@ impl Lender {
         place.lent.clear();
         place.lent.extend(bytes);
         place.kind = kind;
-        place.beside(high).fill(KNOWN);
+        place.write_beside(high);
         unsafe { std::ptr::copy_nonoverlapping(bytes.as_ptr(), place.list, bytes.len()) };
         (place.list.cast(), list.len())
     }
@@ -104,17 +114,17 @@ impl Lender {
         (at, n)
     }
 
-    /// A list to be written, unless the door refuses by 1 to 12.
+    /// A list to be written, unless the function refuses by 1 to 12.
     pub fn write<T: Word>(&mut self, list: &[T]) -> (*mut T, usize) {
         self.place(list, Kind::Output)
     }
 
-    /// A list that the door may write to in any case.
+    /// A list that the function may write to in any case.
     pub fn room<T: Word>(&mut self, list: &[T]) -> (*mut T, usize) {
         self.place(list, Kind::Answer)
     }
 
-    /// Numbers that the door writes in any case.
+    /// Numbers that the function writes in any case.
     pub fn answer<T: Word>(&mut self, list: &[T]) -> *mut T {
         self.place(list, Kind::Answer).0
     }
@@ -127,7 +137,7 @@ impl Lender {
     /// Nothing was written beside a list or to an input, and nothing to an output that must be untouched.
     pub fn check(&self, untouched: bool) -> Result<(), String> {
         for (i, place) in self.places[..self.taken].iter().enumerate() {
-            if place.beside(self.high).iter().any(|b| *b != KNOWN) {
+            if !place.kept_beside(self.high) {
                 return Err(format!("bytes beside list {i} were written"));
             }
             let kept = place.kind == Kind::Input || untouched && place.kind == Kind::Output;
@@ -143,7 +153,7 @@ impl Lender {
 mod tests {
     use super::*;
 
-    /// What a door must not do is noticed, on either side.
+    /// What a function must not do is noticed, on either side.
     #[test]
     fn notices() {
         for high in [false, true] {

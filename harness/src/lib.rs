@@ -1,4 +1,5 @@
 //! The oracle runs and the benchmarks: the port's exported functions, the crate's own source, and a plain model of the specification.
+pub mod clock;
 pub mod compare;
 pub mod generator;
 pub mod lent;

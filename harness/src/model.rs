@@ -1,4 +1,4 @@
-//! Document 01 once more, as a plain program: an independent reading, to which the port and the crate are compared. It is written for
+//! The specification once more, as a plain program: an independent reading, to which the port and the crate are compared. It is written for
 //! reading, not for speed.
 use crate::plain::{self, Ext, P};
 use crate::table::{Entry, Interaction, LOOKUP_WORDS, Lookup, NODE_WORDS, Part, Table, Widths};
@@ -323,7 +323,7 @@ pub fn satisfying(t: &Table, challenges: &[u32]) -> (Vec<u32>, Ext) {
     (trace, accumulator)
 }
 
-// The doors.
+// The functions that the port exports.
 
 /// Generation: the trace buffer is written, the terminal given back.
 pub fn generate(t: &Table, challenges: &[u32], trace: &mut [u32]) -> (Answer, Option<Ext>) {
@@ -416,7 +416,7 @@ pub fn constraints(t: &Table, challenges: &[u32], width: u64, trace: &[u32], ter
     ACCEPTED
 }
 
-/// Refusals 1 to 5 of the doors that take a table's widths, public values, nodes and lookups, but no traces.
+/// Refusals 1 to 5 of the functions that take a table's widths, public values, nodes and lookups, but no traces.
 fn plan_refusal(t: &Table) -> u32 {
     first_refused(&[
         (1, &|| plan_sizes_fit(t)),
@@ -571,7 +571,7 @@ pub fn count_of(n: i32) -> (u32, u32) {
 }
 
 /// The widest bus tuple. Only the lookups of the tables are read.
-/// The widest bus tuple. The door has the lookups' words, names and widths only, so that 5 does not apply.
+/// The widest bus tuple. The function has the lookups' words, names and widths only, so that 5 does not apply.
 pub fn widths(tables: &[Table]) -> (Answer, u64) {
     if TABLES < tables.len() || !tables.iter().all(widths_within) {
         return (refused(1), 0);
@@ -585,7 +585,7 @@ pub fn widths(tables: &[Table]) -> (Answer, u64) {
     (ACCEPTED, seen.iter().map(|(_, width)| *width as u64).max().unwrap_or(0))
 }
 
-/// The sum of weight × height. The door has the lookups' words only.
+/// The sum of weight × height. The function has the lookups' words only.
 pub fn height_bound(tables: &[Table], heights: &[u64]) -> Answer {
     let fit =
         tables.len() <= TABLES && heights.len() == tables.len() && heights.iter().all(|h| *h <= HEIGHT) && tables.iter().all(words_within);

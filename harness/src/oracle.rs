@@ -175,7 +175,7 @@ fn traces(t: &Table) -> Traces {
     }
 }
 
-// The doors.
+// The crate's functions.
 
 /// `generate_permutation`: the trace's words and the terminal.
 pub fn generate(t: &Table, challenges: &[u32]) -> Run<(Vec<u32>, Option<Ext>)> {

@@ -1,11 +1,11 @@
-//! The port's doors over tables, by one trait. Each gives the refusal's number and details; what it lends is written in place.
+//! The port's exported functions over tables, by one trait. Each gives the refusal's number and details; what it lends is written in place.
 #[cfg(feature = "port")]
 use crate::model::ACCEPTED;
 use crate::model::Answer;
 use crate::plain::Ext;
 use crate::table::{Interaction, Lookup, Table};
 
-/// A door that the port does not export yet gives `None`.
+/// What a port does not have gives `None`.
 pub trait Port {
     /// The first word of `terminal` is 1 where there is one; its four words follow.
     fn generate(&self, t: &Table, challenges: &[u32], trace: &mut [u32], terminal: &mut [u32; 5]) -> Option<Answer>;
@@ -71,7 +71,7 @@ pub fn wrapped(t: &Table) -> delmatik::Table {
     }
 }
 
-/// The doors of the static library, by the wrapper in bindings/rust.
+/// The functions of the static libraries, by the wrapper in bindings/rust.
 #[cfg(feature = "port")]
 pub struct Exported;
 
@@ -103,7 +103,7 @@ mod exported {
         tables.iter().map(wrapped).collect()
     }
 
-    /// The number and details, and the value, or what stands for it where the door refuses.
+    /// The number and details, and the value, or what stands for it where the function refuses.
     fn answer<T: Default>(result: Result<T, Refusal>) -> (Answer, T) {
         match result {
             Ok(value) => (ACCEPTED, value),
@@ -111,7 +111,7 @@ mod exported {
         }
     }
 
-    /// The word door's answer where the byte door agrees with it in all that it gives; else one that no door gives, so that the comparison
+    /// The answer on words where the function on bytes agrees with it in all that it gives; else one that none gives, so that the comparison
     /// reports the table.
     fn agreed(answer: Answer, same: bool) -> Answer {
         if same { answer } else { Answer { number: u32::MAX, details: [0; 3] } }
@@ -170,7 +170,7 @@ mod exported {
         }
 
         fn balance(&self, all: &[Table], workspace: &mut [u32]) -> Option<Answer> {
-            // Fourteen sizes say nothing of words past the last whole node or lookup: the model has such a table's sizes at odds, as the door.
+            // Fourteen sizes say nothing of words past the last whole node or lookup: the model has such a table's sizes at odds, as the function.
             let all = tables(all);
             let mut held = bytes::of(workspace);
             let sizes: Vec<u8> = all.iter().flat_map(|t| bytes::of(&t.sizes())).collect();

@@ -125,7 +125,7 @@ fn challenges_and_rows() {
 }
 
 #[test]
-fn panics_of_the_other_doors() {
+fn panics_of_the_other_functions() {
     let t = table(&[3], &[once(0)]);
     let trace = [0, 1006632961].map(lift).concat();
     assert_eq!(model::constraints(&t, &pairs(1), 2, &trace, None).number, 11);

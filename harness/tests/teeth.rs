@@ -1,4 +1,4 @@
-//! The comparison notices wrong ports, and makes what it finds small. The wrong ports are the readings that document 01 warns of, and others.
+//! The comparison notices wrong ports, and makes what it finds small. The wrong ports are readings that docs/SPECIFICATION.md rules out, and others.
 use harness::compare::{Disagreement, Tally, check};
 use harness::generator::{self, Case};
 use harness::model::{self, Answer};
@@ -157,7 +157,8 @@ fn the_model_itself_is_accepted() {
 fn each_mistake_is_found_and_made_small() {
     for mistake in MISTAKES {
         let (case, disagreement) = found(mistake, 3_000).unwrap_or_else(|| panic!("{mistake:?} is not found"));
-        let fails = |case: &Case| check(case, Some(&mistake), &mut Tally::default()).is_err_and(|other| other.door == disagreement.door);
+        let fails =
+            |case: &Case| check(case, Some(&mistake), &mut Tally::default()).is_err_and(|other| other.function == disagreement.function);
         let small = shrink(&case, &fails);
         let words = small.tables.iter().map(|t| t.main.len() + t.nodes.len() + t.lookups.len()).sum::<usize>();
         assert!(fails(&small) && words <= 40, "{mistake:?} in {words} words:\n{small}");

@@ -1,5 +1,5 @@
-//! The same doors for a caller that holds bytes: each list of words is a byte slice, four bytes a word, the least byte first. A door decodes them
-//! into rooms of words; this module lends it one room, split among the lists.
+//! The same functions for a caller that holds bytes: each list of words is a byte slice, four bytes a word, the least byte first. A function decodes them
+//! into two rooms of words, which this module lends it.
 //!
 //! ```
 //! use delmatik::{Lookup, Refusal, Table, bytes};
@@ -75,29 +75,18 @@ fn room(lists: &[&[u8]]) -> Vec<u32> {
     vec![0; lists.iter().map(|l| l.len() / 4).sum()]
 }
 
-/// Each list's own part of the room.
-fn parts<'a, const N: usize>(mut room: &'a mut [u32], lists: [&[u8]; N]) -> [&'a mut [u32]; N] {
-    lists.map(|list| {
-        let (own, rest) = std::mem::take(&mut room).split_at_mut(list.len() / 4);
-        room = rest;
-        own
-    })
-}
-
 impl Table {
     /// `generate_permutation`, into a lent buffer, which may be longer than the trace.
     pub fn generate_into(&self, challenges: &[u8], trace: &mut [u8]) -> Result<Option<LookupTerminal>, Refusal> {
         let Table { main, preprocessed, public_values, nodes, lookups, names, tuples, multiplicities, flags, elements, .. } = self;
-        let lists: [&[u8]; 11] =
-            [main, preprocessed, public_values, nodes, lookups, tuples, multiplicities, flags, elements, challenges, &*trace];
-        let mut words = room(&lists);
-        let [a, b, c, d, e, f, g, h, i, j, k] = parts(&mut words, lists);
+        let mut read = room(&[main, preprocessed, public_values, nodes, lookups, tuples, multiplicities, flags, elements, challenges]);
+        let mut written = room(&[&*trace]);
         let mut terminal = [0; 5];
-        call!(delmatik_generate_bytes(
+        call! { delmatik_generate_bytes(
             self.main_width, self.height, self.pre_width, self.pre_height, [main], [preprocessed], [public_values], [nodes], [lookups],
-            [names], [tuples], [multiplicities], [flags], [elements], [challenges], [mut trace], [mut a], [mut b], [mut c], [mut d], [mut e],
-            [mut f], [mut g], [mut h], [mut i], [mut j], [mut k], &mut terminal,
-        ))?;
+            [names], [tuples], [multiplicities], [flags], [elements], [challenges], [mut trace], [mut read],
+            [mut written], &mut terminal,
+        ) }?;
         let [present, words @ ..] = terminal;
         Ok((present == 1).then_some(LookupTerminal(words)))
     }
@@ -107,27 +96,14 @@ impl Table {
         let Table { nodes, lookups, names, tuples, multiplicities, flags, elements, .. } = self;
         let mut packed = self.clone();
         let out = &mut packed;
-        let lists: [&[u8]; 11] = [
-            nodes,
-            lookups,
-            tuples,
-            multiplicities,
-            flags,
-            elements,
-            &out.lookups,
-            &out.tuples,
-            &out.multiplicities,
-            &out.flags,
-            &out.elements,
-        ];
-        let mut words = room(&lists);
-        let [a, b, c, d, e, f, g, h, i, j, k] = parts(&mut words, lists);
+        let mut read = room(&[nodes, lookups, tuples, multiplicities, flags, elements]);
+        let mut written = room(&[&out.lookups, &out.tuples, &out.multiplicities, &out.flags, &out.elements]);
         let mut used = [0; 6];
-        call!(delmatik_pack_bytes(
+        call! { delmatik_pack_bytes(
             limit, self.main_width, self.pre_width, self.public_values.len() / 4, [nodes], [lookups], [names], [tuples], [multiplicities],
             [flags], [elements], [mut out.lookups], [mut out.names], [mut out.tuples], [mut out.multiplicities], [mut out.flags],
-            [mut out.elements], [mut a], [mut b], [mut c], [mut d], [mut e], [mut f], [mut g], [mut h], [mut i], [mut j], [mut k], &mut used,
-        ))?;
+            [mut out.elements], [mut read], [mut written], &mut used,
+        ) }?;
         let [l, n, t, m, f, e] = used.map(|n: u64| n as usize);
         out.lookups.truncate(4 * l);
         out.names.truncate(n);
@@ -146,12 +122,10 @@ pub fn balance(tables: &[Table], sizes: &[u8], workspace: &mut [u8]) -> Result<(
     let (lookups, names, tuples) = (joined(tables, |t| &t.lookups), joined(tables, |t| &t.names), joined(tables, |t| &t.tuples));
     let (multiplicities, flags) = (joined(tables, |t| &t.multiplicities), joined(tables, |t| &t.flags));
     let elements = joined(tables, |t| &t.elements);
-    let lists: [&[u8]; 11] =
-        [&main, &preprocessed, &public_values, &nodes, &lookups, &tuples, &multiplicities, &flags, &elements, sizes, &*workspace];
-    let mut words = room(&lists);
-    let [a, b, c, d, e, f, g, h, i, j, k] = parts(&mut words, lists);
-    call!(delmatik_balance_bytes(
+    let mut read = room(&[&main, &preprocessed, &public_values, &nodes, &lookups, &tuples, &multiplicities, &flags, &elements, sizes]);
+    let mut written = room(&[&*workspace]);
+    call! { delmatik_balance_bytes(
         [main], [preprocessed], [public_values], [nodes], [lookups], [names], [tuples], [multiplicities], [flags], [elements], [sizes],
-        [mut workspace], [mut a], [mut b], [mut c], [mut d], [mut e], [mut f], [mut g], [mut h], [mut i], [mut j], [mut k],
-    ))
+        [mut workspace], [mut read], [mut written],
+    ) }
 }

@@ -1,5 +1,7 @@
-//! A safe way into Delmatik's doors. Every door takes any words, and answers a [`Refusal`] where document 01's table asks for one; this
-//! crate lends the slices, sizes the outputs and hands back the project's types.
+//! A safe wrapper of Delmatik's exported functions. Each takes any words, and answers a [`Refusal`] where the table in
+//! docs/SPECIFICATION.md asks for one; this crate lends the slices, sizes the outputs and hands back types of its own.
+//!
+//! The functions on bytes are in the module `bytes`, with the feature of that name.
 //!
 //! ```
 //! use delmatik::{Lookup, Table};
@@ -20,6 +22,7 @@
 //! assert_eq!(terminal.0, [1006632961, 0, 0, 0]);
 //! assert_eq!(table.constraints(&[[5, 0, 0, 0], [0, 0, 0, 0]], 2, &generated.trace, Some(terminal)), Ok(()));
 //! ```
+#[cfg(feature = "bytes")]
 pub mod bytes;
 pub mod sys;
 
@@ -30,7 +33,7 @@ pub type Ext = [u32; 4];
 #[derive(Clone, Copy, Debug, PartialEq, Eq)]
 pub struct LookupTerminal(pub Ext);
 
-/// Document 01's number of a refusal, 1 to 20, and its three details, zero unless it names them.
+/// The number of a refusal, 1 to 20, and its three details, zero unless docs/SPECIFICATION.md names them.
 #[derive(Clone, Copy, Debug, PartialEq, Eq)]
 pub struct Refusal {
     pub number: u32,
@@ -66,7 +69,7 @@ pub enum Interaction {
     Exclusive(Vec<u8>, Vec<(u32, Part)>),
 }
 
-/// A table in flat words, as the doors take it.
+/// A table in flat words, as the exported functions take it.
 #[derive(Clone, Debug, Default, PartialEq, Eq)]
 pub struct Table {
     pub main_width: usize,
@@ -95,24 +98,26 @@ pub struct Generated {
     pub terminal: Option<LookupTerminal>,
 }
 
-/// Calls a door with slices as pointers and lengths. Safe, since a door reads and writes the lent slices alone, whatever they hold.
+/// Calls an exported function with slices as pointers and lengths. Safe, since it reads and writes the lent slices alone, whatever they hold.
+/// Braces around the call keep its layout: rustfmt would give each argument a line.
 macro_rules! call {
-    ($door:ident($($arguments:tt)*)) => {{
+    ($function:ident($($arguments:tt)*)) => {{
         let mut details = [0; 3];
-        let number = call!(@ $door details () $($arguments)*);
+        let number = call!(@ $function details () $($arguments)*);
         if number == 0 { Ok(()) } else { Err(Refusal { number, details }) }
     }};
-    (@ $door:ident $details:ident ($($done:tt)*) [mut $slice:expr], $($rest:tt)*) => {
-        call!(@ $door $details ($($done)* $slice.as_mut_ptr(), $slice.len(),) $($rest)*)
+    (@ $function:ident $details:ident ($($done:tt)*) [mut $slice:expr], $($rest:tt)*) => {
+        call!(@ $function $details ($($done)* $slice.as_mut_ptr(), $slice.len(),) $($rest)*)
     };
-    (@ $door:ident $details:ident ($($done:tt)*) [$slice:expr], $($rest:tt)*) => {
-        call!(@ $door $details ($($done)* $slice.as_ptr(), $slice.len(),) $($rest)*)
+    (@ $function:ident $details:ident ($($done:tt)*) [$slice:expr], $($rest:tt)*) => {
+        call!(@ $function $details ($($done)* $slice.as_ptr(), $slice.len(),) $($rest)*)
     };
-    (@ $door:ident $details:ident ($($done:tt)*) $argument:expr, $($rest:tt)*) => {
-        call!(@ $door $details ($($done)* $argument,) $($rest)*)
+    (@ $function:ident $details:ident ($($done:tt)*) $argument:expr, $($rest:tt)*) => {
+        call!(@ $function $details ($($done)* $argument,) $($rest)*)
     };
-    (@ $door:ident $details:ident ($($done:tt)*)) => { unsafe { sys::$door($($done)* &mut $details) } };
+    (@ $function:ident $details:ident ($($done:tt)*)) => { unsafe { sys::$function($($done)* &mut $details) } };
 }
+#[cfg(feature = "bytes")]
 pub(crate) use call;
 
 impl Interaction {
@@ -175,7 +180,7 @@ impl Table {
         self.lookups.len() / 8
     }
 
-    /// How many words the trace has; at most document 01's limits, beyond which generation refuses whatever the buffer.
+    /// How many words the trace has; at most what the limits allow, beyond which generation refuses whatever the buffer.
     fn trace_words(&self) -> usize {
         if self.lookups.is_empty() { 0 } else { 4 * self.height.min(1 << 20) * (self.lookup_count().min(64) + 1) }
     }
@@ -190,11 +195,11 @@ impl Table {
     /// The same with the challenges as words, into a lent buffer, which may be longer than the trace.
     pub fn generate_into(&self, challenges: &[u32], trace: &mut [u32]) -> Result<Option<LookupTerminal>, Refusal> {
         let mut terminal = [0; 5];
-        call!(delmatik_generate(
+        call! { delmatik_generate(
             self.main_width, self.height, self.pre_width, self.pre_height, [self.main], [self.preprocessed], [self.public_values],
             [self.nodes], [self.lookups], [self.names], [self.tuples], [self.multiplicities], [self.flags], [self.elements], [challenges],
             [mut trace], &mut terminal,
-        ))?;
+        ) }?;
         let [present, words @ ..] = terminal;
         Ok((present == 1).then_some(LookupTerminal(words)))
     }
@@ -207,20 +212,20 @@ impl Table {
     /// The same with the challenges as words.
     pub fn constraints_on(&self, challenges: &[u32], width: usize, trace: &[u32], terminal: Option<LookupTerminal>) -> Result<(), Refusal> {
         let LookupTerminal([t0, t1, t2, t3]) = terminal.unwrap_or(LookupTerminal([0; 4]));
-        call!(delmatik_constraints(
+        call! { delmatik_constraints(
             self.main_width, self.height, self.pre_width, self.pre_height, [self.main], [self.preprocessed], [self.public_values],
             [self.nodes], [self.lookups], [self.names], [self.tuples], [self.multiplicities], [self.flags], [self.elements], [challenges],
             width, [trace], terminal.is_some().into(), t0, t1, t2, t3,
-        ))
+        ) }
     }
 
     /// `constraint_degree_with_transition` of one lookup.
     pub fn degree(&self, lookup: usize, transition: u32) -> Result<u64, Refusal> {
         let mut degree = 0;
-        call!(delmatik_degree(
+        call! { delmatik_degree(
             self.main_width, self.pre_width, self.public_values.len(), [self.nodes], [self.lookups], [self.names], [self.tuples],
             [self.multiplicities], [self.flags], [self.elements], lookup, transition, &mut degree,
-        ))?;
+        ) }?;
         Ok(degree)
     }
 
@@ -229,11 +234,11 @@ impl Table {
         let mut packed = self.clone();
         let Table { lookups, names, tuples, multiplicities, flags, elements, .. } = &mut packed;
         let mut used = [0; 6];
-        call!(delmatik_pack(
+        call! { delmatik_pack(
             limit, self.main_width, self.pre_width, self.public_values.len(), [self.nodes], [self.lookups], [self.names], [self.tuples],
             [self.multiplicities], [self.flags], [self.elements], [mut lookups], [mut names], [mut tuples], [mut multiplicities],
             [mut flags], [mut elements], &mut used,
-        ))?;
+        ) }?;
         let [l, n, t, m, f, e] = used.map(|n: u64| n as usize);
         lookups.truncate(l);
         names.truncate(n);
@@ -277,15 +282,15 @@ impl Table {
         built.lookups = vec![0; 8 * interactions.len()];
         let Table { lookups, names, tuples, multiplicities, flags, elements, .. } = &mut built;
         let ([locals, globals, exclusives], mut used) = (kinds, 0);
-        call!(delmatik_build(
+        call! { delmatik_build(
             self.main_width, self.pre_width, self.public_values.len(), [self.nodes], locals, globals, exclusives, [words], [weights],
             [names], [tuples], [multiplicities], [flags], [elements], [mut lookups], &mut used,
-        ))?;
+        ) }?;
         lookups.truncate(used as usize);
         Ok(built)
     }
 
-    /// The 14 sizes that a door over several tables takes.
+    /// The 14 sizes that a function over several tables takes.
     pub fn sizes(&self) -> [u32; 14] {
         let shape = [self.main_width, self.height, self.pre_width, self.pre_height];
         let lists = [self.main.len(), self.preprocessed.len(), self.public_values.len(), self.nodes.len() / 3, self.lookup_count()];
@@ -314,7 +319,7 @@ pub fn widths(tables: &[Table]) -> Result<u64, Refusal> {
     let size = |t: &Table| [word(t.lookup_count()), word(t.names.len()), word(t.tuples.len())];
     let sizes: Vec<u32> = tables.iter().flat_map(size).collect();
     let mut widest = 0;
-    call!(delmatik_widths([lookups], [names], [tuples], [sizes], &mut widest,))?;
+    call! { delmatik_widths([lookups], [names], [tuples], [sizes], &mut widest,) }?;
     Ok(widest)
 }
 
@@ -323,21 +328,21 @@ pub fn height_bound(tables: &[Table], heights: &[usize]) -> Result<(), Refusal> 
     let lookups = joined(tables, |t| &t.lookups);
     let counts: Vec<u32> = tables.iter().map(|t| word(t.lookup_count())).collect();
     let heights: Vec<u32> = heights.iter().map(|h| word(*h)).collect();
-    call!(delmatik_height_bound([lookups], [counts], [heights],))
+    call! { delmatik_height_bound([lookups], [counts], [heights],) }
 }
 
 /// `verify_terminal_sum`: absent ones are skipped.
 pub fn terminals(terminals: &[Option<LookupTerminal>]) -> Result<(), Refusal> {
     let five = |t: &Option<LookupTerminal>| t.map_or([0; 5], |LookupTerminal([a, b, c, d])| [1, a, b, c, d]);
     let words: Vec<u32> = terminals.iter().flat_map(five).collect();
-    call!(delmatik_terminals([words],))
+    call! { delmatik_terminals([words],) }
 }
 
 /// `Challenges::new`: prefix i is alpha + (i + 1) × beta^width.
 pub fn prefixes(alpha: Ext, beta: Ext, width: usize, count: usize) -> Result<Vec<Ext>, Refusal> {
     // More than 256 are refused whatever the room.
     let mut out = vec![0; 4 * count.min(257)];
-    call!(delmatik_prefixes([alpha], [beta], width, count, [mut out],))?;
+    call! { delmatik_prefixes([alpha], [beta], width, count, [mut out],) }?;
     Ok(out.chunks_exact(4).map(|e| e.try_into().unwrap()).collect())
 }
 
@@ -349,13 +354,13 @@ pub fn balance(tables: &[Table], workspace: &mut [u32]) -> Result<(), Refusal> {
     let (lookups, names, tuples) = (joined(tables, |t| &t.lookups), joined(tables, |t| &t.names), joined(tables, |t| &t.tuples));
     let (multiplicities, flags) = (joined(tables, |t| &t.multiplicities), joined(tables, |t| &t.flags));
     let elements = joined(tables, |t| &t.elements);
-    call!(delmatik_balance(
+    call! { delmatik_balance(
         [main], [preprocessed], [public_values], [nodes], [lookups], [names], [tuples], [multiplicities], [flags], [elements], [sizes],
         [mut workspace],
-    ))
+    ) }
 }
 
-/// The answer of a door on one element, which has no details.
+/// The answer of a function on one element, which has no details.
 fn element(number: u32, out: Ext) -> Result<Ext, Refusal> {
     if number == 0 { Ok(out) } else { Err(Refusal { number, details: [0; 3] }) }
 }

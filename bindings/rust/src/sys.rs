@@ -1,17 +1,17 @@
-//! The doors as they are exported. Each gives document 01's number, 0 where nothing is refused, and writes three details. A door takes any
-//! words and lengths: it tests them itself, and reads and writes the lent slices alone.
+//! The functions as they are exported. Each gives the number of a refusal (docs/SPECIFICATION.md), 0 where nothing is refused, and writes
+//! three details. It takes any words and lengths: it tests them itself, and reads and writes the lent slices alone.
 
-/// A door's declaration: `[name: type]` is a slice, which is lent as a pointer and a length.
-macro_rules! door {
-    ($name:ident($($arguments:tt)*)) => { door!(@ $name () $($arguments)*); };
+/// The declaration of an exported function: `[name: type]` is a slice, which is lent as a pointer and a length.
+macro_rules! export {
+    ($name:ident($($arguments:tt)*)) => { export!(@ $name () $($arguments)*); };
     (@ $name:ident ($($done:tt)*) [$slice:ident: $type:ty], $($rest:tt)*) => {
-        door!(@ $name ($($done)* $slice: *const $type, _: usize,) $($rest)*);
+        export!(@ $name ($($done)* $slice: *const $type, _: usize,) $($rest)*);
     };
     (@ $name:ident ($($done:tt)*) [$slice:ident: mut $type:ty], $($rest:tt)*) => {
-        door!(@ $name ($($done)* $slice: *mut $type, _: usize,) $($rest)*);
+        export!(@ $name ($($done)* $slice: *mut $type, _: usize,) $($rest)*);
     };
     (@ $name:ident ($($done:tt)*) $argument:ident: $type:ty, $($rest:tt)*) => {
-        door!(@ $name ($($done)* $argument: $type,) $($rest)*);
+        export!(@ $name ($($done)* $argument: $type,) $($rest)*);
     };
     (@ $name:ident ($($done:tt)*)) => {
         unsafe extern "C" {
@@ -20,59 +20,54 @@ macro_rules! door {
     };
 }
 
-door!(delmatik_generate(
+export!(delmatik_generate(
     main_width: usize, height: usize, pre_width: usize, pre_height: usize, [main: u32], [preprocessed: u32], [public_values: u32],
     [nodes: u32], [lookups: u32], [names: u8], [tuples: u32], [multiplicities: u32], [flags: u32], [elements: u32], [challenges: u32],
     [trace: mut u32], terminal: *mut [u32; 5], details: *mut [u64; 3],
 ));
-door!(delmatik_constraints(
+export!(delmatik_constraints(
     main_width: usize, height: usize, pre_width: usize, pre_height: usize, [main: u32], [preprocessed: u32], [public_values: u32],
     [nodes: u32], [lookups: u32], [names: u8], [tuples: u32], [multiplicities: u32], [flags: u32], [elements: u32], [challenges: u32],
     trace_width: usize, [trace: u32], terminal_present: u32, t0: u32, t1: u32, t2: u32, t3: u32, details: *mut [u64; 3],
 ));
-door!(delmatik_degree(
+export!(delmatik_degree(
     main_width: usize, pre_width: usize, public_values: usize, [nodes: u32], [lookups: u32], [names: u8], [tuples: u32],
     [multiplicities: u32], [flags: u32], [elements: u32], lookup: usize, transition: u32, degree: *mut u64, details: *mut [u64; 3],
 ));
-door!(delmatik_pack(
+export!(delmatik_pack(
     limit: u64, main_width: usize, pre_width: usize, public_values: usize, [nodes: u32], [lookups: u32], [names: u8], [tuples: u32],
     [multiplicities: u32], [flags: u32], [elements: u32], [lookups_out: mut u32], [names_out: mut u8], [tuples_out: mut u32],
     [multiplicities_out: mut u32], [flags_out: mut u32], [elements_out: mut u32], used: *mut [u64; 6], details: *mut [u64; 3],
 ));
-door!(delmatik_build(
+export!(delmatik_build(
     main_width: usize, pre_width: usize, public_values: usize, [nodes: u32], locals: usize, globals: usize, exclusives: usize,
     [interactions: u32], [weights: u32], [names: u8], [tuples: u32], [multiplicities: u32], [flags: u32], [elements: u32],
     [lookups_out: mut u32], used: *mut u64, details: *mut [u64; 3],
 ));
-door!(delmatik_widths([lookups: u32], [names: u8], [tuples: u32], [sizes: u32], widest: *mut u64, details: *mut [u64; 3],));
-door!(delmatik_height_bound([lookups: u32], [counts: u32], [heights: u32], details: *mut [u64; 3],));
-door!(delmatik_terminals([terminals: u32], details: *mut [u64; 3],));
-door!(delmatik_prefixes([alpha: u32], [beta: u32], width: usize, count: usize, [out: mut u32], details: *mut [u64; 3],));
-door!(delmatik_balance(
+export!(delmatik_widths([lookups: u32], [names: u8], [tuples: u32], [sizes: u32], widest: *mut u64, details: *mut [u64; 3],));
+export!(delmatik_height_bound([lookups: u32], [counts: u32], [heights: u32], details: *mut [u64; 3],));
+export!(delmatik_terminals([terminals: u32], details: *mut [u64; 3],));
+export!(delmatik_prefixes([alpha: u32], [beta: u32], width: usize, count: usize, [out: mut u32], details: *mut [u64; 3],));
+export!(delmatik_balance(
     [main: u32], [preprocessed: u32], [public_values: u32], [nodes: u32], [lookups: u32], [names: u8], [tuples: u32],
     [multiplicities: u32], [flags: u32], [elements: u32], [sizes: u32], [workspace: mut u32], details: *mut [u64; 3],
 ));
-// The same on bytes: four for each word, the least byte first, and beside each list a room of as many words, into which it is decoded.
-door!(delmatik_generate_bytes(
+// The same on bytes: four for each word, the least byte first, and two rooms, into which the lists are decoded: those that are read into `room`.
+export!(delmatik_generate_bytes(
     main_width: usize, height: usize, pre_width: usize, pre_height: usize, [main: u8], [preprocessed: u8], [public_values: u8], [nodes: u8],
     [lookups: u8], [names: u8], [tuples: u8], [multiplicities: u8], [flags: u8], [elements: u8], [challenges: u8], [trace: mut u8],
-    [main_room: mut u32], [preprocessed_room: mut u32], [public_values_room: mut u32], [nodes_room: mut u32], [lookups_room: mut u32],
-    [tuples_room: mut u32], [multiplicities_room: mut u32], [flags_room: mut u32], [elements_room: mut u32], [challenges_room: mut u32],
-    [trace_room: mut u32], terminal: *mut [u32; 5], details: *mut [u64; 3],
+    [room: mut u32], [trace_room: mut u32], terminal: *mut [u32; 5], details: *mut [u64; 3],
 ));
-door!(delmatik_pack_bytes(
+export!(delmatik_pack_bytes(
     limit: u64, main_width: usize, pre_width: usize, public_values: usize, [nodes: u8], [lookups: u8], [names: u8], [tuples: u8],
     [multiplicities: u8], [flags: u8], [elements: u8], [lookups_out: mut u8], [names_out: mut u8], [tuples_out: mut u8],
-    [multiplicities_out: mut u8], [flags_out: mut u8], [elements_out: mut u8], [nodes_room: mut u32], [lookups_room: mut u32],
-    [tuples_room: mut u32], [multiplicities_room: mut u32], [flags_room: mut u32], [elements_room: mut u32], [lookups_out_room: mut u32],
-    [tuples_out_room: mut u32], [multiplicities_out_room: mut u32], [flags_out_room: mut u32], [elements_out_room: mut u32],
+    [multiplicities_out: mut u8], [flags_out: mut u8], [elements_out: mut u8], [room: mut u32], [out_room: mut u32],
     used: *mut [u64; 6], details: *mut [u64; 3],
 ));
-door!(delmatik_balance_bytes(
+export!(delmatik_balance_bytes(
     [main: u8], [preprocessed: u8], [public_values: u8], [nodes: u8], [lookups: u8], [names: u8], [tuples: u8], [multiplicities: u8],
-    [flags: u8], [elements: u8], [sizes: u8], [workspace: mut u8], [main_room: mut u32], [preprocessed_room: mut u32],
-    [public_values_room: mut u32], [nodes_room: mut u32], [lookups_room: mut u32], [tuples_room: mut u32], [multiplicities_room: mut u32],
-    [flags_room: mut u32], [elements_room: mut u32], [sizes_room: mut u32], [workspace_room: mut u32], details: *mut [u64; 3],
+    [flags: u8], [elements: u8], [sizes: u8], [workspace: mut u8], [room: mut u32],
+    [workspace_room: mut u32], details: *mut [u64; 3],
 ));
-door!(delmatik_power([a: u32], n: u32, [out: mut u32],));
-door!(delmatik_inverse([a: u32], [out: mut u32],));
+export!(delmatik_power([a: u32], n: u32, [out: mut u32],));
+export!(delmatik_inverse([a: u32], [out: mut u32],));

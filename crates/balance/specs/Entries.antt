@@ -1,5 +1,5 @@
--- The entries of a group. Document 01, Balance: "An entry counts multiplicity × flag; zeros are skipped. A group goes by table, lookup,
--- row, tuple." Slots skip the zeros.
+-- The entries of a group. SPECIFICATION, section 8.2: "gone through by table, lookup, row and tuple", "multiplicity × flag in an exclusive
+-- lookup, else the multiplicity". Slots skip the zeros.
 use Prim.Native.Nat.{ℕ}
 use mathlib.Core.Bool.{cond}
 use mathlib.Core.List.{List, [], map, flatMap}

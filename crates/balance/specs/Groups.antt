@@ -1,12 +1,11 @@
--- The groups of balance. Document 01, Balance: "each local alone, then each bus over all tables by first appearance. Groups count from 0
--- in that order." A group without entries counts too.
-use Prim.Native.Nat.{ℕ}
+-- The groups of balance. SPECIFICATION, section 8.1: "Each local is a group by itself", "Then each bus over all tables is one, by first
+-- appearance." A group without entries counts too.
 use mathlib.Core.Bool.{Bool, false, cond, not, _&&_, _||_}
 use mathlib.Core.List.{List, [], _∷_, _++_, map, flatMap}
 use Rattle.lists.specs.Same.{same-list}
 use Rattle.lookup.specs.Lookups.{Lookup, lookups-of}
 use Rattle.lookup.specs.Table.{Table}
-use Rattle.widths.specs.Order.{keep}
+use Rattle.lookup_buses.specs.Order.{keep}
 
 -- a lookup and its table
 pub record Member : Type 0 where
@@ -29,7 +28,7 @@ unfoldable pub appears : Member → List Member → Bool
 appears m [] = false
 appears m (n ∷ ns) = same-bus m n || appears m ns
 
--- "each local alone"
+-- "Each local is a group by itself"
 unfoldable pub local-group : Member → List (List Member)
 local-group m = cond (local m) ((m ∷ []) ∷ []) []
 

@@ -4,5 +4,5 @@ pub mod Entries
 pub mod Refusals
 pub mod Balance
 pub mod Members
-pub mod Valid
+pub mod inner
 pub mod laws

@@ -1,58 +1,51 @@
 // Where the lists of a table lie in the lists of all tables.
 use expression::sizes::Shape;
-use expression::words::index;
+use lookup::sizes::size;
 ghost use mathlib.Core.Path.{_≡_};
 ghost use Prim.Native.Nat.{_+_, _*_, _<_, _≤_};
-ghost use Rattle.balance.specs.Tables.{table-count, size, size-start, shape-at};
+ghost use Rattle.balance.specs.Tables.{table-sizes, table-count, size, size-start, shape-at};
 ghost use Rattle.balance.specs.Members.{table-of};
 
-// Size f of table t.
-fn size(sizes: &[u32], f: usize, t: usize) -> usize
-    requires { ⌜ (f < 14) × (t < table-count (now sizes)) ⌝ }
-    ensures { λ r. ⌜ (r ≡ size (now (sizes .entry)) f t) × (r ≤ 4294967295) ⌝ }
-{
-    index(sizes[14 * t + f])
-}
+// The sizes of a table, and the place of each among them.
+pub const TABLE_SIZES: usize = 14;
 
-// What the tables before table t have of size f.
-pub fn size_start(sizes: &[u32], f: usize, t: usize) -> usize
-    requires { ⌜ (f < 14) × (t ≤ table-count (now sizes)) × (t ≤ 16) ⌝ }
-    ensures { λ r. ⌜ (r ≡ size-start (now (sizes .entry)) f t) × (r ≤ 68719476720) ⌝ }
-{
-    let mut sum: usize = 0;
-    let mut j = 0;
-    while j < t {
-        let w = size(sizes, f, j);
-        sum = sum + w;
-        j += 1;
-    }
-    sum
-}
+pub const MAIN_WIDTH_SIZE: usize = 0;
 
-// Where the part of table t begins in a list whose length size f counts in units of so many words, and where it ends.
-pub fn part_start(sizes: &[u32], f: usize, unit: usize, t: usize) -> usize
-    requires { ⌜ (f < 14) × (unit ≤ 8) × (t < table-count (now sizes)) × (table-count (now sizes) ≤ 16) ⌝ }
-    ensures { λ r. ⌜ (r ≡ unit * size-start (now (sizes .entry)) f t) × (r ≤ 549755813760) ⌝ }
-{
-    unit * size_start(sizes, f, t)
-}
+pub const HEIGHT_SIZE: usize = 1;
 
-pub fn part_end(sizes: &[u32], f: usize, unit: usize, t: usize) -> usize
-    requires { ⌜ (f < 14) × (unit ≤ 8) × (t < table-count (now sizes)) × (table-count (now sizes) ≤ 16) ⌝ }
-    ensures { λ r. ⌜ (r ≡ unit * size-start (now (sizes .entry)) f t + unit * size (now (sizes .entry)) f t) × (r ≤ 584115552120) ⌝ }
-{
-    unit * size_start(sizes, f, t) + unit * size(sizes, f, t)
-}
+pub const PREPROCESSED_WIDTH_SIZE: usize = 2;
+
+pub const PREPROCESSED_HEIGHT_SIZE: usize = 3;
+
+pub const MAIN_COUNT_SIZE: usize = 4;
+
+pub const PREPROCESSED_COUNT_SIZE: usize = 5;
+
+pub const PUBLIC_VALUE_COUNT_SIZE: usize = 6;
+
+pub const NODE_COUNT_SIZE: usize = 7;
+
+pub const LOOKUP_COUNT_SIZE: usize = 8;
+
+pub const NAME_BYTE_COUNT_SIZE: usize = 9;
+
+pub const TUPLE_COUNT_SIZE: usize = 10;
+
+pub const MULTIPLICITY_COUNT_SIZE: usize = 11;
+
+pub const FLAG_COUNT_SIZE: usize = 12;
+
+pub const ELEMENT_COUNT_SIZE: usize = 13;
 
 pub fn shape_of(sizes: &[u32], t: usize) -> Shape
-    requires { ⌜ t < table-count (now sizes) ⌝ }
+    requires { ⌜ (t < table-count (now sizes)) × (table-count (now sizes) ≤ 16) ⌝ }
     ensures { λ r. ⌜ r ≡ shape-at (now (sizes .entry)) t ⌝ }
 {
     Shape {
-        main_width: size(sizes, 0, t),
-        height: size(sizes, 1, t),
-        pre_width: size(sizes, 2, t),
-        pre_height: size(sizes, 3, t),
+        main_width: size(sizes, TABLE_SIZES, MAIN_WIDTH_SIZE, t),
+        height: size(sizes, TABLE_SIZES, HEIGHT_SIZE, t),
+        pre_width: size(sizes, TABLE_SIZES, PREPROCESSED_WIDTH_SIZE, t),
+        pre_height: size(sizes, TABLE_SIZES, PREPROCESSED_HEIGHT_SIZE, t),
     }
 }
 
@@ -61,11 +54,11 @@ pub fn table_of(sizes: &[u32], m: usize) -> usize
     requires { ⌜ table-count (now sizes) ≤ 16 ⌝ }
     ensures { λ r. ⌜ r ≡ table-of (now (sizes .entry)) m ⌝ }
 {
-    let n = sizes.len() / 14;
+    let n = sizes.len() / TABLE_SIZES;
     let mut end: usize = 0;
     let mut t = 0;
     while t < n {
-        end = end + size(sizes, 8, t);
+        end = end + size(sizes, TABLE_SIZES, LOOKUP_COUNT_SIZE, t);
         if m < end {
             return t;
         }

@@ -1,5 +1,4 @@
--- The degrees of the nodes. Document 01, Expression: "Degree: 0 for kinds 0 and 5; 1 for 1 to 4, 6 and 7; t (0 or 1, given; more is
--- refusal 1) for 8; the larger for 9 and 10; the sum for 11; the operand's for 12."
+-- The degrees of the nodes. SPECIFICATION, section 3.1, has the degree of each kind in its table.
 use Prim.Native.Nat.{ℕ, zero, suc, _+_, max}
 use mathlib.Core.List.{List, [], _∷_, _++_}
 use Rattle.expression.specs.Words.{word}

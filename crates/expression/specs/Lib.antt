@@ -6,5 +6,5 @@ pub mod Window
 pub mod Values
 pub mod Degree
 pub mod Tests
-pub mod Valid
+pub mod Requires
 pub mod laws

@@ -1,5 +1,4 @@
--- The limits of document 01, "Sizes and port sequence": "16 tables; per table 64 lookups, 64 tuples in all, 8 words a tuple, 1,024 nodes,
--- 256 main and 64 preprocessed columns, 64 public values, height 2^20; 16 bytes a bus name; 256 prefixes; W 255"; refusal 4: "degree over 255".
+-- The limits of SPECIFICATION, section 11: how many tables there may be, how large each of them, and how high the degree of a node.
 use Prim.Native.Nat.{_≤_}
 use Rattle.expression.specs.declared.sizes.Limits.{Limits}
 

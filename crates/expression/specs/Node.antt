@@ -1,4 +1,4 @@
--- The expression table. Document 01, Expression: "a table of nodes stands in"; a node is three words: kind, a, b.
+-- The expression table. SPECIFICATION, section 3: "a list of nodes stands for them"; a node is three words: kind, a, b.
 use Prim.Native.Nat.{ℕ, _+_, _*_, _/_}
 use mathlib.Core.Bool.{cond}
 use mathlib.Core.List.{List}
@@ -8,8 +8,11 @@ use Rattle.expression.specs.Words.{word}
 use Rattle.expression.specs.declared.node.Node.{Node}
 use Rattle.expression.specs.declared.node.Node.the-variants.{Constant, Main, Preprocessed, PublicValue, FirstRow, LastRow, Transition, Sum, Difference, Product, Negation, Unknown}
 
--- "Kinds, decimal: 0 constant word; 1 main, current row; 2 main, next row; 3 and 4 the same for preprocessed; 5 public value; 6 first row;
--- 7 last row; 8 transition; 9 sum; 10 difference; 11 product; 12 negation."
+-- the words of a node
+abbrev pub node-words : ℕ
+node-words = 3
+
+-- the kinds of SPECIFICATION, section 3.1
 unfoldable pub decode : ℕ → ℕ → ℕ → Node
 decode k a b =
     cond (eqb k 0) (Constant a)
@@ -28,7 +31,7 @@ decode k a b =
 
 -- node i
 unfoldable pub node : List ℕ → ℕ → Node
-node nodes i = decode (word nodes (3 * i)) (word nodes (3 * i + 1)) (word nodes (3 * i + 2))
+node nodes i = decode (word nodes (node-words * i)) (word nodes (node-words * i + 1)) (word nodes (node-words * i + 2))
 
 abbrev pub node-count : List ℕ → ℕ
-node-count nodes = length nodes / 3
+node-count nodes = length nodes / node-words

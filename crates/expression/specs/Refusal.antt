@@ -1,4 +1,5 @@
--- Document 01's number and three details of each refusal: "Each answer has three 64-bit details, zero unless named."
+-- The number and the three details of each refusal. SPECIFICATION, section 1.4: "its details are zero unless the table there names them";
+-- the table is section 10.1.
 use Prim.Native.Nat.{ℕ}
 use mathlib.Core.Bool.{Bool, true, false}
 use mathlib.Core.Option.{Option, none, some}
@@ -62,7 +63,7 @@ abbrev pub refusal : Verdict → Option Refusal
 refusal Accepted = none
 refusal (Refused f) = some f
 
--- "An answer is given" has number 0 and zero details.
+-- "Number 0 with zero details means that nothing is refused"
 abbrev pub answer-number : Option Refusal → ℕ
 answer-number none = 0
 answer-number (some f) = number f

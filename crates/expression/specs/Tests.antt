@@ -1,4 +1,4 @@
--- Refusals 1 to 4 of a table's traces and nodes, as tests that hold where there is no such refusal.
+-- Refusals 1 to 4 of a table's traces and nodes, as tests that hold where there is no such refusal. SPECIFICATION, sections 10.1, 10.3 and 10.4.
 use Prim.Native.Nat.{ℕ, _*_, _%_}
 use mathlib.Core.Bool.{Bool, true, false, _&&_}
 use mathlib.Core.List.{List}
@@ -14,7 +14,7 @@ use Rattle.expression.specs.declared.sizes.Limits.{Limits}
 use Rattle.expression.specs.declared.node.Node.{Node}
 use Rattle.expression.specs.declared.node.Node.the-variants.{Constant, Main, Preprocessed, PublicValue, FirstRow, LastRow, Transition, Sum, Difference, Product, Negation, Unknown}
 
--- row 1, "size over a limit .. or main width 0"
+-- refusal 1, "a size is over a limit" or "main has no columns"
 unfoldable pub traces-within : Limits → Shape → List ℕ → Bool
 traces-within m s public-values =
     ltb 0 (s .«main_width»)
@@ -27,7 +27,7 @@ traces-within m s public-values =
 unfoldable pub nodes-within : Limits → List ℕ → Bool
 nodes-within m nodes = leb (node-count nodes) (m .nodes)
 
--- row 1, "at odds with a slice"
+-- refusal 1, "at odds with a list's length"
 unfoldable pub traces-fit : Shape → List ℕ → List ℕ → Bool
 traces-fit s main preprocessed =
     eqb (length main) (s .«main_width» * s .height) && eqb (length preprocessed) (s .«pre_width» * s .«pre_height»)
@@ -35,7 +35,7 @@ traces-fit s main preprocessed =
 unfoldable pub nodes-fit : List ℕ → Bool
 nodes-fit nodes = eqb (length nodes % 3) 0
 
--- row 2, "word not below p": the traces and the public values
+-- refusal 2: the traces and the public values
 unfoldable pub traces-below : ℕ → Traces → Bool
 traces-below p t = all-below p (t .main) && all-below p (t .preprocessed) && all-below p (t .public-values)
 
@@ -57,7 +57,7 @@ constant-below p Unknown = true
 unfoldable pub constants-below : ℕ → List ℕ → Bool
 constants-below p nodes = every (λ i. constant-below p (node nodes i)) (node-count nodes)
 
--- row 3, "unknown kind, operand not lower, column or public value absent": node i, where there are so many public values
+-- refusal 3: node i, where there are so many public values
 abbrev pub node-known : Shape → ℕ → ℕ → Node → Bool
 node-known s publics i (Constant a) = true
 node-known s publics i (Main o a) = ltb a (s .«main_width»)
@@ -75,6 +75,6 @@ node-known s publics i Unknown = false
 unfoldable pub nodes-known : Shape → ℕ → List ℕ → Bool
 nodes-known s publics nodes = every (λ i. node-known s publics i (node nodes i)) (node-count nodes)
 
--- row 4, "a node's degree over 255 at t = 1"
+-- refusal 4: "a node, used or not, has a degree over 255 at t = 1"
 unfoldable pub degrees-low : Limits → List ℕ → Bool
 degrees-low m nodes = all-within (m .degree) (degrees 1 nodes (node-count nodes))

@@ -1,4 +1,4 @@
--- The values of the nodes on a row. Document 01, Expression.
+-- The values of the nodes on a row. SPECIFICATION, section 3.3.
 use Prim.Native.Nat.{ℕ, zero, suc, _+_}
 use mathlib.Core.Bool.{Bool, cond, not}
 use mathlib.Core.List.{List, [], _∷_, _++_}
@@ -13,7 +13,7 @@ use Rattle.expression.specs.declared.node.Node.the-variants.{Constant, M
 abbrev pub bit : Bool → ℕ
 bit b = cond b 1 0
 
--- "Kinds 6 to 8 are 1 on row 0, on the last row and on all rows but the last, else 0." `vals` are the values of the lower nodes.
+-- SPECIFICATION, section 3.1, has the value of each kind in its table. `vals` are the values of the lower nodes.
 unfoldable pub node-value : ℕ → Window → List ℕ → Node → ℕ
 node-value p v vals (Constant a) = a
 node-value p v vals (Main o a) = word (v .main o) a
@@ -28,7 +28,7 @@ node-value p v vals (Product a b) = mulM p (word vals a) (word vals b)
 node-value p v vals (Negation a) = negM p (word vals a)
 node-value p v vals Unknown = 0
 
--- the values of the first n nodes, in node order; a node past them reads as 0: "zero at the start of every row"
+-- the values of the first n nodes, in node order; a node past them reads as 0: "zero at the start of each row"
 unfoldable pub values : ℕ → List ℕ → Window → ℕ → List ℕ
 values p nodes v zero = []
 values p nodes v (suc n) = values p nodes v n ++ (node-value p v (values p nodes v n) (node nodes n) ∷ [])

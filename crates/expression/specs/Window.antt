@@ -1,4 +1,4 @@
--- The traces of a table and the window on them.
+-- The traces of a table and the window on them. SPECIFICATION, sections 2.2 and 3.2.
 use Prim.Native.Nat.{ℕ, _+_, _*_, _%_}
 use mathlib.Core.Bool.{cond}
 use mathlib.Core.List.{List}
@@ -6,7 +6,7 @@ use lib.Dec.{eqb}
 use lib.ListN.{take, drop}
 use Rattle.expression.specs.declared.sizes.Shape.{Shape}
 
--- Door: "a main trace, perhaps a preprocessed trace, public values"
+-- the traces and public values of a table (SPECIFICATION, section 2.2)
 pub record Traces : Type 0 where
   pub shape : Shape
   pub main : List ℕ
@@ -29,8 +29,7 @@ pub record Window : Type 0 where
 unfoldable pub row-of : List ℕ → ℕ → ℕ → List ℕ
 row-of words width r = take width (drop (r * width) words)
 
--- Window: "the current row and the next row; after the last row comes row 0. A preprocessed trace with more rows than main wraps at
--- main's height."
+-- SPECIFICATION, section 3.2: "the current row r, and the next, (r + 1) modulo the height of main", "for the preprocessed trace too"
 unfoldable pub window : Traces → ℕ → Window
 window t r =
     record {

@@ -2,7 +2,10 @@
 ghost use mathlib.Core.Path.{_≡_};
 ghost use Prim.Native.Nat.{_+_, _*_, _≤_};
 ghost use lib.ListN.{length};
-ghost use Rattle.expression.specs.Node.{decode, node};
+ghost use Rattle.expression.specs.Node.{node-words, decode, node};
+
+// The words of a node: kind, a, b.
+pub const NODE_WORDS: usize = 3;
 
 // An offset is counted in rows from the current one.
 pub enum Node {
@@ -46,9 +49,9 @@ pub fn decode(k: u32, a: u32, b: u32) -> Node
 
 // Node i of a table.
 pub fn node_at(nodes: &[u32], i: usize) -> Node
-    requires { ⌜ 3 * i + 3 ≤ length (now nodes) ⌝ }
+    requires { ⌜ node-words * i + node-words ≤ length (now nodes) ⌝ }
     ensures { λ r. ⌜ r ≡ node (now (nodes .entry)) i ⌝ }
 {
-    let j = 3 * i;
+    let j = NODE_WORDS * i;
     decode(nodes[j], nodes[j + 1], nodes[j + 2])
 }

@@ -1,4 +1,4 @@
-// The refusals of document 01, one for each of its numbers 1 to 20, with the details that its table names.
+// The refusals of SPECIFICATION, section 10.1, one for each of its numbers 1 to 20, with the details that its table names.
 ghost use mathlib.Core.Path.{_≡_};
 ghost use Rattle.lists.specs.Count.{or-else};
 ghost use Rattle.expression.specs.Refusal.{refusal};

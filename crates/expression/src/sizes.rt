@@ -25,7 +25,7 @@ pub struct Limits {
     pub prefix_width: u32,
 }
 
-// The limits of document 01.
+// The limits of SPECIFICATION, section 11.
 pub fn cabinet() -> Limits
     ensures { λ r. ⌜ r ≡ cabinet ⌝ }
 {

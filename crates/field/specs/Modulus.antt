@@ -16,7 +16,7 @@ pub record Certificate (p w : ℕ) : Type 0 where
   pub root : ℕ
   pub root-squared : (root * root) % p ≡ (p - 1) % p
 
--- Document 01, Field: "p = 2013265921", "X⁴ = 11"
+-- SPECIFICATION, section 2.1: "p = 2013265921", "X⁴ = 11"
 abbrev pub babybear : ℕ
 babybear = 2013265921
 

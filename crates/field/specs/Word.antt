@@ -1,4 +1,4 @@
--- Words: numbers below p, with the operations modulo p. Document 01, Field: "Words are below p."
+-- Words: numbers below p, with the operations modulo p. SPECIFICATION, section 2.1: "A field word is a word below p".
 use Prim.Native.Nat.{ℕ, _+_, _*_, _-_, _%_}
 use Rattle.algebra.specs.Power.{powM}
 

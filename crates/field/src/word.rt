@@ -1,4 +1,6 @@
 // Words below p. Called with a constant p, each function is as fast as code for that p alone.
+use crate::modulus::BABYBEAR;
+use crate::modulus::BABYBEAR_U64;
 ghost use mathlib.Core.Path.{_≡_};
 ghost use Prim.Native.Nat.{_<_, _≤_, _*_, _%_};
 ghost use Rattle.algebra.specs.Prime.{Prime};
@@ -33,8 +35,8 @@ pub fn reduce(p: u32, n: u64) -> u32
     requires { ⌜ Modulus p ⌝ }
     ensures { λ r. ⌜ (r < p) × (r ≡ n % p) ⌝ }
 {
-    if p == 2013265921 {
-        return (n % 2013265921) as u32;
+    if p == BABYBEAR {
+        return (n % BABYBEAR_U64) as u32;
     }
     (n % (p as u64)) as u32
 }

@@ -1,4 +1,4 @@
--- A lookup on one row: its fraction, and refusals 13 to 15. Document 01, Column.
+-- A lookup on one row: its fraction, and refusals 13 to 15. SPECIFICATION, section 4.3.
 use Prim.Native.Nat.{ℕ, zero, suc}
 use mathlib.Core.Bool.{Bool, cond}
 use mathlib.Core.Option.{Option, none, some}
@@ -37,20 +37,20 @@ module _ (p w : ℕ) (c : Place) where
   unfoldable pub denom : ℕ → List ℕ
   denom k = denominator p w (c .alpha) (c .beta) (tuple (c .lookups) (c .vals) (c .lookup) k)
 
-  -- "a zero multiplicity gives denominator one"
+  -- "where m is 0 the denominator counts as 1"
   unfoldable pub used-denom : ℕ → List ℕ
   used-denom k = cond (eqb (multiplicity c k) 0) one4 (denom k)
 
-  -- "Additive: the fraction is the sum of multiplicity ÷ denominator over its tuples"; "No tuples gives 0." In Haböck's paper, section
-  -- 3.4, a sum of m(x) ÷ (X - t(x)).
+  -- additive: "the sum of m ÷ d over its tuples"; "A lookup without tuples has the fraction 0". In Haböck's paper, section 3.4, a sum of
+  -- m(x) ÷ (X - t(x)).
   unfoldable pub additive-fraction : List ℕ
   additive-fraction = sum4 p (λ k. quotient4 p w (multiplicity c k) (used-denom k)) (branches c)
 
-  -- row 15: "denominator used is 0"
+  -- refusal 15: "a denominator that is used is 0"
   unfoldable pub additive-fault : ℕ
   additive-fault = cond (some-of (λ k. is-zero (used-denom k)) (branches c)) 15 0
 
-  -- "the chosen branch gives its multiplicity ÷ its denominator, even where the multiplicity is zero; no branch gives 0"
+  -- exclusive: "m ÷ d of the branch whose flag is 1, also where m is 0; 0 where no flag is 1"
   abbrev pub branch-fraction : Option ℕ → List ℕ
   branch-fraction none = zero4
   branch-fraction (some k) = quotient4 p w (multiplicity c k) (denom k)
@@ -62,7 +62,7 @@ module _ (p w : ℕ) (c : Place) where
   branch-fault none = 0
   branch-fault (some k) = cond (is-zero (denom k)) 15 0
 
-  -- "each flag is 0 or 1 and at most one is 1"; "In one exclusive lookup: 13 by branch, 14, 15."
+  -- "13 where a flag is neither 0 nor 1; else 14 where two are 1; else 15 where the chosen branch has d = 0"
   unfoldable pub exclusive-fault : ℕ
   exclusive-fault =
       cond (some-of (λ k. ltb 1 (flag c k)) (branches c)) 13

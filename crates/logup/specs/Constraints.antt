@@ -1,4 +1,4 @@
--- Constraints (`eval_all`): the verdict on a whole trace and terminal. Document 01, "The other doors", Constraints.
+-- Constraints (`eval_all`): the verdict on a whole trace and terminal. SPECIFICATION, section 5.
 use Prim.Native.Nat.{ℕ, _+_, _*_, _/_, _%_, _<_}
 use mathlib.Core.Path.{_≡_}
 use mathlib.Core.Bool.{Bool, true, false, cond, _&&_, _||_, not}
@@ -49,7 +49,7 @@ module _ (p w : ℕ) (c : Place) where
   unfoldable pub common-denominator : List ℕ
   common-denominator = cond (exclusive (c .lookups .lookups) (c .lookup)) exclusive-denominator additive-denominator
 
--- row 17: "constraint not zero; row, place"
+-- refusal 17: "a constraint is not zero"; row, place
 abbrev pub must-vanish : List ℕ → ℕ → ℕ → Option Refusal
 must-vanish x r place = cond (is-zero x) none (some (ConstraintNotZero r place))
 
@@ -62,20 +62,20 @@ module _ (p w : ℕ) (l : Lookups) (challenges : List ℕ) (values : ℕ → Lis
   unfoldable pub cell-sum : ℕ → List ℕ
   cell-sum r = sum4 p (λ i. cell r (i + 1)) (lookup-count (l .lookups))
 
-  -- "each lookup's common denominator × fraction - numerator"
+  -- "D × fraction - N"
   unfoldable pub lookup-constraint : ℕ → ℕ → List ℕ
   lookup-constraint r i =
       sub4 p (mul4 p w (common-denominator p w (place p w l challenges values r i)) (cell r (i + 1))) (numerator p w (place p w l challenges values r i))
 
-  -- "the step on all rows but the last": accumulator of the next row - accumulator - sum of the row
+  -- on all rows but the last: "next accumulator - accumulator - sum of the row's fractions"
   unfoldable pub step : ℕ → List ℕ
   step r = sub4 p (sub4 p (cell (r + 1) 0) (cell r 0)) (cell-sum r)
 
-  -- "the terminal on the last": terminal - accumulator - sum of the row
+  -- on the last: "terminal - accumulator - sum of the row's fractions"
   unfoldable pub binding : ℕ → List ℕ
   binding r = sub4 p (sub4 p terminal (cell r 0)) (cell-sum r)
 
-  -- "lookup i is i; with n lookups accumulator n, step n + 1, terminal n + 2"
+  -- the places: lookup i is i; with n lookups the accumulator is n, the step n + 1, the terminal n + 2
   unfoldable pub row-verdict : ℕ → ℕ → Option Refusal
   row-verdict height r =
       or-else (first (λ i. must-vanish (lookup-constraint r i) r i) (lookup-count (l .lookups)))
@@ -97,8 +97,8 @@ module _ (m : Limits) (p w : ℕ) (t : Table) (challenges : List ℕ) (width : �
   abbrev pub lists : List ℕ
   lists = t .lookups .lookups
 
-  -- refusals 1 to 11, as generation's, with the trace and the terminal; 8 "constraints: fewer"; 10 "trace too narrow"; 11 "terminal present
-  -- without lookups, or absent with"
+  -- refusals 1 to 11, as generation's, with the trace and the terminal; 8 "fewer than 2n (constraints)"; 10 "a trace narrower than n + 1
+  -- (constraints)"; 11 "a terminal without lookups, or none with lookups"
   unfoldable pub constraints-refusal : Option Refusal
   constraints-refusal =
       unless (sizes m t && eqb (length challenges % 4) 0 && eqb (length words) (width * t .traces .shape .height * 4)) SizeAtOdds
@@ -120,7 +120,7 @@ module _ (m : Limits) (p w : ℕ) (t : Table) (challenges : List ℕ) (width : �
   unfoldable pub verdict : Option Refusal
   verdict = or-else constraints-refusal (terminal-verdict terminal)
 
--- "Where every denominator is nonzero and flags are lawful": no refusal 13 to 15, and no zero denominator in an additive lookup
+-- "Where every denominator is nonzero and flags are lawful" (section 5): no refusal 13 to 15, and no zero denominator in an additive lookup
 pub record Regular (p w : ℕ) (c : Place) : Type 0 where
   pub no-fault : fault p w c ≡ 0
   pub all-nonzero : exclusive (c .lookups .lookups) (c .lookup) ≡ false → (k : ℕ) → k < branches c → is-zero (denom p w c k) ≡ false

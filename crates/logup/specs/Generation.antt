@@ -1,4 +1,5 @@
--- Generation (`LogUpGadget::generate_permutation`): its answer and the words of the buffer afterwards, for every input. Document 01, Door.
+-- Generation (`LogUpGadget::generate_permutation`): its answer and the words of the buffer afterwards, for every input. SPECIFICATION,
+-- section 4.1.
 use Prim.Native.Nat.{ℕ, _*_, _/_, _%_}
 use mathlib.Core.Bool.{Bool, true, false, cond, _&&_, _||_, not}
 use mathlib.Core.Option.{Option, none, some}
@@ -6,7 +7,7 @@ use mathlib.Core.List.{List, _++_}
 use lib.Dec.{eqb, leb}
 use lib.ListN.{length, drop, replicate}
 use Rattle.field.specs.Element.{zero4}
-use Rattle.field.specs.Ext.{ws}
+use Rattle.field.specs.Ext.{ext-words}
 use Rattle.expression.specs.Words.{all-below}
 use Rattle.expression.specs.Refusal.{unless}
 use Rattle.expression.specs.Node.{node-count}
@@ -29,7 +30,7 @@ pub data Answer : Type 0 where
 
 -- the answer that the code's enum gives: its refusal, or its terminal's four words
 abbrev pub answer-of : Generated → Answer
-answer-of (Terminal t) = terminal (ws (t .0))
+answer-of (Terminal t) = terminal (ext-words (t .0))
 answer-of Absent = absent
 answer-of (Refused f) = refused f
 
@@ -37,7 +38,7 @@ pub record Outcome : Type 0 where
   pub answer : Answer
   pub buffer : List ℕ
 
--- the words `ws` at the front of a lent buffer: "words past it are untouched"
+-- the words `ext-words` at the front of a lent buffer: "words past it are untouched"
 abbrev pub written : List ℕ → ℕ → List ℕ → List ℕ
 written words n buffer = words ++ drop n buffer
 
@@ -45,7 +46,7 @@ module _ (m : Limits) (p w : ℕ) (t : Table) (challenges buffer : List ℕ) whe
   abbrev pub lists : List ℕ
   lists = t .lookups .lookups
 
-  -- "A door tests 1 to 12 in this order, where they apply"
+  -- SPECIFICATION, section 10.2: "tested in the order of their numbers, as far as they apply to the entry point"
   unfoldable pub entry-refusal : Option Refusal
   entry-refusal =
       unless (sizes m t && eqb (length challenges % 4) 0) SizeAtOdds
@@ -60,7 +61,7 @@ module _ (m : Limits) (p w : ℕ) (t : Table) (challenges buffer : List ℕ) whe
   abbrev pub values : ℕ → List ℕ
   values = row-values p (t .nodes) (t .traces)
 
-  -- "After 13 to 15 the used trace part is zero"; Rows: "The terminal is the sum of all fractions."
+  -- SPECIFICATION, section 4.5: "after refusals 13 to 15 it is zero"; 4.4: "The terminal is the sum of all fractions of all rows."
   unfoldable pub rows-outcome : Option Refusal → Outcome
   rows-outcome (some f) =
       record { answer = refused f; buffer = written (replicate (used lists (t .traces .shape .height)) 0) (used lists (t .traces .shape .height)) buffer }
@@ -70,7 +71,8 @@ module _ (m : Limits) (p w : ℕ) (t : Table) (challenges buffer : List ℕ) whe
         buffer = written (trace p w (t .lookups) challenges values (t .traces .shape .height)) (used lists (t .traces .shape .height)) buffer;
       }
 
-  -- "All lent outputs are untouched by 1 to 12"; Door: "No lookups: the trace is empty, the terminal absent."
+  -- SPECIFICATION, section 4.5: "so is the whole buffer after refusals 1 to 12"; 4.1: "Without lookups the terminal is absent and the
+  -- buffer is untouched."
   unfoldable pub entry-outcome : Option Refusal → Outcome
   entry-outcome (some f) = record { answer = refused f; buffer = buffer }
   entry-outcome none =
@@ -80,13 +82,13 @@ module _ (m : Limits) (p w : ℕ) (t : Table) (challenges buffer : List ℕ) whe
   unfoldable pub generation : Outcome
   generation = entry-outcome entry-refusal
 
--- Ledger: "it accepts when it gives no refusal"
+-- SPECIFICATION, section 9.2: it accepts "where it refuses nothing"
 abbrev pub accepts : Answer → Bool
 accepts (refused f) = false
 accepts absent = true
 accepts (terminal e) = true
 
--- Ledger: "Terminals agree when their four words are equal, an absent one being four zeros."
+-- SPECIFICATION, section 9.2: terminals agree "where their four words are equal; an absent one counts as four zeros"
 abbrev pub terminal-words : Answer → List ℕ
 terminal-words (refused f) = zero4
 terminal-words absent = zero4

@@ -1,4 +1,4 @@
--- The ledger of a table, and the sets of challenges at which two tables are compared. Document 01, Ledger.
+-- The ledger of a table, and the sets of challenges at which two tables are compared. SPECIFICATION, sections 9.1 and 9.2.
 use Prim.Native.Nat.{ℕ, _<_}
 use mathlib.Core.Path.{_≡_}
 use mathlib.Core.Bool.{Bool, false, cond, _&&_, _||_}
@@ -20,7 +20,7 @@ use Rattle.lookup.specs.Table.{Table}
 use Rattle.lookup.specs.Tests.{sizes, words-below, known, lists-agree, in-position, rows-enough}
 use Rattle.logup.specs.Tuple.{tuple}
 
--- "a table in which generation finds none of refusals 1 to 5 and 9"
+-- "where generation finds none of refusals 1 to 5 and 9 in it"
 unfoldable pub has-ledger : Limits → ℕ → Table → Bool
 has-ledger m p t =
     sizes m t && words-below p t && known t && degrees-low m (t .nodes)
@@ -33,12 +33,12 @@ pub record Entry : Type 0 where
   pub count : ℕ
 
 module _ (p : ℕ) (l : Lookups) where
-  -- "the multiplicity node the count, in an exclusive lookup times the flag node"
+  -- "its multiplicity there, times its flag in an exclusive lookup"
   unfoldable pub count : List ℕ → ℕ → ℕ → ℕ
   count vals i k =
       cond (exclusive (l .lookups) i) (mulM p (word vals (multiplicity-node l i k)) (word vals (flag-node l i k))) (word vals (multiplicity-node l i k))
 
-  -- "The element nodes on that row give the list"
+  -- "the tuple's words on that row are the list"
   abbrev pub entry : List ℕ → ℕ → ℕ → Entry
   entry vals i k = record { tuple = tuple l vals i k; count = count vals i k }
 
@@ -48,15 +48,15 @@ module _ (p : ℕ) (l : Lookups) where
   unfoldable pub row-entries : List ℕ → List Entry
   row-entries vals = joined (lookup-entries vals) 0 (lookup-count (l .lookups))
 
--- "It goes through every row, lookup and tuple."
+-- "For every row, lookup and tuple"
 unfoldable pub entries : ℕ → Table → List Entry
 entries p t = joined (λ r. row-entries p (t .lookups) (row-values p (t .nodes) (t .traces) r)) 0 (t .traces .shape .height)
 
--- "The count is added to that list's word, modulo p."
+-- "is added to that list's word, modulo p"
 unfoldable pub post : ℕ → (List ℕ → ℕ) → Entry → List ℕ → ℕ
 post p words e l = cond (same-list (e .tuple) l) (addM p (words l) (e .count)) (words l)
 
--- "one word for each list .., zero at the start"; "What stands at the end is the ledger."
+-- "a word for each list of field words, 0 at the start"; "What stands at the end is the ledger."
 unfoldable pub ledger : ℕ → Table → List ℕ → ℕ
 ledger p t = fold (post p) (λ l. 0) (entries p t)
 
@@ -69,7 +69,7 @@ unfoldable pub met : List Entry → List (List ℕ)
 met [] = []
 met (e ∷ es) = cond (eqb (e .count) 0 || listed (e .tuple) (met es)) (met es) (e .tuple ∷ met es)
 
--- "n counts the lists that get a nonzero count at least once in either table"
+-- "the number of different tuples that get a nonzero count at least once, in either table"
 unfoldable pub tuples-met : ℕ → Table → Table → ℕ
 tuples-met p t₁ t₂ = length (met (entries p t₁ ++ entries p t₂))
 
@@ -83,6 +83,6 @@ pub record Listed (p w : ℕ) (l : List ℕ) : Type 0 where
   pub width : length l ≡ w
   pub below : (a : ℕ) → List·Memᴰ a l → a < p
 
--- "A generation call at a pair gets that alpha and beta for each lookup"
+-- "gets this alpha and beta for every lookup"
 unfoldable pub at-pair : Table → List ℕ → List ℕ → List ℕ
 at-pair t alpha beta = joined (λ i. alpha ++ beta) 0 (lookup-count (t .lookups .lookups))

@@ -1,5 +1,4 @@
--- The row reader. Document 01, Rows: "Asked for a row, the reader hands back that part of the trace buffer; past the last row or the words,
--- an empty part."
+-- The row reader. SPECIFICATION, section 4.6: "the part of the buffer that holds row r", or "an empty part".
 use Prim.Native.Nat.{ℕ, suc, _+_, _*_}
 use mathlib.Core.Bool.{cond, _&&_}
 use mathlib.Core.List.{List, []}

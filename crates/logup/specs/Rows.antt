@@ -1,4 +1,4 @@
--- The rows of the trace, for lookups whose node values are given on each row. Document 01, Rows.
+-- The rows of the trace, for lookups whose node values are given on each row. SPECIFICATION, section 4.4.
 use Prim.Native.Nat.{ℕ, _+_, _*_}
 use mathlib.Core.Bool.{cond}
 use mathlib.Core.Option.{Option, none, some}
@@ -20,33 +20,33 @@ fault-refusal n r i =
 
 -- `values r` are the node values on row r
 module _ (p w : ℕ) (l : Lookups) (challenges : List ℕ) (values : ℕ → List ℕ) where
-  -- Door: "Challenges are exactly two per lookup, alpha then beta."
+  -- SPECIFICATION, section 4.1: "Those of lookup i are elements 2i (alpha) and 2i + 1 (beta)."
   unfoldable pub place : ℕ → ℕ → Place
   place r i = record { lookups = l; vals = values r; lookup = i; alpha = element challenges (2 * i); beta = element challenges (2 * i + 1) }
 
-  -- "Element i + 1 is lookup i's fraction."
+  -- "Element i + 1 is the fraction of lookup i on this row."
   unfoldable pub fraction-at : ℕ → ℕ → List ℕ
   fraction-at r i = fraction p w (place r i)
 
   unfoldable pub row-sum : ℕ → List ℕ
   row-sum r = sum4 p (fraction-at r) (lookup-count (l .lookups))
 
-  -- "Element 0 of a row is the accumulator: zero on row 0, then the sum of all fractions of earlier rows." In Haböck's paper the running
-  -- sum of the fractions.
+  -- "Element 0 is the accumulator: the sum of all fractions of the rows before it, so zero on row 0." In Haböck's paper the running sum of
+  -- the fractions.
   unfoldable pub accumulator : ℕ → List ℕ
   accumulator r = sum4 p row-sum r
 
   unfoldable pub row-words : ℕ → List ℕ
   row-words r = accumulator r ++ joined (fraction-at r) 0 (lookup-count (l .lookups))
 
-  -- "then goes row by row, lookup by lookup": 13, 14, 15 with row, lookup
+  -- "the first by row, then by lookup": 13, 14, 15 with row, lookup
   unfoldable pub fault-at : ℕ → ℕ → Option Refusal
   fault-at r i = fault-refusal (fault p w (place r i)) r i
 
   unfoldable pub row-fault : ℕ → Option Refusal
   row-fault r = first (fault-at r) (lookup-count (l .lookups))
 
-  -- Door: "the used part has height × (lookups + 1) elements, row by row"
+  -- SPECIFICATION, section 4.5: the used part "holds the trace, row by row"
   unfoldable pub trace : ℕ → List ℕ
   trace height = joined row-words 0 height
 

@@ -1,6 +1,6 @@
--- The combined value of a tuple and its denominator. Document 01, Tuple; Haböck, "Multivariate lookups based on logarithmic derivatives"
--- (ePrint 2022/1530), section 3: the linear factor X - z of a value z at the challenge X, here alpha; several columns are combined by
--- powers of a second challenge, here beta.
+-- The combined value of a tuple and its denominator. SPECIFICATION, section 4.2; Haböck, "Multivariate lookups based on logarithmic
+-- derivatives" (ePrint 2022/1530), section 3: the linear factor X - z of a value z at the challenge X, here alpha; several columns are
+-- combined by powers of a second challenge, here beta.
 use Prim.Native.Nat.{ℕ, _-_}
 use mathlib.Core.List.{List, map}
 use lib.ListN.{length}
@@ -12,7 +12,7 @@ use Rattle.lookup.specs.Lookups.{Lookups, tuple-nodes}
 unfoldable pub tuple : Lookups → List ℕ → ℕ → ℕ → List ℕ
 tuple l vals i k = map (word vals) (tuple-nodes l i k)
 
--- "element j of k elements is taken with beta to the power k - 1 - j"
+-- "Σ tⱼ·β^(k-1-j)"
 abbrev pub exponent : ℕ → ℕ → ℕ
 exponent k j = k - 1 - j
 
@@ -20,7 +20,7 @@ exponent k j = k - 1 - j
 unfoldable pub combine : ℕ → ℕ → List ℕ → List ℕ → List ℕ
 combine p w beta es = sum4 p (λ j. scale4 p (word es j) (power4 p w beta (exponent (length es) j))) (length es)
 
--- "The denominator is alpha minus the combined value"
+-- "Its denominator is α less the combined value."
 unfoldable pub denominator : ℕ → ℕ → List ℕ → List ℕ → List ℕ → List ℕ
 denominator p w alpha beta es = sub4 p alpha (combine p w beta es)
 

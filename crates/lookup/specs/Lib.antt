@@ -1,6 +1,8 @@
 pub mod Lookups
+pub mod Buses
 pub mod Table
 pub mod Tests
-pub mod Entry
-pub mod Valid
+pub mod Refusals
+pub mod Requires
+pub mod Sizes
 pub mod laws

@@ -1,7 +1,7 @@
--- The words of a table's lookups: flat lists, and what is read from them. Each reader takes just the lists that it reads.
+-- The words of a table's lookups: flat lists, and what is read from them. Each reader takes just the lists that it reads. SPECIFICATION, sections 2.4 to 2.6.
 use Prim.Native.Nat.{ℕ, _+_, _*_, _/_}
 use mathlib.Core.Bool.{Bool, cond, not}
-use mathlib.Core.List.{List}
+use mathlib.Core.List.{List, []}
 use lib.Dec.{eqb}
 use lib.ListN.{length, take, drop}
 use Rattle.lists.specs.Count.{total}
@@ -27,38 +27,70 @@ abbrev pub lent-lookups : List ℕ → List ℕ → List ℕ → List ℕ → Li
 lent-lookups lookups names tuples multiplicities flags elements =
     record { lookups = lookups; names = names; tuples = tuples; multiplicities = multiplicities; flags = flags; elements = elements }
 
+-- the lookups of which just these lists are lent: what the buses are read from
+abbrev pub bus-lookups : List ℕ → List ℕ → List ℕ → Lookups
+bus-lookups lookups names tuples = lent-lookups lookups names tuples [] [] []
+
+-- the words of a lookup's record, and the place of each
+abbrev pub lookup-words : ℕ
+lookup-words = 8
+
+abbrev pub scope-word : ℕ
+scope-word = 0
+
+abbrev pub name-length-word : ℕ
+name-length-word = 1
+
+abbrev pub weight-word : ℕ
+weight-word = 2
+
+abbrev pub column-word : ℕ
+column-word = 3
+
+abbrev pub exclusive-word : ℕ
+exclusive-word = 4
+
+abbrev pub tuple-count-word : ℕ
+tuple-count-word = 5
+
+abbrev pub multiplicity-count-word : ℕ
+multiplicity-count-word = 6
+
+abbrev pub flag-count-word : ℕ
+flag-count-word = 7
+
 abbrev pub lookup-count : List ℕ → ℕ
-lookup-count lookups = length lookups / 8
+lookup-count lookups = length lookups / lookup-words
 
 -- word f of lookup i
-abbrev pub entry : List ℕ → ℕ → ℕ → ℕ
-entry lookups i f = word lookups (8 * i + f)
+abbrev pub lookup-word : List ℕ → ℕ → ℕ → ℕ
+lookup-word lookups i f = word lookups (lookup-words * i + f)
 
 -- a mark word other than 0 counts as 1: a lookup is on a bus, or local
 abbrev pub on-bus : List ℕ → ℕ → Bool
-on-bus lookups i = not (eqb (entry lookups i 0) 0)
+on-bus lookups i = not (eqb (lookup-word lookups i scope-word) 0)
 
 -- a local has no name
 abbrev pub name-length : List ℕ → ℕ → ℕ
-name-length lookups i = cond (on-bus lookups i) (entry lookups i 1) 0
+name-length lookups i = cond (on-bus lookups i) (lookup-word lookups i name-length-word) 0
 
 abbrev pub weight : List ℕ → ℕ → ℕ
-weight lookups i = entry lookups i 2
+weight lookups i = lookup-word lookups i weight-word
 
 abbrev pub column : List ℕ → ℕ → ℕ
-column lookups i = entry lookups i 3
+column lookups i = lookup-word lookups i column-word
 
 abbrev pub exclusive : List ℕ → ℕ → Bool
-exclusive lookups i = not (eqb (entry lookups i 4) 0)
+exclusive lookups i = not (eqb (lookup-word lookups i exclusive-word) 0)
 
 abbrev pub tuple-count : List ℕ → ℕ → ℕ
-tuple-count lookups i = entry lookups i 5
+tuple-count lookups i = lookup-word lookups i tuple-count-word
 
 abbrev pub multiplicity-count : List ℕ → ℕ → ℕ
-multiplicity-count lookups i = entry lookups i 6
+multiplicity-count lookups i = lookup-word lookups i multiplicity-count-word
 
 abbrev pub flag-count : List ℕ → ℕ → ℕ
-flag-count lookups i = entry lookups i 7
+flag-count lookups i = lookup-word lookups i flag-count-word
 
 -- where lookup i's name begins in `names`
 unfoldable pub name-start : List ℕ → ℕ → ℕ
@@ -90,7 +122,7 @@ multiplicity-node l i k = word (l .multiplicities) (multiplicity-start (l .looku
 unfoldable pub flag-node : Lookups → ℕ → ℕ → ℕ
 flag-node l i k = word (l .flags) (flag-start (l .lookups) i + k)
 
--- Tuple: "A tuple's nodes are handed on as the middle of its lookup's node list": the element nodes of tuple k of lookup i
+-- the element nodes of tuple k of lookup i. SPECIFICATION, section 2.5: "a middle part of its lookup's part of `elements`"
 unfoldable pub tuple-nodes : Lookups → ℕ → ℕ → List ℕ
 tuple-nodes l i k =
     take (tuple-width (l .lookups) (l .tuples) i k) (drop (element-start (l .tuples) (tuple-start (l .lookups) i + k)) (l .elements))

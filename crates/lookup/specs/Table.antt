@@ -1,4 +1,4 @@
--- The words of a table: its traces, its nodes and its lookups.
+-- The words of a table: its traces, its nodes and its lookups. SPECIFICATION, section 2.2.
 use Prim.Native.Nat.{ℕ}
 use mathlib.Core.List.{List}
 use Rattle.expression.specs.Window.{Traces, lent-traces}

@@ -1,4 +1,4 @@
--- Refusals 1 to 5 and 9 of a whole table, as tests that hold where there is no such refusal.
+-- Refusals 1 to 5 and 9 of a whole table, as tests that hold where there is no such refusal. SPECIFICATION, section 10.
 use Prim.Native.Nat.{ℕ, _%_}
 use mathlib.Core.Bool.{Bool, cond, not, _&&_, _||_}
 use mathlib.Core.List.{List}
@@ -10,10 +10,10 @@ use Rattle.expression.specs.Node.{node-count}
 use Rattle.expression.specs.Tests.{traces-within, nodes-within, traces-fit, nodes-fit, traces-below, constants-below, nodes-known, degrees-low}
 use Rattle.expression.specs.declared.sizes.Shape.{Shape}
 use Rattle.expression.specs.declared.sizes.Limits.{Limits}
-use Rattle.lookup.specs.Lookups.{Lookups, lookup-count, name-length, column, exclusive, tuple-count, multiplicity-count, flag-count, name-start, tuple-start, multiplicity-start, flag-start, element-start}
+use Rattle.lookup.specs.Lookups.{Lookups, lookup-words, lookup-count, name-length, column, exclusive, tuple-count, multiplicity-count, flag-count, name-start, tuple-start, multiplicity-start, flag-start, element-start}
 use Rattle.lookup.specs.Table.{Table}
 
--- row 1, "size over a limit", of the lookups
+-- refusal 1, "a size is over a limit", of the lookups
 unfoldable pub lookups-within : Limits → List ℕ → List ℕ → Bool
 lookups-within m lookups tuples =
     leb (lookup-count lookups) (m .lookups)
@@ -21,17 +21,17 @@ lookups-within m lookups tuples =
     && all-within (m .«tuple_words») tuples
     && every (λ i. leb (name-length lookups i) (m .«name_bytes»)) (lookup-count lookups)
 
--- row 1, "at odds with a slice", of the lookups
+-- refusal 1, "at odds with a list's length", of the lookups
 unfoldable pub lookups-fit : Lookups → Bool
 lookups-fit l =
-    eqb (length (l .lookups) % 8) 0
+    eqb (length (l .lookups) % lookup-words) 0
     && eqb (length (l .names)) (name-start (l .lookups) (lookup-count (l .lookups)))
     && eqb (length (l .tuples)) (tuple-start (l .lookups) (lookup-count (l .lookups)))
     && eqb (length (l .multiplicities)) (multiplicity-start (l .lookups) (lookup-count (l .lookups)))
     && eqb (length (l .flags)) (flag-start (l .lookups) (lookup-count (l .lookups)))
     && eqb (length (l .elements)) (element-start (l .tuples) (length (l .tuples)))
 
--- row 1
+-- refusal 1
 unfoldable pub sizes : Limits → Table → Bool
 sizes m t =
     traces-within m (t .traces .shape) (t .traces .public-values)
@@ -41,38 +41,38 @@ sizes m t =
     && nodes-fit (t .nodes)
     && lookups-fit (t .lookups)
 
--- row 2, "word not below p", of a table: the traces, the public values, the constants
+-- refusal 2 of a table: the traces, the public values, the constants
 unfoldable pub words-below : ℕ → Table → Bool
 words-below p t = traces-below p (t .traces) && constants-below p (t .nodes)
 
--- row 3
+-- refusal 3
 unfoldable pub known : Table → Bool
 known t = nodes-known (t .traces .shape) (length (t .traces .public-values)) (t .nodes)
 
--- row 5, "a lookup's list lengths differ"
+-- refusal 5: the numbers of tuples, multiplicities and flags
 unfoldable pub lengths-agree : List ℕ → ℕ → Bool
 lengths-agree lookups i =
     eqb (multiplicity-count lookups i) (tuple-count lookups i)
     && eqb (flag-count lookups i) (cond (exclusive lookups i) (tuple-count lookups i) 0)
 
--- row 5, "node absent": n nodes
+-- refusal 5: "names a node that is not there"; n nodes
 unfoldable pub nodes-present : ℕ → Lookups → Bool
 nodes-present n l = all-below n (l .multiplicities) && all-below n (l .flags) && all-below n (l .elements)
 
 unfoldable pub lists-agree : ℕ → Lookups → Bool
 lists-agree n l = every (lengths-agree (l .lookups)) (lookup-count (l .lookups)) && nodes-present n l
 
--- row 5, "generation and constraints: column not its position"
+-- refusal 5: "in generation and constraints: a lookup's column is not its position"
 unfoldable pub in-position : List ℕ → Bool
 in-position lookups = every (λ i. eqb (column lookups i) i) (lookup-count lookups)
 
 unfoldable pub has-lookups : List ℕ → Bool
 has-lookups lookups = ltb 0 (lookup-count lookups)
 
--- row 9, ".. a table with lookups whose preprocessed is shorter"
+-- refusal 9: "a preprocessed trace, of width above 0, with fewer rows than main"
 unfoldable pub preprocessed-enough : Shape → Bool
 preprocessed-enough s = eqb (s .«pre_width») 0 || leb (s .height) (s .«pre_height»)
 
--- row 9, "generation and constraints: lookups with height 0"
+-- refusal 9: "with lookups: height 0 (generation, constraints)"
 unfoldable pub rows-enough : Shape → List ℕ → Bool
 rows-enough s lookups = not (has-lookups lookups) || (ltb 0 (s .height) && preprocessed-enough s)

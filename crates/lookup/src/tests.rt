@@ -1,6 +1,11 @@
 // Refusals 1, 5 and 9 of a table's lookups, as tests that hold where there is no such refusal.
+use crate::starts::element_start;
+use crate::starts::flag_start;
+use crate::starts::multiplicity_start;
+use crate::starts::name_start;
+use crate::starts::tuple_start;
+use crate::types::LOOKUP_WORDS;
 use crate::types::column;
-use crate::types::entry;
 use crate::types::exclusive;
 use crate::types::flag_count;
 use crate::types::multiplicity_count;
@@ -10,7 +15,8 @@ use expression::sizes::Limits;
 use expression::sizes::Shape;
 use expression::words::all_below;
 use expression::words::all_within;
-use expression::words::wide;
+use expression::words::to_u64;
+use expression::words::total_of;
 ghost use mathlib.Core.Path.{_≡_};
 ghost use mathlib.Core.Bool.{cond};
 ghost use mathlib.Core.List.{List};
@@ -19,14 +25,16 @@ ghost use lib.Dec.{eqb, leb};
 ghost use lib.ListN.{length};
 ghost use Rattle.lists.specs.Count.{total, every};
 ghost use Rattle.expression.specs.Words.{word};
-ghost use Rattle.lookup.specs.Lookups.{lent-lookups, lookup-count, entry, name-length, column, exclusive, tuple-count, name-start, element-start};
+ghost use Rattle.lookup.specs.Lookups.{lent-lookups, lookup-words, lookup-count, lookup-word, name-length, column, exclusive, tuple-count, name-start, element-start};
 ghost use Rattle.lookup.specs.Tests.{lookups-within, lookups-fit, lengths-agree, nodes-present, lists-agree, in-position, has-lookups, preprocessed-enough, rows-enough};
 
 // No name is longer than `most`.
 pub fn names_within(most: u32, lookups: &[u32]) -> bool
-    ensures { λ r. ⌜ r ≡ every (λ i. leb (name-length (now (lookups .entry)) i) most) (lookup-count (now (lookups .entry))) ⌝ }
+    ghost { List ℕ }
+    requires { λ l. ⌜ now lookups ≡ l ⌝ }
+    ensures { λ l r. ⌜ r ≡ every (λ i. leb (name-length l i) most) (lookup-count l) ⌝ }
 {
-    let n = lookups.len() / 8;
+    let n = lookups.len() / LOOKUP_WORDS;
     let mut ok = true;
     let mut i = 0;
     while i < n {
@@ -40,54 +48,20 @@ pub fn names_within(most: u32, lookups: &[u32]) -> bool
 pub fn lookups_within(limits: Limits, lookups: &[u32], tuples: &[u32]) -> bool
     ensures { λ r. ⌜ r ≡ lookups-within limits (now (lookups .entry)) (now (tuples .entry)) ⌝ }
 {
-    (lookups.len() / 8 <= limits.lookups)
+    (lookups.len() / LOOKUP_WORDS <= limits.lookups)
         & (tuples.len() <= limits.tuples)
         & all_within(limits.tuple_words, tuples)
         & names_within(limits.name_bytes, lookups)
 }
 
-// The bytes of all names. Few lookups, so that no sum leaves 64 bits; so below.
-fn name_total(lookups: &[u32]) -> u64
-    requires { ⌜ lookup-count (now lookups) ≤ 4294967295 ⌝ }
-    ensures { λ r. ⌜ r ≡ name-start (now (lookups .entry)) (lookup-count (now (lookups .entry))) ⌝ }
-{
-    let n = lookups.len() / 8;
-    let mut sum: u64 = 0;
-    let mut i = 0;
-    while i < n {
-        sum = sum + wide(name_length(lookups, i));
-        i += 1;
-    }
-    sum
-}
-
 // The sum of one word of each lookup.
-pub fn entry_total(lookups: &[u32], f: usize) -> u64
-    requires { ⌜ (f < 8) × (lookup-count (now lookups) ≤ 4294967295) ⌝ }
-    ensures { λ r. ⌜ (r ≡ total (λ i. entry (now (lookups .entry)) i f) (lookup-count (now (lookups .entry)))) × (r ≤ lookup-count (now (lookups .entry)) * 4294967295) ⌝ }
+pub fn lookup_total(lookups: &[u32], f: usize) -> u64
+    ghost { List ℕ }
+    requires { λ l. ⌜ now lookups ≡ l ⌝ }
+    requires { λ l. ⌜ (f < lookup-words) × (lookup-count l ≤ 4294967295) ⌝ }
+    ensures { λ l r. ⌜ (r ≡ total (λ i. lookup-word l i f) (lookup-count l)) × (r ≤ lookup-count l * 4294967295) ⌝ }
 {
-    let n = lookups.len() / 8;
-    let mut sum: u64 = 0;
-    let mut i = 0;
-    while i < n {
-        sum = sum + wide(entry(lookups, i, f));
-        i += 1;
-    }
-    sum
-}
-
-// The words of all tuples.
-fn width_total(tuples: &[u32]) -> u64
-    requires { ⌜ length (now tuples) ≤ 4294967295 ⌝ }
-    ensures { λ r. ⌜ r ≡ element-start (now (tuples .entry)) (length (now (tuples .entry))) ⌝ }
-{
-    let mut sum: u64 = 0;
-    let mut i = 0;
-    while i < tuples.len() {
-        sum = sum + wide(tuples[i]);
-        i += 1;
-    }
-    sum
+    total_of(lookups, LOOKUP_WORDS, f, lookups.len() / LOOKUP_WORDS) as u64
 }
 
 // Each list has the length that the lookups say.
@@ -102,18 +76,21 @@ pub fn lookups_fit(
     requires { ⌜ (lookup-count (now lookups) ≤ 4294967295) × (length (now tuples) ≤ 4294967295) ⌝ }
     ensures { λ r. ⌜ r ≡ lookups-fit (lent-lookups (now (lookups .entry)) (now (names .entry)) (now (tuples .entry)) (now (multiplicities .entry)) (now (flags .entry)) (now (elements .entry))) ⌝ }
 {
-    (lookups.len() % 8 == 0)
-        & (names.len() as u64 == name_total(lookups))
-        & (tuples.len() as u64 == entry_total(lookups, 5))
-        & (multiplicities.len() as u64 == entry_total(lookups, 6))
-        & (flags.len() as u64 == entry_total(lookups, 7))
-        & (elements.len() as u64 == width_total(tuples))
+    let n = lookups.len() / LOOKUP_WORDS;
+    (lookups.len() % LOOKUP_WORDS == 0)
+        & (names.len() == name_start(lookups, n))
+        & (tuples.len() == tuple_start(lookups, n))
+        & (multiplicities.len() == multiplicity_start(lookups, n))
+        & (flags.len() == flag_start(lookups, n))
+        & (elements.len() == element_start(tuples, tuples.len()))
 }
 
 // How many flags lookup i must have.
 fn flags_due(lookups: &[u32], i: usize) -> u32
-    requires { ⌜ 8 * i + 8 ≤ length (now lookups) ⌝ }
-    ensures { λ r. ⌜ r ≡ cond (exclusive (now (lookups .entry)) i) (tuple-count (now (lookups .entry)) i) 0 ⌝ }
+    ghost { List ℕ }
+    requires { λ l. ⌜ now lookups ≡ l ⌝ }
+    requires { λ l. ⌜ lookup-words * i + lookup-words ≤ length l ⌝ }
+    ensures { λ l r. ⌜ r ≡ cond (exclusive l i) (tuple-count l i) 0 ⌝ }
 {
     if exclusive(lookups, i) {
         tuple_count(lookups, i)
@@ -124,7 +101,7 @@ fn flags_due(lookups: &[u32], i: usize) -> u32
 
 // Lookup i has a multiplicity for each tuple, and a flag for each branch if it is exclusive.
 pub fn lengths_agree(lookups: &[u32], i: usize) -> bool
-    requires { ⌜ 8 * i + 8 ≤ length (now lookups) ⌝ }
+    requires { ⌜ lookup-words * i + lookup-words ≤ length (now lookups) ⌝ }
     ensures { λ r. ⌜ r ≡ lengths-agree (now (lookups .entry)) i ⌝ }
 {
     (multiplicity_count(lookups, i) == tuple_count(lookups, i))
@@ -132,9 +109,11 @@ pub fn lengths_agree(lookups: &[u32], i: usize) -> bool
 }
 
 fn all_agree(lookups: &[u32]) -> bool
-    ensures { λ r. ⌜ r ≡ every (lengths-agree (now (lookups .entry))) (lookup-count (now (lookups .entry))) ⌝ }
+    ghost { List ℕ }
+    requires { λ l. ⌜ now lookups ≡ l ⌝ }
+    ensures { λ l r. ⌜ r ≡ every (lengths-agree l) (lookup-count l) ⌝ }
 {
-    let n = lookups.len() / 8;
+    let n = lookups.len() / LOOKUP_WORDS;
     let mut ok = true;
     let mut i = 0;
     while i < n {
@@ -151,7 +130,7 @@ pub fn nodes_present(n: u32, multiplicities: &[u32], flags: &[u32], elements: &[
     all_below(n, multiplicities) & all_below(n, flags) & all_below(n, elements)
 }
 
-// Refusal 5 of every door, with n nodes.
+// Refusal 5 of every entry point, with n nodes.
 pub fn lists_agree(
     n: u32,
     lookups: &[u32],
@@ -168,11 +147,11 @@ pub fn lists_agree(
 pub fn in_position(lookups: &[u32]) -> bool
     ensures { λ r. ⌜ r ≡ in-position (now (lookups .entry)) ⌝ }
 {
-    let n = lookups.len() / 8;
+    let n = lookups.len() / LOOKUP_WORDS;
     let mut ok = true;
     let mut i = 0;
     while i < n {
-        ok = ok & (wide(column(lookups, i)) == i as u64);
+        ok = ok & (to_u64(column(lookups, i)) == i as u64);
         i += 1;
     }
     ok
@@ -181,7 +160,7 @@ pub fn in_position(lookups: &[u32]) -> bool
 pub fn has_lookups(lookups: &[u32]) -> bool
     ensures { λ r. ⌜ r ≡ has-lookups (now (lookups .entry)) ⌝ }
 {
-    0 < lookups.len() / 8
+    0 < lookups.len() / LOOKUP_WORDS
 }
 
 // A preprocessed trace has at least main's rows.

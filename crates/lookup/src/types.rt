@@ -1,80 +1,98 @@
-// Lookups and terminals. A lookup is eight words of the flat list: scope, name length, weight, column, exclusive, tuples,
-// multiplicities, flags.
+// Lookups and terminals. A lookup is a record of eight words of the flat list.
 use field::extension::Ext;
 ghost use mathlib.Core.Path.{_≡_};
 ghost use Prim.Native.Nat.{_+_, _*_, _<_, _≤_};
 ghost use lib.ListN.{length};
-ghost use Rattle.lookup.specs.Lookups.{entry, on-bus, name-length, weight, column, exclusive, tuple-count, multiplicity-count, flag-count};
+ghost use Rattle.lookup.specs.Lookups.{lookup-words, lookup-word, on-bus, name-length, weight, column, exclusive, tuple-count, multiplicity-count, flag-count};
+
+// The words of a lookup's record, and the place of each.
+pub const LOOKUP_WORDS: usize = 8;
+
+pub const SCOPE_WORD: usize = 0;
+
+pub const NAME_LENGTH_WORD: usize = 1;
+
+pub const WEIGHT_WORD: usize = 2;
+
+pub const COLUMN_WORD: usize = 3;
+
+pub const EXCLUSIVE_WORD: usize = 4;
+
+pub const TUPLE_COUNT_WORD: usize = 5;
+
+pub const MULTIPLICITY_COUNT_WORD: usize = 6;
+
+pub const FLAG_COUNT_WORD: usize = 7;
 
 // The sum of all fractions of a table. It is wrapped, so that it is never passed where a challenge belongs.
 pub struct LookupTerminal(pub Ext);
 
 // Word f of lookup i.
-pub fn entry(lookups: &[u32], i: usize, f: usize) -> u32
-    requires { ⌜ (f < 8) × (8 * i + 8 ≤ length (now lookups)) ⌝ }
-    ensures { λ r. ⌜ r ≡ entry (now (lookups .entry)) i f ⌝ }
+pub fn lookup_word(lookups: &[u32], i: usize, f: usize) -> u32
+    requires { ⌜ (f < lookup-words) × (lookup-words * i + lookup-words ≤ length (now lookups)) ⌝ }
+    ensures { λ r. ⌜ r ≡ lookup-word (now (lookups .entry)) i f ⌝ }
 {
-    lookups[8 * i + f]
+    lookups[LOOKUP_WORDS * i + f]
 }
 
 // A lookup is on a bus, or local.
 pub fn on_bus(lookups: &[u32], i: usize) -> bool
-    requires { ⌜ 8 * i + 8 ≤ length (now lookups) ⌝ }
+    requires { ⌜ lookup-words * i + lookup-words ≤ length (now lookups) ⌝ }
     ensures { λ r. ⌜ r ≡ on-bus (now (lookups .entry)) i ⌝ }
 {
-    !(entry(lookups, i, 0) == 0)
+    !(lookup_word(lookups, i, SCOPE_WORD) == 0)
 }
 
 // How many bytes of the names are lookup i's: none of a local.
 pub fn name_length(lookups: &[u32], i: usize) -> u32
-    requires { ⌜ 8 * i + 8 ≤ length (now lookups) ⌝ }
+    requires { ⌜ lookup-words * i + lookup-words ≤ length (now lookups) ⌝ }
     ensures { λ r. ⌜ r ≡ name-length (now (lookups .entry)) i ⌝ }
 {
     if on_bus(lookups, i) {
-        entry(lookups, i, 1)
+        lookup_word(lookups, i, NAME_LENGTH_WORD)
     } else {
         0
     }
 }
 
 pub fn weight(lookups: &[u32], i: usize) -> u32
-    requires { ⌜ 8 * i + 8 ≤ length (now lookups) ⌝ }
+    requires { ⌜ lookup-words * i + lookup-words ≤ length (now lookups) ⌝ }
     ensures { λ r. ⌜ r ≡ weight (now (lookups .entry)) i ⌝ }
 {
-    entry(lookups, i, 2)
+    lookup_word(lookups, i, WEIGHT_WORD)
 }
 
 pub fn column(lookups: &[u32], i: usize) -> u32
-    requires { ⌜ 8 * i + 8 ≤ length (now lookups) ⌝ }
+    requires { ⌜ lookup-words * i + lookup-words ≤ length (now lookups) ⌝ }
     ensures { λ r. ⌜ r ≡ column (now (lookups .entry)) i ⌝ }
 {
-    entry(lookups, i, 3)
+    lookup_word(lookups, i, COLUMN_WORD)
 }
 
 pub fn exclusive(lookups: &[u32], i: usize) -> bool
-    requires { ⌜ 8 * i + 8 ≤ length (now lookups) ⌝ }
+    requires { ⌜ lookup-words * i + lookup-words ≤ length (now lookups) ⌝ }
     ensures { λ r. ⌜ r ≡ exclusive (now (lookups .entry)) i ⌝ }
 {
-    !(entry(lookups, i, 4) == 0)
+    !(lookup_word(lookups, i, EXCLUSIVE_WORD) == 0)
 }
 
 pub fn tuple_count(lookups: &[u32], i: usize) -> u32
-    requires { ⌜ 8 * i + 8 ≤ length (now lookups) ⌝ }
+    requires { ⌜ lookup-words * i + lookup-words ≤ length (now lookups) ⌝ }
     ensures { λ r. ⌜ r ≡ tuple-count (now (lookups .entry)) i ⌝ }
 {
-    entry(lookups, i, 5)
+    lookup_word(lookups, i, TUPLE_COUNT_WORD)
 }
 
 pub fn multiplicity_count(lookups: &[u32], i: usize) -> u32
-    requires { ⌜ 8 * i + 8 ≤ length (now lookups) ⌝ }
+    requires { ⌜ lookup-words * i + lookup-words ≤ length (now lookups) ⌝ }
     ensures { λ r. ⌜ r ≡ multiplicity-count (now (lookups .entry)) i ⌝ }
 {
-    entry(lookups, i, 6)
+    lookup_word(lookups, i, MULTIPLICITY_COUNT_WORD)
 }
 
 pub fn flag_count(lookups: &[u32], i: usize) -> u32
-    requires { ⌜ 8 * i + 8 ≤ length (now lookups) ⌝ }
+    requires { ⌜ lookup-words * i + lookup-words ≤ length (now lookups) ⌝ }
     ensures { λ r. ⌜ r ≡ flag-count (now (lookups .entry)) i ⌝ }
 {
-    entry(lookups, i, 7)
+    lookup_word(lookups, i, FLAG_COUNT_WORD)
 }

@@ -1,4 +1,4 @@
 pub mod Packing
 pub mod Written
-pub mod Door
+pub mod PackSameBus
 pub mod laws

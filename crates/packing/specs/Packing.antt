@@ -1,14 +1,14 @@
--- Packing (`pack_same_bus`). Document 01, The other doors.
+-- Packing (`pack_same_bus`). SPECIFICATION, section 6.2.
 use mathlib.Core.Bool.{Bool, true, false, cond, not, _&&_, _||_}
 use mathlib.Core.List.{List, [], _∷_, _++_, map}
 use Prim.Native.Nat.{ℕ, suc, _+_}
 use lib.Dec.{leb, ltb}
 use Rattle.lists.specs.Same.{same-list}
 use Rattle.lookup.specs.Lookups.{Lookups, Lookup, lookup-count, lookup-at}
-use Rattle.degree.specs.Degree.{lookup-degree}
-use Rattle.widths.specs.Order.{arranged}
+use Rattle.lookup_degree.specs.Degree.{lookup-degree}
+use Rattle.lookup_buses.specs.Order.{arranged}
 
--- "Locals and exclusives": they are never merged
+-- "Locals and exclusives always stand alone."
 abbrev pub passes : Lookup → Bool
 passes l = l .local || l .exclusive
 
@@ -20,11 +20,11 @@ additive-on bus l = not (passes l) && same-list bus (l .name)
 abbrev pub on-one-bus : Lookup → Lookup → Bool
 on-one-bus a b = not (passes a) && additive-on (a .name) b
 
--- "Locals and exclusives go first in list order; then each bus by its first additive lookup"
+-- "first locals and exclusives, in list order", then "bus by bus, a bus by its first additive lookup"
 unfoldable pub in-order : Lookups → List Lookup
 in-order l = map (lookup-at l) (arranged (λ i. passes (lookup-at l i)) (λ i. lookup-at l i .name) (lookup-count (l .lookups)))
 
--- the column that carries the tuples of a, then those of b: "Kept merges add weights"
+-- the column that carries the tuples of a, then those of b: a merge "adds weights"
 abbrev pub merged : Lookup → Lookup → Lookup
 merged a b =
     record {
@@ -38,11 +38,11 @@ merged a b =
       flags = a .flags ++ b .flags;
     }
 
--- "a merge kept if its degree is at most the limit"; `deg` is the nodes' degree
+-- "where both are additive, on one bus, and the merged lookup's degree (6.1, t = 0) is at most the limit"; `deg` is the nodes' degree
 abbrev pub joins : (ℕ → ℕ) → ℕ → Lookup → Lookup → Bool
 joins deg limit a b = on-one-bus a b && leb (lookup-degree deg (merged a b)) limit
 
--- "filled greedily into the open column only": c is the open column; what does not join it closes it, and opens the next
+-- "One column is open at a time": c is the open column; what does not join it closes it, and opens the next
 unfoldable pub fill : (ℕ → ℕ) → ℕ → Lookup → List Lookup → List Lookup
 fill deg limit c [] = c ∷ []
 fill deg limit c (l ∷ ls) = cond (joins deg limit c l) (fill deg limit (merged c l) ls) (c ∷ fill deg limit l ls)
@@ -65,7 +65,7 @@ numbered k l =
       flags = l .flags;
     }
 
--- "columns are renumbered": from k on
+-- "Columns are numbered by position": from k on
 unfoldable pub renumbered : ℕ → List Lookup → List Lookup
 renumbered k [] = []
 renumbered k (l ∷ ls) = numbered k l ∷ renumbered (suc k) ls
@@ -73,7 +73,7 @@ renumbered k (l ∷ ls) = numbered k l ∷ renumbered (suc k) ls
 unfoldable pub packed : (ℕ → ℕ) → ℕ → Lookups → List Lookup
 packed deg limit l = renumbered 0 (filled deg limit (in-order l))
 
--- row 7, "kept merge over 2^32 - 1": weights only add up, so that a merge was over where its column is
+-- refusal 7: weights only add up, so that a merge was over where its column is
 unfoldable pub overweight : List Lookup → Bool
 overweight [] = false
 overweight (l ∷ ls) = ltb 4294967295 (l .weight) || overweight ls

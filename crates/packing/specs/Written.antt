@@ -1,4 +1,4 @@
--- The words that say a list of lookups.
+-- The words that say a list of lookups. SPECIFICATION, sections 2.4 and 6.2.
 use mathlib.Core.Bool.{cond, not}
 use mathlib.Core.List.{List, [], _∷_, _++_, map, flatMap}
 use Prim.Native.Nat.{ℕ}
@@ -22,6 +22,6 @@ words-of ls =
       elements = flatMap (λ (l : Lookup). flatMap (λ (t : List ℕ). t) (l .tuples)) ls;
     }
 
--- a lent list after words were written at its front: "words past it are untouched"
+-- a lent list after words were written at its front: "what lies past it is untouched"
 abbrev pub written : List ℕ → List ℕ → List ℕ
 written words d = words ++ drop (length words) d

@@ -1,2 +1,2 @@
-// Packing, same-bus lookups share columns: the definitions, their laws, and the answers of the door.
-pub mod door;
+// Packing, same-bus lookups share columns: the definitions, their laws, and the answers.
+pub mod answer;

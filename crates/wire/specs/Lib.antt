@@ -1,2 +1,4 @@
+pub mod Room
 pub mod Wire
+pub mod inner
 pub mod laws

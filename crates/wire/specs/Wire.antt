@@ -1,4 +1,4 @@
--- Words in bytes, the least byte first. Readings of document 01's doors on byte slices.
+-- Words in bytes, the least byte first.
 use Prim.Native.Nat.{ℕ, _+_, _*_, _/_, _%_}
 use mathlib.Core.List.{List, [], _∷_}
 use lib.ListN.{length, getD}

@@ -1,1 +1,3 @@
+pub mod Cases
+pub mod Room
 pub mod Trip

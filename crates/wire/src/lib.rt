@@ -1,2 +1,3 @@
 // Words in bytes, for callers that hold bytes.
+pub mod room;
 pub mod words;

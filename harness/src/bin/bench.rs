@@ -1,21 +1,24 @@
-//! Times the port's doors beside the same work in Rust, interleaved in one run, and compares every result: row evaluation beside the same
+//! Times the port's exported functions beside the same work in Rust, interleaved in one run, and compares every result: row evaluation beside the same
 //! loop; generation beside the crate's own source and beside a version tuned by hand (src/tuned.rs); constraints and balance beside the crate's
-//! source, balance beside a hash map as well; and generation at growing heights. Measures how much stack the doors take. Prints tables; `--chart FILE` draws the ratios of
-//! generation; `--only PART` runs one part: evaluation, generation, constraints, growth, balance or stack; `--rounds N` repeats long work N
-//! times in the place of 3.
+//! source, balance beside a hash map as well; and generation at growing heights. Measures how much stack they take, and how many
+//! instructions generation takes, as valgrind's callgrind counts them. Prints tables; `--only PART` runs one part: evaluation, generation,
+//! instructions, constraints, growth, balance or stack; `--rounds N` repeats long work N times in the place of 3.
 //!
-//!     cargo run --release --offline --features port --bin bench -- --chart ../docs/benchmarks.svg
+//!     cargo run --release --offline --features port --bin bench
 use std::collections::HashMap;
-use std::fmt::{Debug, Write};
-use std::time::Instant;
+use std::fmt::Debug;
+use std::process::Command;
 
 use delmatik::LookupTerminal;
+use harness::clock::timed;
 use harness::plain::{self, Ext, P, Random};
 use harness::port::wrapped;
 use harness::table::{Lookup, Table};
 use harness::tuned::{self, Product};
 
 const ROWS: usize = 1 << 16;
+/// Instructions are counted over fewer rows: callgrind takes some fifty times as long.
+const COUNTED_ROWS: usize = 1 << 12;
 
 type Side<'a, A> = Box<dyn FnMut() -> A + 'a>;
 
@@ -31,9 +34,9 @@ fn race<A: PartialEq + Debug>(rows: usize, mut sides: Vec<Side<'_, A>>) -> Vec<f
     for _ in 0..rounds(rows) {
         let mut results = vec![];
         for (work, times) in sides.iter_mut().zip(&mut times) {
-            let start = Instant::now();
-            results.push(work());
-            times.push(start.elapsed().as_secs_f64() * 1e9 / rows as f64);
+            let (result, seconds) = timed(work);
+            results.push(result);
+            times.push(seconds * 1e9 / rows as f64);
         }
         assert!(results.iter().all(|r| *r == results[0]));
     }
@@ -45,10 +48,17 @@ fn median(mut times: Vec<f64>) -> f64 {
     times[times.len() / 2]
 }
 
-/// A line of a table: the port's time, then each other's with the ratio to it.
-fn report(name: &str, times: &[f64]) {
-    let others: String = times[1..].iter().map(|t| format!(" {t:.0} ns | {:.2} |", times[0] / t)).collect();
-    println!("| {name} | {:.0} ns |{others}", times[0]);
+/// A line of a table: the port's time or count, then each other's with the ratio to it.
+fn report(name: &str, costs: &[f64], unit: &str) {
+    let others: String = costs[1..].iter().map(|c| format!(" {}{unit} | {:.2} |", grouped(*c), costs[0] / c)).collect();
+    println!("| {name} | {}{unit} |{others}", grouped(costs[0]));
+}
+
+/// A whole number, by thousands.
+fn grouped(n: f64) -> String {
+    let digits = format!("{n:.0}");
+    let parts: Vec<&str> = digits.as_bytes().rchunks(3).rev().map(|part| str::from_utf8(part).unwrap()).collect();
+    parts.join(",")
 }
 
 fn heading(columns: &[&str]) {
@@ -144,7 +154,7 @@ fn evaluation(random: &mut Random) {
     };
     heading(&["row evaluation", "port", "the same loop in Rust", "ratio"]);
     let times = race(ROWS, vec![Box::new(|| generated(&port, &[[1, 0, 0, 0], [0; 4]]).0), Box::new(same_loop)]);
-    report("20 nodes, in a table with an empty lookup", &times);
+    report("20 nodes, in a table with an empty lookup", &times, " ns");
 }
 
 #[cfg(source)]
@@ -161,25 +171,65 @@ fn challenges(random: &mut Random, count: u32) -> Vec<Ext> {
     (0..2 * count).map(|_| random.element()).collect()
 }
 
-/// The shapes beside the tuned version, with either way to invert, and the crate; the ratios of each.
-fn generation(random: &mut Random) -> Vec<(&'static str, Vec<f64>)> {
-    heading(&["generation", "port", "tuned Rust", "ratio", "by norms too", "ratio", "the crate", "ratio"]);
-    let mut ratios = vec![];
+const GENERATION: [&str; 8] = ["generation", "port", "tuned Rust", "ratio", "by norms too", "ratio", "the crate", "ratio"];
+
+/// The port, the tuned version, with either way to invert, and the crate, where its source is at hand.
+fn generation_sides<'a>(t: &'a Table, port: &'a delmatik::Table, challenges: &'a [Ext]) -> Vec<Side<'a, (Vec<u32>, Option<Ext>)>> {
+    let words = challenges.as_flattened();
+    let mut sides: Vec<Side<'_, _>> = vec![
+        Box::new(|| generated(port, challenges)),
+        Box::new(move || tuned::generate(t, words, Product::Denominators)),
+        Box::new(move || tuned::generate(t, words, Product::Norms)),
+    ];
+    sides.extend(crate_generation(t, words));
+    sides
+}
+
+fn generation(random: &mut Random) {
+    heading(&GENERATION);
     for shape in &SHAPES {
         let t = shape.table(random, ROWS);
         let (port, challenges) = (wrapped(&t), challenges(random, shape.lookups));
-        let words = challenges.as_flattened();
-        let mut sides: Vec<Side<'_, _>> = vec![
-            Box::new(|| generated(&port, &challenges)),
-            Box::new(|| tuned::generate(&t, words, Product::Denominators)),
-            Box::new(|| tuned::generate(&t, words, Product::Norms)),
-        ];
-        sides.extend(crate_generation(&t, words));
-        let times = race(ROWS, sides);
-        report(shape.name, &times);
-        ratios.push((shape.name, times[1..].iter().map(|other| times[0] / other).collect()));
+        report(shape.name, &race(ROWS, generation_sides(&t, &port, &challenges)), " ns");
     }
-    ratios
+}
+
+/// What callgrind counts the instructions of, by this name.
+#[unsafe(no_mangle)]
+#[inline(never)]
+fn counted_work(work: &mut dyn FnMut()) {
+    work();
+}
+
+/// Runs one side of a shape once, for `instructions` to count; tells how many sides there are.
+fn count(random: &mut Random, shape: &Shape, side: usize) -> usize {
+    let t = shape.table(random, COUNTED_ROWS);
+    let (port, challenges) = (wrapped(&t), challenges(random, shape.lookups));
+    let mut sides = generation_sides(&t, &port, &challenges);
+    let mut result = None;
+    counted_work(&mut || result = Some(sides[side]()));
+    assert!(result.is_some());
+    sides.len()
+}
+
+/// The instructions of each side for a row. This program is run once more for each of them, under callgrind.
+fn instructions(random: &mut Random) {
+    heading(&GENERATION);
+    for (i, shape) in SHAPES.iter().enumerate() {
+        let counted = |side: usize| {
+            let run = Command::new("valgrind")
+                .args(["--tool=callgrind", "--callgrind-out-file=/dev/null", "--toggle-collect=counted_work"])
+                .arg(std::env::current_exe().unwrap())
+                .args(["--count", &format!("{i} {side}")])
+                .output()
+                .expect("valgrind is at hand");
+            let said = String::from_utf8_lossy(&run.stderr).into_owned();
+            let number = said.lines().find_map(|line| line.split_once("Collected : ")).and_then(|(_, n)| n.trim().parse::<f64>().ok());
+            number.unwrap_or_else(|| panic!("callgrind said: {said}")) / COUNTED_ROWS as f64
+        };
+        let sides = count(random, shape, 0);
+        report(shape.name, &(0..sides).map(counted).collect::<Vec<f64>>(), "");
+    }
 }
 
 #[cfg(source)]
@@ -194,7 +244,7 @@ fn constraints(random: &mut Random) {
         let wrapped_terminal = terminal.map(LookupTerminal);
         let by_port = || port.constraints(&challenges, columns, &trace, wrapped_terminal).is_ok();
         let by_crate = || harness::oracle::constraints(&t, words, columns as u64, &trace, terminal).unwrap().is_none();
-        report(shape.name, &race(ROWS, vec![Box::new(by_port), Box::new(by_crate)]));
+        report(shape.name, &race(ROWS, vec![Box::new(by_port), Box::new(by_crate)]), " ns");
     }
 }
 
@@ -213,7 +263,7 @@ fn growth(random: &mut Random) {
         let words = challenges.as_flattened();
         let times =
             race(rows, vec![Box::new(|| generated(&port, &challenges)), Box::new(|| tuned::generate(&t, words, Product::Denominators))]);
-        report(&format!("2^{bits} rows"), &times);
+        report(&format!("2^{bits} rows"), &times, " ns");
     }
 }
 
@@ -256,7 +306,7 @@ fn balance(random: &mut Random) {
         let mut sides: Vec<Side<'_, bool>> = vec![Box::new(|| delmatik::balance(&port, &mut workspace).is_ok()), Box::new(by_map)];
         sides.extend(crate_balance(&t));
         let times = race(rows, sides);
-        report(&rows.to_string(), &times);
+        report(&rows.to_string(), &times, " ns");
     }
 }
 
@@ -276,7 +326,7 @@ fn stack_of(work: impl FnOnce() + Send) -> usize {
     std::thread::scope(|s| std::thread::Builder::new().stack_size(4 * PAINTED).spawn_scoped(s, measure).unwrap().join().unwrap())
 }
 
-/// The largest lists that document 01's limits allow, with a few rows.
+/// The largest lists that the limits allow, with a few rows.
 fn stack(random: &mut Random) {
     let shape = Shape { name: "", columns: 256, nodes: 400, lookups: 64, tuples: 1, width: 8, exclusive: 2 };
     let mut t = shape.table(random, 8);
@@ -286,53 +336,13 @@ fn stack(random: &mut Random) {
     let (port, challenges) = (wrapped(&t), challenges(random, shape.lookups));
     let (trace, terminal) = generated(&port, &challenges);
     let (mut buffer, mut workspace) = (trace.clone(), vec![0; 10 * 8 * 64]);
-    heading(&["door", "stack"]);
+    heading(&["function", "stack"]);
     let line = |name: &str, bytes: usize| println!("| {name} | {:.0} KiB |", bytes as f64 / 1024.0);
     line("generation", stack_of(|| assert!(port.generate_into(challenges.as_flattened(), &mut buffer).is_ok())));
     let columns = shape.lookups as usize + 1;
     line("constraints", stack_of(|| assert!(port.constraints(&challenges, columns, &trace, terminal.map(LookupTerminal)).is_ok())));
     line("packing", stack_of(|| assert!(port.pack(3).is_ok())));
     line("balance, 16 tables", stack_of(|| _ = delmatik::balance(&vec![port.clone(); 16], &mut workspace)));
-}
-
-/// Bars of the ratios port ÷ other, with a line at 1.
-fn chart(ratios: &[(&str, Vec<f64>)]) -> String {
-    let (left, scale, step) = (330.0, 170.0, 58.0);
-    let mut svg = String::new();
-    let height = step * ratios.len() as f64 + 70.0;
-    let _ = writeln!(
-        svg,
-        "<svg xmlns=\"http://www.w3.org/2000/svg\" width=\"760\" height=\"{height}\" font-family=\"sans-serif\" font-size=\"12\">"
-    );
-    let _ = writeln!(svg, "<rect width=\"760\" height=\"{height}\" fill=\"white\"/>");
-    let _ = writeln!(
-        svg,
-        "<text x=\"16\" y=\"22\">Generation, 2^16 rows: time of the port ÷ time of the other. Left of the line the port is faster.</text>"
-    );
-    let sides = [("#2b6cb0", "tuned Rust"), ("#7fb2e5", "the same, by norms too"), ("#dd9b3d", "the crate's own source")];
-    for (x, (fill, name)) in [16.0, 130.0, 310.0].into_iter().zip(sides) {
-        let _ = writeln!(
-            svg,
-            "<rect x=\"{x}\" y=\"32\" width=\"12\" height=\"12\" fill=\"{fill}\"/><text x=\"{}\" y=\"42\">{name}</text>",
-            x + 18.0
-        );
-    }
-    for (i, (name, bars)) in ratios.iter().enumerate() {
-        let y = 60.0 + step * i as f64;
-        let _ = writeln!(svg, "<text x=\"16\" y=\"{}\">{name}</text>", y + 19.0);
-        for (k, (ratio, (fill, _))) in bars.iter().zip(sides).enumerate() {
-            let (top, length) = (y + 16.0 * k as f64, (ratio * scale).min(380.0));
-            let _ = writeln!(svg, "<rect x=\"{left}\" y=\"{top}\" width=\"{length:.0}\" height=\"13\" fill=\"{fill}\"/>");
-            let _ = writeln!(svg, "<text x=\"{:.0}\" y=\"{}\">{ratio:.2}</text>", left + length + 5.0, top + 11.0);
-        }
-    }
-    let one = left + scale;
-    let _ = writeln!(
-        svg,
-        "<line x1=\"{one}\" y1=\"54\" x2=\"{one}\" y2=\"{}\" stroke=\"black\" stroke-dasharray=\"3 3\"/>\n</svg>",
-        height - 12.0
-    );
-    svg
 }
 
 /// The word after a flag, if it is there.
@@ -342,17 +352,21 @@ fn argument(name: &str) -> Option<String> {
 
 fn main() {
     let mut random = Random(0x9E3779B97F4A7C15);
+    if let Some((shape, side)) = argument("--count").as_deref().and_then(|which| which.split_once(' ')) {
+        count(&mut random, &SHAPES[shape.parse::<usize>().unwrap()], side.parse().unwrap());
+        return;
+    }
     let only = argument("--only");
     let wanted = |part: &str| only.as_deref().is_none_or(|only| only == part);
-    println!("Times are for a row. Medians of {} rounds, of {} up to 2^14 rows.", rounds(usize::MAX), rounds(0));
+    println!("Processor time of one thread for a row; medians of {} rounds, of {} up to 2^14 rows.", rounds(usize::MAX), rounds(0));
     if wanted("evaluation") {
         evaluation(&mut random);
     }
     if wanted("generation") {
-        let ratios = generation(&mut random);
-        if let Some(file) = argument("--chart") {
-            std::fs::write(file, chart(&ratios)).expect("the chart is written");
-        }
+        generation(&mut random);
+    }
+    if wanted("instructions") {
+        instructions(&mut random);
     }
     if wanted("constraints") {
         constraints(&mut random);

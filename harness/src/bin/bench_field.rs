@@ -1,7 +1,7 @@
 //! Times an extension product and an extension inverse of the port beside the same formulas in Rust, interleaved in one run, and
 //! compares every result.
+use harness::clock::timed;
 use harness::plain::{self, Ext, Random};
-use std::time::Instant;
 
 const ROUNDS: usize = 31;
 const PRODUCTS: u32 = 1_000_000;
@@ -17,12 +17,10 @@ fn main() {
     let (mut port, mut rust) = (vec![], vec![]);
     for _ in 0..ROUNDS {
         let a = random.element();
-        let start = Instant::now();
-        let out = delmatik::power(a, PRODUCTS).unwrap();
-        port.push(start.elapsed().as_secs_f64());
-        let start = Instant::now();
-        let expected = plain::power(a, PRODUCTS);
-        rust.push(start.elapsed().as_secs_f64());
+        let (out, seconds) = timed(|| delmatik::power(a, PRODUCTS).unwrap());
+        port.push(seconds);
+        let (expected, seconds) = timed(|| plain::power(a, PRODUCTS));
+        rust.push(seconds);
         assert_eq!(out, expected);
     }
     report("extension product", PRODUCTS as usize, median(port), median(rust));
@@ -30,18 +28,10 @@ fn main() {
     let (mut port, mut rust) = (vec![], vec![]);
     for _ in 0..ROUNDS {
         let elements: Vec<Ext> = (0..INVERSES).map(|_| random.element()).collect();
-        let mut outs = vec![[0; 4]; INVERSES];
-        let start = Instant::now();
-        for (a, out) in elements.iter().zip(&mut outs) {
-            *out = delmatik::inverse(*a).unwrap();
-        }
-        port.push(start.elapsed().as_secs_f64());
-        let mut expected = vec![[0; 4]; INVERSES];
-        let start = Instant::now();
-        for (a, out) in elements.iter().zip(&mut expected) {
-            *out = plain::inverse(*a);
-        }
-        rust.push(start.elapsed().as_secs_f64());
+        let (outs, seconds) = timed(|| elements.iter().map(|a| delmatik::inverse(*a).unwrap()).collect::<Vec<Ext>>());
+        port.push(seconds);
+        let (expected, seconds) = timed(|| elements.iter().map(|a| plain::inverse(*a)).collect::<Vec<Ext>>());
+        rust.push(seconds);
         assert_eq!(outs, expected);
     }
     report("extension inverse", INVERSES, median(port), median(rust));

@@ -1,5 +1,5 @@
-//! Calls every door with good, damaged and random words, in memory that notices reads and writes outside what is lent. After each call: the number is
-//! one of the door's, details are zero unless document 01 names them, nothing beside the lists and no input was written, and refusals 1 to 12
+//! Calls every exported function with good, damaged and random words, in memory that notices reads and writes outside what is lent. After each call: the number is
+//! one of the function's, details are zero unless docs/SPECIFICATION.md names them, nothing beside the lists and no input was written, and refusals 1 to 12
 //! left the outputs as they were.
 //!
 //!     cargo run --release --offline --features port --bin fuzz -- --cases 100000 --seed 1
@@ -13,7 +13,7 @@ use harness::lent::Lender;
 use harness::plain::{P, Random};
 use harness::table::{Lookup, Table};
 
-/// How many details document 01 names for a refusal.
+/// How many details docs/SPECIFICATION.md names for a refusal.
 fn named(number: u32) -> usize {
     match number {
         6 | 18 => 3,
@@ -64,60 +64,60 @@ fn bytes(random: &mut Random, words: &[u32]) -> Vec<u8> {
     bytes
 }
 
-/// A room for the words of these bytes; now and then of another length.
-fn room(random: &mut Random, bytes: &[u8]) -> Vec<u32> {
-    let n = bytes.len() / 4;
+/// A room for the words of these lists of bytes; now and then of another length.
+fn room(random: &mut Random, lists: &[Vec<u8>]) -> Vec<u32> {
+    let n = lists.iter().map(|list| list.len() / 4).sum::<usize>();
     vec![5; if random.below(60) == 0 { n + 2 - random.below(3) as usize } else { n }]
 }
 
 /// Expands to a call: `[list]` is lent to be read, `[mut list]` to be written, `[room list]` to be written in any case, `(out list)` is a pointer to numbers of the answer; the three details come
 /// last.
 macro_rules! call {
-    ($fuzz:ident, $door:ident($($arguments:tt)*)) => {{
+    ($fuzz:ident, $function:ident($($arguments:tt)*)) => {{
         let high = $fuzz.random.below(2) == 0;
         $fuzz.lender.start(high);
         let details = $fuzz.lender.answer(&[7u64; 3]);
-        let number = call!(@ $fuzz $door details () $($arguments)*);
-        $fuzz.judge(stringify!($door), number)
+        let number = call!(@ $fuzz $function details () $($arguments)*);
+        $fuzz.judge(stringify!($function), number)
     }};
-    (@ $fuzz:ident $door:ident $details:ident ($($done:tt)*) [mut $list:expr], $($rest:tt)*) => {{
+    (@ $fuzz:ident $function:ident $details:ident ($($done:tt)*) [mut $list:expr], $($rest:tt)*) => {{
         let lent = $fuzz.lender.write($list);
-        call!(@ $fuzz $door $details ($($done)* lent.0, lent.1,) $($rest)*)
+        call!(@ $fuzz $function $details ($($done)* lent.0, lent.1,) $($rest)*)
     }};
-    (@ $fuzz:ident $door:ident $details:ident ($($done:tt)*) [room $list:expr], $($rest:tt)*) => {{
+    (@ $fuzz:ident $function:ident $details:ident ($($done:tt)*) [room $list:expr], $($rest:tt)*) => {{
         let lent = $fuzz.lender.room($list);
-        call!(@ $fuzz $door $details ($($done)* lent.0, lent.1,) $($rest)*)
+        call!(@ $fuzz $function $details ($($done)* lent.0, lent.1,) $($rest)*)
     }};
-    (@ $fuzz:ident $door:ident $details:ident ($($done:tt)*) [$list:expr], $($rest:tt)*) => {{
+    (@ $fuzz:ident $function:ident $details:ident ($($done:tt)*) [$list:expr], $($rest:tt)*) => {{
         let lent = $fuzz.lender.read($list);
-        call!(@ $fuzz $door $details ($($done)* lent.0, lent.1,) $($rest)*)
+        call!(@ $fuzz $function $details ($($done)* lent.0, lent.1,) $($rest)*)
     }};
-    (@ $fuzz:ident $door:ident $details:ident ($($done:tt)*) (out $list:expr), $($rest:tt)*) => {{
+    (@ $fuzz:ident $function:ident $details:ident ($($done:tt)*) (out $list:expr), $($rest:tt)*) => {{
         let lent = $fuzz.lender.answer($list);
-        call!(@ $fuzz $door $details ($($done)* lent.cast(),) $($rest)*)
+        call!(@ $fuzz $function $details ($($done)* lent.cast(),) $($rest)*)
     }};
-    (@ $fuzz:ident $door:ident $details:ident ($($done:tt)*) $argument:expr, $($rest:tt)*) => {{
+    (@ $fuzz:ident $function:ident $details:ident ($($done:tt)*) $argument:expr, $($rest:tt)*) => {{
         let argument = $argument;
-        call!(@ $fuzz $door $details ($($done)* argument,) $($rest)*)
+        call!(@ $fuzz $function $details ($($done)* argument,) $($rest)*)
     }};
-    (@ $fuzz:ident $door:ident $details:ident ($($done:tt)*)) => { unsafe { sys::$door($($done)* $details.cast()) } };
+    (@ $fuzz:ident $function:ident $details:ident ($($done:tt)*)) => { unsafe { sys::$function($($done)* $details.cast()) } };
 }
 
 impl Fuzz {
-    fn judge(&mut self, door: &'static str, number: u32) -> Result<(), String> {
-        *self.counts.entry((door, number)).or_default() += 1;
+    fn judge(&mut self, function: &'static str, number: u32) -> Result<(), String> {
+        *self.counts.entry((function, number)).or_default() += 1;
         if 20 < number {
-            return Err(format!("{door} answers {number}"));
+            return Err(format!("{function} answers {number}"));
         }
         // The details are list 0.
         let details = self.lender.list(0).as_chunks::<8>().0;
         if details[named(number)..].iter().any(|d| *d != [0; 8]) {
-            return Err(format!("{door}, {number}: details {details:?}"));
+            return Err(format!("{function}, {number}: details {details:?}"));
         }
-        self.lender.check((1..=12).contains(&number)).map_err(|text| format!("{door}, {number}: {text}"))
+        self.lender.check((1..=12).contains(&number)).map_err(|text| format!("{function}, {number}: {text}"))
     }
 
-    /// The doors of one table.
+    /// The functions of one table.
     fn table(&mut self, case: &Case) -> Result<(), String> {
         let t = self.spoiled(&case.tables[0]);
         let r = &mut self.random;
@@ -143,11 +143,10 @@ impl Fuzz {
             &trace,
         ];
         let b = words.map(|list| bytes(r, list));
-        let rooms = b.each_ref().map(|list| room(r, list));
+        let (read, written) = (room(r, &b[..10]), room(r, &b[10..]));
         call!(self, delmatik_generate_bytes(
             width, height, pre_width, pre_height, [&b[0]], [&b[1]], [&b[2]], [&b[3]], [&b[4]], [&t.names], [&b[5]], [&b[6]], [&b[7]],
-            [&b[8]], [&b[9]], [mut &b[10]], [room &rooms[0]], [room &rooms[1]], [room &rooms[2]], [room &rooms[3]], [room &rooms[4]],
-            [room &rooms[5]], [room &rooms[6]], [room &rooms[7]], [room &rooms[8]], [room &rooms[9]], [room &rooms[10]], (out &[7u32; 5]),
+            [&b[8]], [&b[9]], [mut &b[10]], [room &read], [room &written], (out &[7u32; 5]),
         ))?;
         let r = &mut self.random;
         let columns = size(r, (t.lookup_count() as u64 + 1).wrapping_add(case.extra_columns));
@@ -222,12 +221,11 @@ impl Fuzz {
             &elements,
         ];
         let b = words.map(|list| bytes(r, list));
-        let rooms = b.each_ref().map(|list| room(r, list));
+        let (read, written) = (room(r, &b[..6]), room(r, &b[6..]));
         call!(self, delmatik_pack_bytes(
             case.limit, width, pre_width, publics, [&b[0]], [&b[1]], [&t.names], [&b[2]], [&b[3]], [&b[4]], [&b[5]], [mut &b[6]],
-            [mut &t.names], [mut &b[7]], [mut &b[8]], [mut &b[9]], [mut &b[10]], [room &rooms[0]], [room &rooms[1]], [room &rooms[2]],
-            [room &rooms[3]], [room &rooms[4]], [room &rooms[5]], [room &rooms[6]], [room &rooms[7]], [room &rooms[8]], [room &rooms[9]],
-            [room &rooms[10]], (out &[7u64; 6]),
+            [mut &t.names], [mut &b[7]], [mut &b[8]], [mut &b[9]], [mut &b[10]], [room &read], [room &written],
+            (out &[7u64; 6]),
         ))
     }
 
@@ -253,7 +251,7 @@ impl Fuzz {
         ))
     }
 
-    /// The doors over several tables.
+    /// The functions over several tables.
     fn tables(&mut self, case: &Case) -> Result<(), String> {
         let all: Vec<Table> = case.tables.iter().map(|t| self.spoiled(t)).collect();
         let joined = |of: fn(&Table) -> &[u32]| -> Vec<u32> { all.iter().flat_map(of).copied().collect() };
@@ -288,15 +286,14 @@ impl Fuzz {
         let r = &mut self.random;
         let words = [&main, &preprocessed, &publics, &nodes, &lookups, &tuples, &multiplicities, &flags, &elements, &sizes, &workspace];
         let b = words.map(|list| bytes(r, list));
-        let rooms = b.each_ref().map(|list| room(r, list));
+        let (read, written) = (room(r, &b[..10]), room(r, &b[10..]));
         call!(self, delmatik_balance_bytes(
             [&b[0]], [&b[1]], [&b[2]], [&b[3]], [&b[4]], [&names], [&b[5]], [&b[6]], [&b[7]], [&b[8]], [&b[9]], [mut &b[10]],
-            [room &rooms[0]], [room &rooms[1]], [room &rooms[2]], [room &rooms[3]], [room &rooms[4]], [room &rooms[5]], [room &rooms[6]],
-            [room &rooms[7]], [room &rooms[8]], [room &rooms[9]], [room &rooms[10]],
+            [room &read], [room &written],
         ))
     }
 
-    /// The doors on challenges and terminals.
+    /// The functions on challenges and terminals.
     fn words(&mut self, case: &Case) -> Result<(), String> {
         let r = &mut self.random;
         let five = |t: &Option<[u32; 4]>| t.map_or([0; 5], |[a, b, c, d]| [1, a, b, c, d]);
@@ -359,8 +356,8 @@ fn main() -> ExitCode {
             return ExitCode::FAILURE;
         }
     }
-    for ((door, number), count) in &fuzz.counts {
-        println!("{door}, {number}: {count}");
+    for ((function, number), count) in &fuzz.counts {
+        println!("{function}, {number}: {count}");
     }
     let calls: u64 = fuzz.counts.values().sum();
     println!("{cases} cases of seed {seed}, {calls} calls, nothing outside what was lent, {:.1} s", start.elapsed().as_secs_f64());

@@ -65,24 +65,24 @@ fn main() -> ExitCode {
 }
 
 fn print_counts(tally: &Tally) {
-    println!("door, number: the same / another of several faults first / the crate has no such limit / not for the crate");
-    let mut numbers: Vec<(&str, u32)> = tally.counts.keys().map(|(door, number, _)| (*door, *number)).collect();
+    println!("function, number: the same / another of several faults first / the crate has no such limit / not for the crate");
+    let mut numbers: Vec<(&str, u32)> = tally.counts.keys().map(|(function, number, _)| (*function, *number)).collect();
     numbers.dedup();
-    for (door, number) in numbers {
-        let count = |compared| tally.counts.get(&(door, number, compared)).copied().unwrap_or(0);
+    for (function, number) in numbers {
+        let count = |compared| tally.counts.get(&(function, number, compared)).copied().unwrap_or(0);
         let [same, choice, limit, untaken] = [Compared::Same, Compared::Choice, Compared::Limit, Compared::Untaken].map(count);
-        println!("{door}, {number}: {same} / {choice} / {limit} / {untaken}");
+        println!("{function}, {number}: {same} / {choice} / {limit} / {untaken}");
     }
-    for (door, count) in &tally.ported {
-        println!("{door}: {count} with the port");
+    for (function, count) in &tally.ported {
+        println!("{function}: {count} with the port");
     }
 }
 
 fn report(name: &str, case: &Case, found: &Disagreement, port: Option<&dyn Port>) -> ExitCode {
-    println!("{name}: {} disagrees", found.door);
-    let failing = |case: &Case| check(case, port, &mut Tally::default()).err().filter(|other| other.door == found.door);
+    println!("{name}: {} disagrees", found.function);
+    let failing = |case: &Case| check(case, port, &mut Tally::default()).err().filter(|other| other.function == found.function);
     let small = shrink(case, &|case| failing(case).is_some());
-    println!("{}", failing(&small).unwrap_or_else(|| Disagreement { door: found.door, text: found.text.clone() }).text);
+    println!("{}", failing(&small).unwrap_or_else(|| Disagreement { function: found.function, text: found.text.clone() }).text);
     print!("{small}");
     ExitCode::FAILURE
 }

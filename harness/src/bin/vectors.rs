@@ -1,7 +1,7 @@
-//! Prints the cases that the program `cases` replays: document 01's worked cases and refusal examples with the answers that it names, then
+//! Prints the cases that the program `program_cases` replays: the worked cases and refusal examples of docs/SPECIFICATION.md with the answers that it names, then
 //! small tables with the answers of p3-lookup's own source. docs/VECTORS.md says how the text reads.
 //!
-//!     cargo run --release --offline --bin vectors > ../crates/cases/stdin
+//!     cargo run --release --offline --bin vectors > ../crates/program_cases/stdin
 use std::fmt::{Display, Write};
 use std::process::ExitCode;
 
@@ -27,8 +27,13 @@ impl Text {
         writeln!(self.0, "{key}{numbers}").unwrap();
     }
 
-    fn answer(&mut self, door: &str, answer: Answer, more: &[u64]) {
-        self.list(door, &[&[u64::from(answer.number)], &answer.details[..], more].concat());
+    fn answer(&mut self, function: &str, answer: Answer, more: &[u64]) {
+        self.list(function, &[&[u64::from(answer.number)], &answer.details[..], more].concat());
+    }
+
+    /// The lists of one table.
+    fn table(&mut self, table: &Table) {
+        self.tables(std::slice::from_ref(table));
     }
 
     /// The lists of all tables, one table after the other; empty ones are left out.
@@ -163,11 +168,11 @@ fn main() -> ExitCode {
         return ExitCode::FAILURE;
     }
     let mut text = Text::default();
-    text.0.push_str("# Document 01's worked cases, with the answers that it names.\n");
+    text.0.push_str("# The worked cases of docs/SPECIFICATION.md, with the answers that it names.\n");
     worked(&mut text);
-    text.0.push_str("# An example of each refusal, as document 01 gives it.\n");
+    text.0.push_str("# An example of each refusal, as docs/SPECIFICATION.md gives it.\n");
     refusals(&mut text);
-    text.0.push_str("# Building, with the answers that document 01 names.\n");
+    text.0.push_str("# Building, with the answers that follow from docs/SPECIFICATION.md.\n");
     building(&mut text);
     text.0.push_str("# Answers of p3-lookup 0.8.0.\n");
     for (i, case) in cases().iter().enumerate() {
@@ -178,7 +183,7 @@ fn main() -> ExitCode {
     ExitCode::SUCCESS
 }
 
-// Document 01's cases.
+// The cases of docs/SPECIFICATION.md.
 
 const ACCEPTED: Answer = model::ACCEPTED;
 
@@ -219,7 +224,7 @@ fn words(elements: &[Ext]) -> Vec<u32> {
 /// A case of generation: the trace, in elements, and the terminal.
 fn generated(text: &mut Text, title: &str, t: &Table, alpha: u32, beta: u32, trace: &[u32], terminal: u32) {
     text.case(title);
-    text.tables(&[t.clone()]);
+    text.table(t);
     text.list("challenges", &words(&[lift(alpha), lift(beta)]));
     let trace: Vec<Ext> = trace.iter().map(|w| lift(*w)).collect();
     text.generate(ACCEPTED, &words(&trace), Some(lift(terminal)));
@@ -244,7 +249,7 @@ fn worked(text: &mut Text) {
     for (limit, sizes) in [(3, &[2, 2, 1][..]), (0, &[1; 5])] {
         text.case(&format!("c10 five one-tuple additive lookups of degree 1 on one bus, limit {limit}"));
         let t = table(&[3], &five);
-        text.tables(&[t.clone()]);
+        text.table(&t);
         let column = |(n, column): (&usize, u32)| Lookup { weight: *n as u32, column, ..lookup(&vec![&[0][..]; *n], &vec![0; *n], None) };
         text.pack(&t, ACCEPTED, limit, &sizes.iter().zip(0..).map(column).collect::<Vec<Lookup>>());
     }
@@ -253,7 +258,7 @@ fn worked(text: &mut Text) {
     bound(text, "c12 weight 2013265920, height 1", 2013265920, ACCEPTED);
     balance(text, "(9) and (10) both unbalanced name (10)", &[9, 10], 20, refused(18, [0, 1, 1]), &[(9, 1), (10, 1)]);
     text.case("32 words suffice for row 10's example");
-    text.tables(&[table(&[3, 3, 3, 3], &[once()])]);
+    text.table(&table(&[3, 3, 3, 3], &[once()]));
     text.list("challenges", &words(&[lift(4), lift(0)]));
     text.generate(ACCEPTED, &words(&[0, 1, 1, 1, 2, 1, 3, 1].map(lift)), Some(lift(4)));
 }
@@ -261,27 +266,27 @@ fn worked(text: &mut Text) {
 /// One lookup on the row 3: the used part is zero after the fault.
 fn fault(text: &mut Text, title: &str, lookup: Lookup, alpha: u32, number: u32) {
     text.case(title);
-    text.tables(&[table(&[3], &[lookup])]);
+    text.table(&table(&[3], &[lookup]));
     text.list("challenges", &words(&[lift(alpha), lift(0)]));
     text.generate(refused(number, [0; 3]), &[0, 0, 0, 0, 0, 0, 0, 0, BEFORE], None);
 }
 
 fn degree(text: &mut Text, title: &str, lookup: Lookup, degree: u64) {
     text.case(title);
-    text.tables(&[table(&[3], &[lookup])]);
+    text.table(&table(&[3], &[lookup]));
     text.answer("degree", ACCEPTED, &[0, 0, degree]);
 }
 
 fn bound(text: &mut Text, title: &str, weight: u32, answer: Answer) {
     let t = table(&[3], &[Lookup { weight, ..once() }]);
     text.case(title);
-    text.tables(&[t.clone()]);
+    text.table(&t);
     text.bound(&[t], &[1], answer);
 }
 
 fn balance(text: &mut Text, title: &str, rows: &[u32], room: usize, answer: Answer, nets: &[(u32, u32)]) {
     text.case(title);
-    text.tables(&[table(rows, &[once()])]);
+    text.table(&table(rows, &[once()]));
     let mut workspace: Vec<u32> = nets.iter().flat_map(|(word, net)| [1, *word, 0, 0, 0, 0, 0, 0, 0, *net]).collect();
     workspace.resize(room, 0);
     text.balance(answer, &workspace);
@@ -290,7 +295,7 @@ fn balance(text: &mut Text, title: &str, rows: &[u32], room: usize, answer: Answ
 /// Generation refuses before it writes: the buffer stays.
 fn untouched(text: &mut Text, title: &str, t: &Table, challenges: &[u32], room: usize, number: u32) {
     text.case(title);
-    text.tables(&[t.clone()]);
+    text.table(t);
     text.list("challenges", challenges);
     text.generate(refused(number, [0; 3]), &vec![BEFORE; room], None);
 }
@@ -316,12 +321,12 @@ fn refusals(text: &mut Text) {
     untouched(text, "5: columns 0, 5", &t, &words(&[lift(5), lift(0), lift(5), lift(0)]), 12, 5);
     let differing = table(&[3], &[lookup(&[&[0, 0]], &[1], None), lookup(&[&[0, 0, 0]], &[1], None)]);
     text.case("6: bus \"mem\": 2 and 3");
-    text.tables(&[differing.clone()]);
-    text.widths(&[differing.clone()], refused(6, [1, 2, 3]), 0);
+    text.table(&differing);
+    text.widths(std::slice::from_ref(&differing), refused(6, [1, 2, 3]), 0);
     text.pack(&differing, refused(6, [1, 2, 3]), 3, &[]);
     text.case("7: weights 4294967295 and 1");
     let heavy = table(&[3], &[Lookup { weight: u32::MAX, ..once() }, once()]);
-    text.tables(&[heavy.clone()]);
+    text.table(&heavy);
     text.pack(&heavy, refused(7, [0; 3]), 3, &[]);
     untouched(text, "8: 2 lookups, 3 challenges", &table(&[3], &[once(), once()]), &words(&[lift(5); 3]), 12, 8);
     let short = Table { pre_width: 1, pre_height: 3, preprocessed: vec![0; 3], ..table(&[3; 4], &[once()]) };
@@ -330,7 +335,7 @@ fn refusals(text: &mut Text) {
 
     let half = 1006632961;
     text.case("11: no terminal, 1 lookup");
-    text.tables(&[table(&[3], &[once()])]);
+    text.table(&table(&[3], &[once()]));
     text.list("challenges", &pair);
     text.constraints(refused(11, [0; 3]), 2, &words(&[lift(0), lift(half)]), None);
     text.case("12: W = 0");
@@ -339,12 +344,12 @@ fn refusals(text: &mut Text) {
     fault(text, "14: flags 1, 1", lookup(&[&[0], &[0]], &[1, 1], Some(&[1, 1])), 5, 14);
     let t = table(&[5], &[once()]);
     text.case("15: alpha 5, tuple (5), multiplicity 1");
-    text.tables(&[t]);
+    text.table(&t);
     text.list("challenges", &pair);
     text.generate(refused(15, [0; 3]), &[0; 8], None);
     balance(text, "16: 2 tuples, 19 words", &[3, 4], 19, refused(16, [0; 3]), &[]);
     text.case("17: accumulator 1 on row 0");
-    text.tables(&[table(&[3], &[once()])]);
+    text.table(&table(&[3], &[once()]));
     text.list("challenges", &pair);
     text.constraints(refused(17, [0, 1, 0]), 2, &words(&[lift(1), lift(half)]), Some(lift(half + 1)));
     balance(text, "18: (3) once", &[3], 10, refused(18, [0, 0, 1]), &[(3, 1)]);
@@ -374,14 +379,14 @@ fn exclusive(parts: &[Part]) -> Interaction {
 
 fn built(text: &mut Text, title: &str, interactions: &[Interaction], lookups: &[u32]) {
     text.case(title);
-    text.tables(&[table(&[3], &[])]);
+    text.table(&table(&[3], &[]));
     text.build(interactions, ACCEPTED, lookups, 8 * interactions.len());
 }
 
 /// Building refuses before it writes: the list stays.
 fn unbuilt(text: &mut Text, title: &str, t: &Table, interactions: &[Interaction], answer: Answer) {
     text.case(title);
-    text.tables(&[t.clone()]);
+    text.table(t);
     text.build(interactions, answer, &vec![BEFORE; 8 * interactions.len()], 0);
 }
 
@@ -400,7 +405,7 @@ fn building(text: &mut Text) {
     let one = [global(part(1, 1))];
     unbuilt(text, "built, 1: 65 globals", &t, &vec![global(part(1, 1)); 65], refused(1, [0; 3]));
     text.case("built, 1: seven words for a lookup");
-    text.tables(&[t.clone()]);
+    text.table(&t);
     text.build(&one, refused(1, [0; 3]), &[BEFORE; 7], 0);
     t.nodes[10] = P;
     unbuilt(text, "built, 2: a constant 2013265921", &t, &one, refused(2, [0; 3]));
@@ -452,7 +457,7 @@ fn oracle(text: &mut Text, case: &Case) {
     }
 }
 
-/// After the other doors: the lists of the table's own lookups give way to those of the interactions.
+/// After the other functions: the lists of the table's own lookups give way to those of the interactions.
 fn built_by_the_crate(text: &mut Text, t: &Table, interactions: &[Interaction], answer: Answer) {
     let mut lookups = vec![BEFORE; 8 * interactions.len()];
     let mut used = 0;

@@ -4,8 +4,7 @@ use mathlib.Core.Logic.{⊎-elim, _≢_}
 use mathlib.Core.Bool.{Bool, true, false, cond}
 use Prim.Native.Nat.{ℕ, zero, suc, pred, _+_, _*_, _^_, _<_, _≤_, _/_, _%_}
 use native.Mathlib.Omega.{arith}
-use native.Mathlib.Nat.{pow-zero, pow-suc, mul-comm, mul-assoc, mod-mod, one-mul, mul-mul-mul-comm, zero-mod, mod-eq-of-lt, eq-zero-or-pos, zero-mul}
-use native.Mathlib.Nat.{mod-lt}
+use native.Mathlib.Nat.{pow-zero, pow-suc, mul-comm, mul-assoc, mod-mod, one-mul, mul-mul-mul-comm, zero-mod, mod-eq-of-lt, eq-zero-or-pos, zero-mul, mod-lt}
 use lib.Dec.{eqb, lit<}
 use lib.Pow.{pow-add}
 use borrow.Author.Tests.{eqb-true, eqb-false}

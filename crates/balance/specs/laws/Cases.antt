@@ -3,7 +3,7 @@ use mathlib.Core.Path.{_≡_, refl}
 use mathlib.Core.Bool.{true}
 use mathlib.Core.Option.{none, some}
 use mathlib.Core.List.{List, [], _∷_, _++_, flatMap}
-use Prim.Native.Nat.{ℕ, _*_}
+use Prim.Native.Nat.{ℕ}
 use lib.ListN.{length, replicate}
 use Rattle.lists.specs.Same.{same-list}
 use Rattle.lists.specs.Count.{total, every, joined}
@@ -18,14 +18,15 @@ use Rattle.expression.specs.Values.{node-value, values, row-values}
 use Rattle.expression.specs.Degree.{node-degree, degrees}
 use Rattle.expression.specs.Tests.{traces-within, nodes-within, traces-fit, nodes-fit, traces-below, constants-below, nodes-known, degrees-low}
 use Rattle.expression.specs.declared.refusal.Refusal.the-variants.{RowsMissing, WorkspaceFull, NetNotZero}
-use Rattle.lookup.specs.Lookups.{Lookups, name-start, tuple-start, multiplicity-start, flag-start, element-start, tuple-width, tuple-nodes, lookup-at, lookups-of}
+use Rattle.lookup.specs.Lookups.{name-start, tuple-start, multiplicity-start, flag-start, element-start, tuple-width, tuple-nodes, lookup-at, lookups-of}
 use Rattle.lookup.specs.Tests.{lookups-within, lookups-fit, sizes, words-below, known, lengths-agree, nodes-present, lists-agree, has-lookups, preprocessed-enough}
-use Rattle.texts.specs.Text.{digits, in-order, text-less}
-use Rattle.slots.specs.Slots.{enter, meet, slots}
-use Rattle.slots.specs.Workspace.{full, workspace}
-use Rattle.slots.specs.Named.{unbalanced, names-first, group-refusal}
-use Rattle.widths.specs.Order.{keep}
-use Rattle.balance.specs.Tables.{Lists, size-start, part, shape-at, lookups-at, table-at, tables-of, lists-fit}
+use Rattle.balance_slots.specs.Decimal.{digits, in-order, text-less}
+use Rattle.balance_slots.specs.Slots.{add-nonzero, add, slots}
+use Rattle.balance_slots.specs.Workspace.{full, workspace-of}
+use Rattle.balance_slots.specs.GroupRefusal.{unbalanced, names-first, group-refusal}
+use Rattle.lookup_buses.specs.Order.{keep}
+use Rattle.lookup.specs.Sizes.{size-start, table-part}
+use Rattle.balance.specs.Tables.{TableLists, shape-at, lookups-at, table-at, tables-of, lists-fit}
 use Rattle.balance.specs.Groups.{members, same-bus, appears, local-group, bus-group, bus-groups, groups}
 use Rattle.balance.specs.Entries.{count-of, entry-of, row-entries, member-entries, entries}
 use Rattle.balance.specs.Refusals.{all, listed, covered, tables-refusal}
@@ -43,7 +44,7 @@ abbrev pub bus-words : List ℕ
 bus-words = 1 ∷ 1 ∷ 1 ∷ 0 ∷ 0 ∷ 1 ∷ 1 ∷ 0 ∷ []
 
 -- one table of `height` rows, with a local lookup of the tuple (node 0)
-abbrev pub one-local : ℕ → List ℕ → Lists
+abbrev pub one-local : ℕ → List ℕ → TableLists
 one-local height rows =
     record {
       sizes = 2 ∷ height ∷ 0 ∷ 0 ∷ length rows ∷ 0 ∷ 0 ∷ 2 ∷ 1 ∷ 0 ∷ 1 ∷ 1 ∷ 0 ∷ 1 ∷ [];
@@ -55,7 +56,7 @@ one-local height rows =
     }
 
 -- two tables of one row each: the first has a lookup on the bus "b", the second one on the bus "b" and a local
-abbrev pub two-tables : List ℕ → Lists
+abbrev pub two-tables : List ℕ → TableLists
 two-tables rows =
     record {
       sizes = 2 ∷ 1 ∷ 0 ∷ 0 ∷ 2 ∷ 0 ∷ 0 ∷ 2 ∷ 1 ∷ 1 ∷ 1 ∷ 1 ∷ 0 ∷ 1 ∷ 2 ∷ 1 ∷ 0 ∷ 0 ∷ 2 ∷ 0 ∷ 0 ∷ 2 ∷ 2 ∷ 1 ∷ 2 ∷ 2 ∷ 0 ∷ 1 ∷ [];
@@ -75,7 +76,7 @@ two-tables rows =
     }
 
 -- an exclusive local of one branch: the tuple (node 0), counted node 1 times, with node 1 as flag too
-abbrev pub exclusive : List ℕ → Lists
+abbrev pub exclusive : List ℕ → TableLists
 exclusive rows =
     record {
       sizes = 2 ∷ 1 ∷ 0 ∷ 0 ∷ 2 ∷ 0 ∷ 0 ∷ 2 ∷ 1 ∷ 0 ∷ 1 ∷ 1 ∷ 1 ∷ 1 ∷ [];
@@ -88,7 +89,7 @@ exclusive rows =
     }
 
 -- height 4, and a preprocessed trace of 3 rows
-abbrev pub short : Lists
+abbrev pub short : TableLists
 short =
     record {
       sizes = 2 ∷ 4 ∷ 1 ∷ 3 ∷ 8 ∷ 3 ∷ 0 ∷ 2 ∷ 1 ∷ 0 ∷ 1 ∷ 1 ∷ 0 ∷ 1 ∷ [];
@@ -103,11 +104,11 @@ short =
 abbrev pub slot-of : ℕ → ℕ → List ℕ
 slot-of w net = 1 ∷ w ∷ 0 ∷ 0 ∷ 0 ∷ 0 ∷ 0 ∷ 0 ∷ 0 ∷ net ∷ []
 
-abbrev pub run : Lists → ℕ → Outcome
+abbrev pub run : TableLists → ℕ → Outcome
 run l room = check cabinet babybear l (replicate room 7)
 
 pub cases :
-    -- "(9) and (10) both unbalanced name (10)"
+    -- (9) and (10), both unbalanced: (10) is named
     (run (one-local 2 (9 ∷ 1 ∷ 10 ∷ 1 ∷ [])) 20 ≡ record { refusal = some (NetNotZero 0 1 1); workspace = slot-of 9 1 ++ slot-of 10 1 })
     -- 16: 2 tuples, 19 words
     × (run (one-local 2 (9 ∷ 1 ∷ 10 ∷ 1 ∷ [])) 19 ≡ record { refusal = some WorkspaceFull; workspace = replicate 19 0 })
@@ -131,5 +132,11 @@ pub cases :
     -- "1" before "10" before "2"
     × (text-less 1 10 ≡ true)
     × (text-less 10 2 ≡ true)
-unfolding total every joined fold tab flatMap all-below all-within cabinet decode node row-of window node-value values row-values node-degree degrees traces-within nodes-within traces-fit nodes-fit traces-below constants-below nodes-known degrees-low name-start tuple-start multiplicity-start flag-start element-start tuple-width tuple-nodes lookup-at lookups-of lookups-within lookups-fit sizes words-below known lengths-agree nodes-present lists-agree has-lookups preprocessed-enough same-list digits in-order enter meet slots full workspace unbalanced names-first group-refusal keep size-start part shape-at lookups-at table-at tables-of lists-fit members same-bus appears local-group bus-group bus-groups groups count-of entry-of row-entries member-entries entries all listed covered tables-refusal visit balance check
+unfolding total every joined fold tab flatMap all-below all-within cabinet decode node row-of window node-value values row-values node-degree
+    degrees traces-within nodes-within traces-fit nodes-fit traces-below constants-below nodes-known degrees-low name-start tuple-start
+    multiplicity-start flag-start element-start tuple-width tuple-nodes lookup-at lookups-of lookups-within lookups-fit sizes words-below known
+    lengths-agree nodes-present lists-agree has-lookups preprocessed-enough same-list digits in-order add-nonzero add slots full workspace-of
+    unbalanced names-first group-refusal keep size-start table-part shape-at lookups-at table-at tables-of lists-fit members same-bus appears
+    local-group bus-group bus-groups groups count-of entry-of row-entries member-entries entries all listed covered tables-refusal visit balance
+    check
 cases = (refl, refl, refl, refl, refl, refl, refl, refl, refl, refl, refl, refl)

@@ -1,37 +1,33 @@
 -- Where all lookups of a table stand on one bus, balance has one group, and its nets are the words of the table's ledger.
 use mathlib.Core.Path.{_≡_, refl, sym, ap, ap₂, _∙_}
 use mathlib.Core.Bool.{Bool, true, false, cond, not, _&&_, _||_}
-use mathlib.Core.List.{List, [], _∷_, _++_, append-nil, map, flatMap, List·Memᴰ, List·Memᴰ·head, List·Memᴰ·tail, List·Memᴰ·cases-cons, List·Memᴰ·append-cases}
-use mathlib.Core.Logic.{_⊎_, inl, inr}
-use Prim.Native.Nat.{ℕ, zero, suc, _+_, _*_, _%_, _<_, _≤_}
+use mathlib.Core.List.{List, [], _∷_, _++_, append-nil, map, flatMap, List·Memᴰ, List·Memᴰ·head, List·Memᴰ·tail}
+use Prim.Native.Nat.{ℕ, _+_, _%_, _<_}
 use native.Mathlib.Nat.{mod-lt, mod-eq-of-lt, mul-one}
 use native.Mathlib.Omega.{arith}
-use lib.ListN.{length, getD, take, drop}
+use lib.ListN.{length, take, drop}
 use lib.Seq.{getD-take, getD-drop}
-use Rattle.lists.specs.Count.{joined, total}
+use Rattle.lists.specs.Count.{total}
 use Rattle.lists.specs.Fold.{fold}
 use Rattle.lists.specs.Tab.{tab}
 use Rattle.lists.specs.laws.Tab.{tab-length, tab-at, tab-cong, map-tab}
-use Rattle.lists.specs.laws.Tests.{passed, both-left, both-right}
 use Rattle.lists.specs.laws.Joined.{joined-singles}
 use Rattle.lists.specs.laws.Sums.{total-cong}
 use Rattle.lists.specs.Same.{same-list}
-use Rattle.field.specs.Modulus.{Modulus}
 use Rattle.field.specs.Word.{mulM}
 use Rattle.expression.specs.Words.{word}
-use Rattle.expression.specs.Valid.{Below, Evaluable}
+use Rattle.expression.specs.Requires.{Below, Evaluable}
 use Rattle.expression.specs.laws.Values.{row-values-below}
 use Rattle.lookup.specs.Lookups.{Lookups, Lookup, lookup-count, exclusive, tuple-count, multiplicity-count, flag-count, multiplicity-start, flag-start, multiplicity-node, flag-node, tuple-nodes, lookup-at, lookups-of}
 use Rattle.lookup.specs.Table.{Table}
-use Rattle.lookup.specs.Valid.{Agreeing}
+use Rattle.lookup.specs.Requires.{Agreeing}
 use Rattle.logup.specs.Tuple.{tuple}
 use Rattle.logup.specs.Ledger as logup
-use Rattle.slots.specs.laws.Nets.{net-of}
-use Rattle.widths.specs.Order.{keep}
-use Rattle.widths.specs.laws.Order.{keep-all}
+use Rattle.balance_slots.specs.laws.Nets.{net-of}
+use Rattle.lookup_buses.specs.laws.Order.{keep-all}
 use Rattle.balance.specs.Groups.{Member, members, local, same-bus, appears, local-group, bus-group, bus-groups, groups}
 use Rattle.balance.specs.Entries.{count-of, entry-of, row-entries, values-of, member-entries, entries}
-use Rattle.balance.specs.laws.Lists.{tab-in, joined-same, flat-tab}
+use Rattle.balance.specs.laws.Lists.{tab-in, flat-tab}
 use Rattle.balance.specs.laws.Sums.{tally, net-tally, tally-joined, total-swap}
 
 -- a word of a part of a list

@@ -4,13 +4,11 @@ use mathlib.Core.Bool.{Bool, true, false, cond}
 use mathlib.Core.Option.{Option, none, some, Option·some-ne-none}
 use mathlib.Core.List.{List, [], _∷_, _++_, List·Memᴰ}
 use mathlib.Core.Logic.{_↔_}
-use Prim.Native.Nat.{ℕ, zero, suc, _+_, _/_, _%_, _<_, _≤_}
+use Prim.Native.Nat.{ℕ, zero, suc, _+_, _/_, _<_, _≤_}
 use native.Mathlib.Nat.{mod-lt}
-use native.Mathlib.Omega.{arith}
 use lib.Dec.{eqb, ltb}
-use lib.ListN.{length, replicate}
+use lib.ListN.{length}
 use borrow.Author.Tests.{ltb-false, le-ltb, eqb-true, eq-eqb}
-use Rattle.lists.specs.Count.{joined}
 use Rattle.lists.specs.laws.Count.{joined-member}
 use Rattle.lists.specs.Fold.{fold}
 use Rattle.expression.specs.declared.sizes.Limits.{Limits}
@@ -18,16 +16,16 @@ use Rattle.expression.specs.declared.refusal.Refusal.{Refusal}
 use Rattle.expression.specs.declared.refusal.Refusal.the-variants.{WorkspaceFull}
 use Rattle.lookup.specs.Table.{Table}
 use Rattle.logup.specs.Ledger.{Entry}
-use Rattle.slots.specs.Slots.{Slot, slots}
-use Rattle.slots.specs.Workspace.{full, workspace}
-use Rattle.slots.specs.Named.{Numbered, unbalanced, names-first, group-refusal}
-use Rattle.slots.specs.laws.Nets.{Counted, Zero, net-of, zero-nets, nets-zero}
+use Rattle.balance_slots.specs.Slots.{Slot, slots}
+use Rattle.balance_slots.specs.Workspace.{full, workspace-of}
+use Rattle.balance_slots.specs.GroupRefusal.{Numbered, unbalanced, names-first, group-refusal}
+use Rattle.balance_slots.specs.laws.Nets.{Counted, Zero, net-of, zero-nets, nets-zero}
 use Rattle.balance.specs.laws.Lists.{tab-in, flat-in}
-use Rattle.balance.specs.Tables.{Lists, tables-of}
+use Rattle.balance.specs.Tables.{TableLists, tables-of}
 use Rattle.balance.specs.Groups.{Member, members, groups}
 use Rattle.balance.specs.Entries.{count-of, entry-of, row-entries, values-of, member-entries, entries}
 use Rattle.balance.specs.Refusals.{tables-refusal}
-use Rattle.balance.specs.Balance.{Visited, visited, visit, unvisited, balance, Outcome, outcome, check}
+use Rattle.balance.specs.Balance.{Visited, visited, visit, unvisited, balance, outcome, check}
 
 -- counts are words below p
 row-counted : (p : ℕ) → 0 < p → (m : Member) (r : ℕ) {e : Entry} → List·Memᴰ e (row-entries p (m .lookup) (values-of p (m .table) r)) → e .count < p
@@ -108,7 +106,7 @@ from-accepted p room z v q (ms ∷ gs) = go (group-refusal room (v .group) ss) r
     ss = slots p (entries p ms)
 
     next : Visited
-    next = record { refusal = group-refusal room (v .group) ss; workspace = workspace room ss; group = suc (v .group) }
+    next = record { refusal = group-refusal room (v .group) ss; workspace = workspace-of room ss; group = suc (v .group) }
 
     first : visited room (v .refusal) v ss ≡ next
     first = ap (λ (o : Option Refusal). visited room o v ss) q
@@ -126,18 +124,18 @@ pub balance-passes : (p room : ℕ) → 0 < p → (tables : List Table) → (bal
 unfolding balance
 balance-passes p room z tables = from-accepted p room z (unvisited room) refl (groups (members tables))
 
--- So does the door, on tables that have none of refusals 1 to 12.
-pub check-passes : (m : Limits) (p : ℕ) → 0 < p → (l : Lists) (ws : List ℕ)
-    → (check m p l ws .refusal ≡ none) ↔ ((tables-refusal m p l ≡ none) × AllGroups (Passes p (length ws)) (groups (members (tables-of l))))
+-- So does the entry point, on tables that have none of refusals 1 to 12.
+pub check-passes : (m : Limits) (p : ℕ) → 0 < p → (l : TableLists) (workspace : List ℕ)
+    → (check m p l workspace .refusal ≡ none) ↔ ((tables-refusal m p l ≡ none) × AllGroups (Passes p (length workspace)) (groups (members (tables-of l))))
 unfolding check
-check-passes m p z l ws = go (tables-refusal m p l) (balance-passes p (length ws) z (tables-of l))
+check-passes m p z l workspace = go (tables-refusal m p l) (balance-passes p (length workspace) z (tables-of l))
   where
     B : Visited
-    B = balance p (length ws) (tables-of l)
+    B = balance p (length workspace) (tables-of l)
 
     G : Type 0
-    G = AllGroups (Passes p (length ws)) (groups (members (tables-of l)))
+    G = AllGroups (Passes p (length workspace)) (groups (members (tables-of l)))
 
-    go : (o : Option Refusal) → (B .refusal ≡ none) ↔ G → (outcome o B ws .refusal ≡ none) ↔ ((o ≡ none) × G)
+    go : (o : Option Refusal) → (B .refusal ≡ none) ↔ G → (outcome o B workspace .refusal ≡ none) ↔ ((o ≡ none) × G)
     go none h = (λ e. (refl, h .0 e), λ k. h .1 (k .1))
     go (some f) h = (λ e. absurd (Option·some-ne-none f e), λ k. absurd (Option·some-ne-none f (k .0)))

@@ -2,7 +2,7 @@
 use mathlib.Core.Path.{_≡_, refl, sym, ap, ap₂, _∙_}
 use mathlib.Core.Bool.{Bool, true, false, cond}
 use mathlib.Core.List.{List, [], _∷_, _++_}
-use Prim.Native.Nat.{ℕ, zero, suc, _+_, _%_, _<_}
+use Prim.Native.Nat.{ℕ, zero, suc, _+_, _%_}
 use native.Mathlib.Nat.{mod-add-mod, zero-add}
 use native.Mathlib.Omega.{arith}
 use Rattle.lists.specs.Same.{same-list}
@@ -10,7 +10,7 @@ use Rattle.lists.specs.Count.{total, joined}
 use Rattle.lists.specs.Fold.{fold}
 use Rattle.lists.specs.laws.Sums.{total-zero, total-add}
 use Rattle.logup.specs.Ledger.{Entry, post}
-use Rattle.slots.specs.laws.Nets.{net-of}
+use Rattle.balance_slots.specs.laws.Nets.{net-of}
 
 -- the counts of a tuple, added up
 unfoldable pub tally : List Entry → List ℕ → ℕ

@@ -1,9 +1,9 @@
--- Lists of tables that have none of refusals 1 to 5 and 9 are as the inner functions require.
+-- TableLists of tables that have none of refusals 1 to 5 and 9 are as the inner functions require.
 use mathlib.Core.Path.{_≡_, refl, sym, ap, ap₂, _∙_, subst}
 use mathlib.Core.Bool.{Bool, true, false, cond, not, _&&_, _||_, and-true}
-use mathlib.Core.Option.{none, some}
+use mathlib.Core.Option.{none}
 use mathlib.Core.List.{List, [], _∷_, _++_}
-use Prim.Native.Nat.{ℕ, zero, suc, _+_, _*_, _-_, _/_, _%_, _<_, _≤_}
+use Prim.Native.Nat.{ℕ, zero, suc, _+_, _*_, _-_, _%_, _<_, _≤_}
 use native.Mathlib.Nat.{zero-add}
 use native.Mathlib.Omega.{arith}
 use lib.Dec.{eqb, leb, ltb}
@@ -15,25 +15,26 @@ use Rattle.lists.specs.laws.Tests.{both-left, both-right, passed, every-true, e
 use Rattle.field.specs.Modulus.{Modulus}
 use Rattle.expression.specs.Words.{word, all-within}
 use Rattle.expression.specs.Limits.{Sane}
-use Rattle.expression.specs.Node.{node-count}
+use Rattle.expression.specs.Node.{node-count, node-words}
 use Rattle.expression.specs.Tests.{traces-within, nodes-within, traces-fit, traces-below, constants-below, nodes-known, degrees-low}
-use Rattle.expression.specs.Valid.{Small, Evaluable}
+use Rattle.expression.specs.Requires.{Evaluable}
 use Rattle.expression.specs.laws.Below.{within-tested}
 use Rattle.expression.specs.laws.Tested.{small-tested, traces-tested}
 use Rattle.expression.specs.laws.Refusal.{unless-none}
-use Rattle.expression.specs.declared.sizes.Shape.{Shape}
 use Rattle.expression.specs.declared.sizes.Limits.{Limits}
 use Rattle.expression.specs.declared.refusal.Refusal.the-variants.{SizeAtOdds, WordTooLarge, NodeInvalid, DegreeTooHigh, LookupInvalid, RowsMissing}
-use Rattle.lookup.specs.Lookups.{Lookups, lookup-count, entry, exclusive, tuple-count, multiplicity-count, flag-count}
+use Rattle.lookup.specs.Lookups.{Lookups, lookup-count, lookup-word, exclusive, tuple-count, multiplicity-count, flag-count, lookup-words}
 use Rattle.lookup.specs.Table.{Table}
-use Rattle.lookup.specs.Tests.{sizes, words-below, known, lists-agree, has-lookups, preprocessed-enough}
-use Rattle.lookup.specs.Valid.{Limited, Fitting, Agreeing}
+use Rattle.lookup.specs.Tests.{sizes, words-below, known, has-lookups, preprocessed-enough}
+use Rattle.lookup.specs.Requires.{Limited, Fitting, Agreeing}
 use Rattle.lookup.specs.laws.Tested.{limited, fitting, agreeing, sizes-passed}
-use Rattle.balance.specs.Tables.{Lists, table-count, size, size-start, shape-at, lookups-at, table-at, tables-of, lists-fit}
+use Rattle.lookup.specs.Sizes.{size-start as sized-start}
+use Rattle.balance.specs.Tables.{TableLists, table-count, size, size-start, lookups-at, table-at, tables-of, lists-fit, table-sizes, main-count-size, preprocessed-count-size, public-value-count-size, node-count-size, lookup-count-size, name-byte-count-size, tuple-count-size, multiplicity-count-size, flag-count-size, element-count-size}
 use Rattle.balance.specs.Members.{table-of}
 use Rattle.balance.specs.Refusals.{all, listed, covered, tables-refusal}
-use Rattle.balance.specs.Valid.{Spanned, Rowed, Whole}
+use Rattle.balance.specs.inner.Requires.{ListsCovered, Rowed, TablesTested}
 use Rattle.balance.specs.laws.Members.{Fitted, table-lookups, entry-of-table, width-of-table, tuples-of-table, whole-count, whole-fitting, table-of-is}
+use Rattle.balance_slots.specs.Workspace.{tuple-words}
 
 -- a test of every table, by number
 all-append : (t : Table → Bool) (xs ys : List Table) → all t (xs ++ ys) ≡ (all t xs && all t ys)
@@ -54,7 +55,7 @@ all-tab t f (suc n) =
     one : (x : Table) → all t (x ∷ []) ≡ t x
     one x = unfold all in and-true (t x)
 
-pub all-tables : (t : Table → Bool) (l : Lists) → all t (tables-of l) ≡ every (λ i. t (table-at l i)) (table-count (l .sizes))
+pub all-tables : (t : Table → Bool) (l : TableLists) → all t (tables-of l) ≡ every (λ i. t (table-at l i)) (table-count (l .sizes))
 unfolding tables-of
 all-tables t l = all-tab t (table-at l) (table-count (l .sizes))
 
@@ -98,23 +99,23 @@ rows-able m p t g o s h =
     traces-tested m p (t .traces) (t .nodes) g o (s .nodes-few) (s .traces) (s .below) (s .constants) (s .all-known) r
 
 -- the lists as a whole
-pub spanned : (m : Limits) (l : Lists) → Sane m → lists-fit m l ≡ true → Spanned l
+pub lists-covered : (m : Limits) (l : TableLists) → Sane m → lists-fit m l ≡ true → ListsCovered l
 unfolding lists-fit
-spanned m l g h =
+lists-covered m l g h =
     let N : ℕ = table-count (l .sizes) in
     let k =
-    passed (eqb (length (l .sizes) % 14) 0)
+    passed (eqb (length (l .sizes) % table-sizes) 0)
     (leb N (m .tables)
-    ∷ eqb (length (l .main)) (1 * size-start (l .sizes) 4 N)
-    ∷ eqb (length (l .preprocessed)) (1 * size-start (l .sizes) 5 N)
-    ∷ eqb (length (l .public-values)) (1 * size-start (l .sizes) 6 N)
-    ∷ eqb (length (l .nodes)) (3 * size-start (l .sizes) 7 N)
-    ∷ eqb (length (l .lookups .lookups)) (8 * size-start (l .sizes) 8 N)
-    ∷ eqb (length (l .lookups .names)) (1 * size-start (l .sizes) 9 N)
-    ∷ eqb (length (l .lookups .tuples)) (1 * size-start (l .sizes) 10 N)
-    ∷ eqb (length (l .lookups .multiplicities)) (1 * size-start (l .sizes) 11 N)
-    ∷ eqb (length (l .lookups .flags)) (1 * size-start (l .sizes) 12 N)
-    ∷ eqb (length (l .lookups .elements)) (1 * size-start (l .sizes) 13 N)
+    ∷ eqb (length (l .main)) (1 * size-start (l .sizes) main-count-size N)
+    ∷ eqb (length (l .preprocessed)) (1 * size-start (l .sizes) preprocessed-count-size N)
+    ∷ eqb (length (l .public-values)) (1 * size-start (l .sizes) public-value-count-size N)
+    ∷ eqb (length (l .nodes)) (node-words * size-start (l .sizes) node-count-size N)
+    ∷ eqb (length (l .lookups .lookups)) (lookup-words * size-start (l .sizes) lookup-count-size N)
+    ∷ eqb (length (l .lookups .names)) (1 * size-start (l .sizes) name-byte-count-size N)
+    ∷ eqb (length (l .lookups .tuples)) (1 * size-start (l .sizes) tuple-count-size N)
+    ∷ eqb (length (l .lookups .multiplicities)) (1 * size-start (l .sizes) multiplicity-count-size N)
+    ∷ eqb (length (l .lookups .flags)) (1 * size-start (l .sizes) flag-count-size N)
+    ∷ eqb (length (l .lookups .elements)) (1 * size-start (l .sizes) element-count-size N)
     ∷ [])
     h in
     let b : N ≤ m .tables = leb-true N (m .tables) (k .1 .0) in
@@ -155,7 +156,7 @@ located c (suc n) m h = go (ltb m (total c n)) refl (λ g. located c n m g)
     go true e ih = let a : At c n m = ih (ltb-true m (total c n) e) in record { table = a .table; inner = a .inner; there = omega (arith, a .there); short = a .short; is = a .is }
     go false e ih = let g : total c n ≤ m = ltb-false m (total c n) e in record { table = n; inner = m - total c n; there = omega arith; short = omega arith; is = omega arith }
 
-module _ (m : Limits) (p : ℕ) (l : Lists) (g : Sane m) (o : Modulus p) (e : tables-refusal m p l ≡ none) where
+module _ (m : Limits) (p : ℕ) (l : TableLists) (g : Sane m) (o : Modulus p) (e : tables-refusal m p l ≡ none) where
   abbrev N : ℕ
   N = table-count (l .sizes)
 
@@ -188,7 +189,7 @@ module _ (m : Limits) (p : ℕ) (l : Lists) (g : Sane m) (o : Modulus p) (e : ta
 
   pub fitted : Fitted l
   unfolding table-at
-  fitted = record { spanned = spanned m l g (runs .fit); each = λ t h. runs .one t h .lists }
+  fitted = record { lists-covered = lists-covered m l g (runs .fit); each = λ t h. runs .one t h .lists }
 
   -- what each table has
   limits-of : (t : ℕ) → t < N → Limited m (lookups-at l t .lookups) (lookups-at l t .tuples)
@@ -199,13 +200,13 @@ module _ (m : Limits) (p : ℕ) (l : Lists) (g : Sane m) (o : Modulus p) (e : ta
   unfolding table-at
   agree-of t h = runs .one t h .agree
 
-  few-of : (t : ℕ) → t < N → (size (l .sizes) 8 t ≤ 64) × (size (l .sizes) 10 t ≤ 64)
+  few-of : (t : ℕ) → t < N → (size (l .sizes) lookup-count-size t ≤ 64) × (size (l .sizes) tuple-count-size t ≤ 64)
   few-of t h = (
     omega (arith, table-lookups l fitted t h, limits-of t h .few-lookups, g .lookups),
     omega (arith, tuples-of-table l fitted t h, limits-of t h .few-tuples, g .tuples),
   )
 
-  rows-of : (t : ℕ) → t < N → 0 < size (l .sizes) 8 t → Rowed p l t
+  rows-of : (t : ℕ) → t < N → 0 < size (l .sizes) lookup-count-size t → Rowed p l t
   unfolding table-at
   rows-of t h k =
       record {
@@ -215,13 +216,13 @@ module _ (m : Limits) (p : ℕ) (l : Lists) (g : Sane m) (o : Modulus p) (e : ta
       }
 
   -- lookup k of all lookups is lookup i of table t
-  find : (k : ℕ) → k < lookup-count (G .lookups) → At (size (l .sizes) 8) N k
-  unfolding size-start
-  find k h = located (size (l .sizes) 8) N k (omega (arith, whole-count l fitted))
+  find : (k : ℕ) → k < lookup-count (G .lookups) → At (size (l .sizes) lookup-count-size) N k
+  unfolding sized-start
+  find k h = located (size (l .sizes) lookup-count-size) N k (omega (arith, whole-count l fitted))
 
-  entry-at : (k f : ℕ) (h : k < lookup-count (G .lookups)) → f < 8 → entry (G .lookups) k f ≡ entry (lookups-at l (find k h .table) .lookups) (find k h .inner) f
-  unfolding size-start
-  entry-at k f h b = ap (λ (x : ℕ). entry (G .lookups) x f) (find k h .is) ∙ entry-of-table l fitted (find k h .table) (find k h .inner) f (find k h .short) b
+  entry-at : (k f : ℕ) (h : k < lookup-count (G .lookups)) → f < 8 → lookup-word (G .lookups) k f ≡ lookup-word (lookups-at l (find k h .table) .lookups) (find k h .inner) f
+  unfolding sized-start
+  entry-at k f h b = ap (λ (x : ℕ). lookup-word (G .lookups) x f) (find k h .is) ∙ entry-of-table l fitted (find k h .table) (find k h .inner) f (find k h .short) b
 
   inside : (k : ℕ) (h : k < lookup-count (G .lookups)) → find k h .inner < lookup-count (lookups-at l (find k h .table) .lookups)
   inside k h = rw (table-lookups l fitted (find k h .table) (find k h .there)) (find k h .short)
@@ -235,25 +236,25 @@ module _ (m : Limits) (p : ℕ) (l : Lists) (g : Sane m) (o : Modulus p) (e : ta
       ∙ ap₂ (λ (x y : ℕ). cond (not (eqb x 0)) y 0) (sym (entry-at k 4 h (omega arith))) (sym (entry-at k 5 h (omega arith)))
 
   rowed : (k : ℕ) → k < lookup-count (G .lookups) → Rowed p l (table-of (l .sizes) k)
-  unfolding size-start
+  unfolding sized-start
   rowed k h =
       let e : table-of (l .sizes) k ≡ find k h .table = ap (table-of (l .sizes)) (find k h .is) ∙ table-of-is (l .sizes) (find k h .table) (find k h .inner) (find k h .there) (find k h .short) in
       subst (Rowed p l) (sym e) (rows-of (find k h .table) (find k h .there) (omega (arith, find k h .short)))
 
   width-at : (j : ℕ) → j < length (G .tuples) → word (G .tuples) j ≤ 8
-  unfolding size-start
+  unfolding sized-start
   width-at j h =
-      let a : At (size (l .sizes) 10) N j = located (size (l .sizes) 10) N j (omega (arith, fitted .spanned .tuples)) in
+      let a : At (size (l .sizes) tuple-count-size) N j = located (size (l .sizes) tuple-count-size) N j (omega (arith, fitted .lists-covered .tuples)) in
       rw (ap (word (G .tuples)) (a .is) ∙ width-of-table l fitted (a .table) (a .inner) (a .short)) (omega (arith, limits-of (a .table) (a .there) .width (a .inner), g .tuple-words))
 
   narrow : (j : ℕ) → word (G .tuples) j ≤ 8
   unfolding all-within
   narrow = within-tested 8 (G .tuples) (every-of (λ i. leb (word (G .tuples) i) 8) (length (G .tuples)) (λ i h. le-leb (word (G .tuples) i) 8 (width-at i h)))
 
-  pub whole : Whole p l
-  unfolding size-start
+  pub whole : TablesTested p l
+  unfolding sized-start
   whole =
-      let q : Spanned l = spanned m l g (runs .fit) in
+      let q : ListsCovered l = lists-covered m l g (runs .fit) in
       record {
         modulus = o;
         tables = q .tables;
@@ -261,8 +262,8 @@ module _ (m : Limits) (p : ℕ) (l : Lists) (g : Sane m) (o : Modulus p) (e : ta
         preprocessed = q .preprocessed;
         public-values = q .public-values;
         nodes = q .nodes;
-        few = omega (arith, whole-count l fitted, q .tables, total-most (size (l .sizes) 8) 64 N (λ t h. few-of t h .0));
-        few-tuples = omega (arith, q .tuples, q .tables, total-most (size (l .sizes) 10) 64 N (λ t h. few-of t h .1));
+        few = omega (arith, whole-count l fitted, q .tables, total-most (size (l .sizes) lookup-count-size) 64 N (λ t h. few-of t h .0));
+        few-tuples = omega (arith, q .tuples, q .tables, total-most (size (l .sizes) tuple-count-size) 64 N (λ t h. few-of t h .1));
         fitting = whole-fitting l fitted;
         narrow = narrow;
         multiplicities = agreed;

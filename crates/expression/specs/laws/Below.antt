@@ -12,7 +12,7 @@ use Rattle.lists.specs.Count.{every}
 use Rattle.lists.specs.laws.Tests.{every-true}
 use Rattle.expression.specs.Words.{word, all-below, all-within}
 use Rattle.expression.specs.Window.{row-of, two}
-use Rattle.expression.specs.Valid.{Below}
+use Rattle.expression.specs.Requires.{Below}
 
 pub below-pos : {p : ℕ} {l : List ℕ} → Below p l → 0 < p
 below-pos {p} {l} h = omega (arith, h .each 0)

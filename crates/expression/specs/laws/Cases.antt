@@ -1,4 +1,4 @@
--- The worked examples of document 01 that are about the expression table, as one table with one theorem.
+-- The examples of SPECIFICATION, sections 3, 10.1 and 12, that are about the expression table, as one table with one theorem.
 use mathlib.Core.Bool.{Bool, true, false, _&&_}
 use mathlib.Core.List.{List, [], _∷_}
 use Prim.Native.Nat.{ℕ}

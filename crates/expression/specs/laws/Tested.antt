@@ -15,7 +15,7 @@ use Rattle.expression.specs.Limits.{cabinet, Sane}
 use Rattle.expression.specs.Node.{node-count}
 use Rattle.expression.specs.Window.{Traces}
 use Rattle.expression.specs.Tests.{traces-within, nodes-within, traces-fit, traces-below, constants-below, nodes-known}
-use Rattle.expression.specs.Valid.{Small, Evaluable}
+use Rattle.expression.specs.Requires.{Small, Evaluable}
 use Rattle.expression.specs.laws.Below.{below-tested}
 use Rattle.expression.specs.declared.sizes.Shape.{Shape}
 use Rattle.expression.specs.declared.sizes.Limits.{Limits}

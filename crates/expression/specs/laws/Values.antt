@@ -17,7 +17,7 @@ use Rattle.expression.specs.Node.{node, node-count}
 use Rattle.expression.specs.Window.{Traces, Window, window}
 use Rattle.expression.specs.Values.{bit, node-value, values, row-values}
 use Rattle.expression.specs.Tests.{constant-below, constants-below}
-use Rattle.expression.specs.Valid.{Below, Evaluable}
+use Rattle.expression.specs.Requires.{Below, Evaluable}
 use Rattle.expression.specs.laws.Below.{below-nil, below-row, below-snoc, word-zeros}
 use Rattle.expression.specs.declared.node.Node.{Node}
 use Rattle.expression.specs.declared.node.Node.the-variants.{Constant, Main, Preprocessed, PublicValue, FirstRow, LastRow, Transition, Sum, Difference, Product, Negation, Unknown}

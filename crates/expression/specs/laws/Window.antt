@@ -14,7 +14,7 @@ use Rattle.expression.specs.Node.{decode, node, node-count}
 use Rattle.expression.specs.Window.{Traces, Window, row-of, window, lent-window}
 use Rattle.expression.specs.Values.{node-value, values, row-values}
 use Rattle.expression.specs.Tests.{constant-below, constants-below, node-known, nodes-known}
-use Rattle.expression.specs.Valid.{Slots, Evaluable, Readable, Rows, Ready}
+use Rattle.expression.specs.Requires.{Slots, Evaluable, Readable, Rows, NodesEvaluable}
 use Rattle.expression.specs.laws.Below.{below-row}
 use Rattle.expression.specs.declared.sizes.Shape.{Shape}
 use Rattle.expression.specs.declared.node.Node.{Node}
@@ -71,7 +71,7 @@ module _ {p : ℕ} {t : Traces} {nodes m0 m1 q0 q1 : List ℕ} {r : ℕ} (s : �
         public-below = v .public-below;
       }
 
-  pub nodes-ready : Ready p m0 m1 q0 q1 (t .public-values) nodes (node-count nodes)
+  pub nodes-ready : NodesEvaluable p m0 m1 q0 q1 (t .public-values) nodes (node-count nodes)
   unfolding constants-below nodes-known
   nodes-ready =
       record {

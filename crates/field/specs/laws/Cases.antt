@@ -1,4 +1,4 @@
--- The worked cases of document 01 that are about the field alone, as one table with one theorem.
+-- The worked cases of SPECIFICATION, section 12.1, that are about the field alone, as one table with one theorem.
 use mathlib.Core.Bool.{Bool, true, false, cond, _&&_}
 use mathlib.Core.List.{List, [], _∷_}
 use Prim.Native.Nat.{ℕ}

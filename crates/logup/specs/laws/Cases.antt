@@ -1,4 +1,4 @@
--- The worked cases c1, c2 and c4 to c7 of document 01, the example of document 02's first request, the examples of generation's and the constraints'
+-- The worked cases c1, c2 and c4 to c7 of SPECIFICATION, section 12.1, one row alone, the examples of generation's and the constraints'
 -- refusals, a part of the reader and a ledger, as one table with one theorem.
 use Prim.Native.Nat.{ℕ, _+_, _*_}
 use mathlib.Core.Bool.{Bool, true, _&&_}
@@ -125,7 +125,7 @@ cases =
     ∷ record { computed = generated (branching 1 0 1 (3 ∷ [])) (lift 3 ++ lift 0) (replicate 9 7777); expected = plain 15 (replicate 8 0 ++ (7777 ∷ [])) }
     -- c7: all flags 0, fraction 0
     ∷ record { computed = generated (branching 2 1 0 (3 ∷ [])) (lift 3 ++ lift 0) (replicate 8 7777); expected = replicate 16 0 }
-    -- document 02, Q-1: row 3, alpha 5, beta 0
+    -- one row: 3, with alpha 5, beta 0
     ∷ record {
       computed = generated (additive 1 (3 ∷ [])) five (replicate 8 7777);
       expected = 0 ∷ 0 ∷ 0 ∷ 0 ∷ lift 1006632961 ++ lift 0 ++ lift 1006632961;
@@ -137,44 +137,44 @@ cases =
     }
     -- no lookups: the trace is empty, the terminal absent
     ∷ record { computed = generated no-lookup five (7777 ∷ []); expected = plain 0 (7777 ∷ []) }
-    -- row 1: 65 lookups
+    -- refusal 1: 65 lookups
     ∷ record { computed = generated (table (three-nodes 1 0) (tab (λ i. i) 0 65) 0 0 (3 ∷ []) 0 0) five (7777 ∷ []); expected = plain 1 (7777 ∷ []) }
-    -- row 2: challenge word 2013265921
+    -- refusal 2: challenge word 2013265921
     ∷ record { computed = generated (additive 1 (3 ∷ [])) (lift 2013265921 ++ lift 0) (7777 ∷ []); expected = plain 2 (7777 ∷ []) }
-    -- row 3: node 3 = node 3 + node 1
+    -- refusal 3: node 3 = node 3 + node 1
     ∷ record {
       computed = generated (table (three-nodes 1 0 ++ (9 ∷ 3 ∷ 1 ∷ [])) (0 ∷ []) 1 0 (3 ∷ []) 0 0) five (7777 ∷ []);
       expected = plain 3 (7777 ∷ []);
     }
-    -- row 4: a column squared 8 times
+    -- refusal 4: a column squared 8 times
     ∷ record {
       computed = generated (table (three-nodes 1 0 ++ (11 ∷ 0 ∷ 0 ∷ []) ++ joined (λ i. 11 ∷ (3 + i) ∷ (3 + i) ∷ []) 0 7) (0 ∷ []) 1 0 (3 ∷ []) 0 0) five (7777 ∷ []);
       expected = plain 4 (7777 ∷ []);
     }
-    -- row 5: columns 0, 5
+    -- refusal 5: columns 0, 5
     ∷ record {
       computed = generated (table (three-nodes 1 0) (0 ∷ 5 ∷ []) 1 0 (3 ∷ []) 0 0) (five ++ five) (7777 ∷ []);
       expected = plain 5 (7777 ∷ []);
     }
-    -- row 8: 2 lookups, 3 challenges
+    -- refusal 8: 2 lookups, 3 challenges
     ∷ record {
       computed = generated (table (three-nodes 1 0) (0 ∷ 1 ∷ []) 1 0 (3 ∷ []) 0 0) (five ++ lift 5) (7777 ∷ []);
       expected = plain 8 (7777 ∷ []);
     }
-    -- row 9: height 4, preprocessed 3; height 0
+    -- refusal 9: height 4, preprocessed 3; height 0
     ∷ record {
       computed = generated (table (three-nodes 1 0) (0 ∷ []) 1 0 (3 ∷ 3 ∷ 3 ∷ 3 ∷ []) 1 3) five (7777 ∷ []);
       expected = plain 9 (7777 ∷ []);
     }
     ∷ record { computed = generated (additive 1 []) five (7777 ∷ []); expected = plain 9 (7777 ∷ []) }
-    -- row 10: 1 lookup, height 4, 31 words; 32 words suffice
+    -- refusal 10: 1 lookup, height 4, 31 words; 32 words suffice
     ∷ record { computed = generated (additive 1 (3 ∷ 3 ∷ 3 ∷ 3 ∷ [])) five (replicate 31 7777); expected = plain 10 (replicate 31 7777) }
     ∷ record { computed = take 4 (generated (additive 1 (3 ∷ 3 ∷ 3 ∷ 3 ∷ [])) five (replicate 32 7777)); expected = plain 0 [] }
-    -- row 13: flag 2
+    -- refusal 13: flag 2
     ∷ record { computed = generated (branching 1 1 2 (3 ∷ [])) five (replicate 8 7777); expected = plain 13 (replicate 8 0) }
-    -- row 14: flags 1, 1
+    -- refusal 14: flags 1, 1
     ∷ record { computed = generated (branching 2 1 1 (3 ∷ [])) five (replicate 8 7777); expected = plain 14 (replicate 8 0) }
-    -- row 15: alpha 5, tuple (5), multiplicity 1, on row 1
+    -- refusal 15: alpha 5, tuple (5), multiplicity 1, on row 1
     ∷ record { computed = generated (additive 1 (3 ∷ 5 ∷ [])) five (replicate 16 7777); expected = 15 ∷ 1 ∷ 0 ∷ 0 ∷ replicate 16 0 }
     -- constraints accept c4's trace and terminal
     ∷ record {
@@ -184,7 +184,7 @@ cases =
     -- a chosen branch, and none
     ∷ record { computed = tested (branching 1 1 1 (3 ∷ [])) five (lift 0 ++ lift 1006632961) (some (lift 1006632961)); expected = plain 0 [] }
     ∷ record { computed = tested (branching 1 1 0 (3 ∷ [])) five (lift 0 ++ lift 0) (some (lift 0)); expected = plain 0 [] }
-    -- row 17: accumulator 1 on row 0; another fraction; another step; another terminal
+    -- refusal 17: accumulator 1 on row 0; another fraction; another step; another terminal
     ∷ record { computed = tested (additive 1 (3 ∷ [])) five (lift 1 ++ lift 1006632961) (some (lift 1006632962)); expected = 17 ∷ 0 ∷ 1 ∷ 0 ∷ [] }
     ∷ record { computed = tested (additive 1 (3 ∷ [])) five (lift 0 ++ lift 1) (some (lift 1)); expected = 17 ∷ 0 ∷ 0 ∷ 0 ∷ [] }
     ∷ record {
@@ -206,10 +206,10 @@ cases =
       computed = verdict-words (verdict cabinet babybear babybear-w (additive 1 (3 ∷ [])) five 1 (lift 0) (some (lift 1006632961)));
       expected = plain 10 [];
     }
-    -- row 8: fewer challenges; more are taken
+    -- refusal 8: fewer challenges; more are taken
     ∷ record { computed = tested (additive 1 (3 ∷ [])) (lift 5) (lift 0 ++ lift 1006632961) (some (lift 1006632961)); expected = plain 8 [] }
     ∷ record { computed = tested (additive 1 (3 ∷ [])) (five ++ lift 9) (lift 0 ++ lift 1006632961) (some (lift 1006632961)); expected = plain 0 [] }
-    -- row 11: none, 1 lookup; present without lookups
+    -- refusal 11: none, 1 lookup; present without lookups
     ∷ record { computed = tested (additive 1 (3 ∷ [])) five (lift 0 ++ lift 1006632961) none; expected = plain 11 [] }
     ∷ record { computed = tested no-lookup five (lift 0 ++ lift 0) (some (lift 0)); expected = plain 11 [] }
     -- the reader: row 1 of c4's trace, and no row past the last
@@ -230,5 +230,14 @@ cases =
     ∷ []
 
 pub cases-hold : T (hold cases)
-unfolding powM inverse1 add4 sub4 mul4 scale4 power4 sum4 product4 conjugate conjugate2 norm2 norm inverse4 is-zero element fold tab total every some-of first joined cabinet all-below all-within node decode row-of window node-value values row-values node-degree degrees traces-within nodes-within traces-fit nodes-fit traces-below constants-below nodes-known degrees-low name-start tuple-start multiplicity-start flag-start element-start tuple-width multiplicity-node flag-node tuple-nodes lookups-within lookups-fit sizes words-below known lengths-agree nodes-present lists-agree in-position has-lookups preprocessed-enough rows-enough tuple combine denominator quotient4 branches multiplicity flag chosen denom used-denom additive-fraction additive-fault exclusive-fraction exclusive-fault fraction fault fault-refusal place fraction-at row-sum accumulator row-words fault-at row-fault trace first-fault used entry-refusal rows-outcome entry-outcome generation others additive-numerator additive-denominator exclusive-numerator exclusive-denominator numerator common-denominator cell cell-sum lookup-constraint step binding row-verdict rows-verdict constraints-refusal verdict count lookup-entries row-entries entries same-list post ledger listed met tuples-met row-part
+unfolding powM inverse1 add4 sub4 mul4 scale4 power4 sum4 product4 conjugate conjugate2 norm2 norm inverse4 is-zero element fold tab total every
+    some-of first joined cabinet all-below all-within node decode row-of window node-value values row-values node-degree degrees traces-within
+    nodes-within traces-fit nodes-fit traces-below constants-below nodes-known degrees-low name-start tuple-start multiplicity-start flag-start
+    element-start tuple-width multiplicity-node flag-node tuple-nodes lookups-within lookups-fit sizes words-below known lengths-agree nodes-present
+    lists-agree in-position has-lookups preprocessed-enough rows-enough tuple combine denominator quotient4 branches multiplicity flag chosen denom
+    used-denom additive-fraction additive-fault exclusive-fraction exclusive-fault fraction fault fault-refusal place fraction-at row-sum
+    accumulator row-words fault-at row-fault trace first-fault used entry-refusal rows-outcome entry-outcome generation others additive-numerator
+    additive-denominator exclusive-numerator exclusive-denominator numerator common-denominator cell cell-sum lookup-constraint step binding
+    row-verdict rows-verdict constraints-refusal verdict count lookup-entries row-entries entries same-list post ledger listed met tuples-met
+    row-part
 cases-hold = tt

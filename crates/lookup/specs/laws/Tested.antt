@@ -17,10 +17,10 @@ use Rattle.expression.specs.Node.{node-count}
 use Rattle.expression.specs.Tests.{traces-within, nodes-within, traces-fit, nodes-fit}
 use Rattle.expression.specs.laws.Tested.{few-tested}
 use Rattle.expression.specs.declared.sizes.Limits.{Limits}
-use Rattle.lookup.specs.Lookups.{Lookups, lookup-count, name-length, column, exclusive, tuple-count, multiplicity-count, flag-count, name-start, tuple-start, multiplicity-start, flag-start, element-start, tuple-width}
+use Rattle.lookup.specs.Lookups.{Lookups, lookup-words, lookup-count, name-length, column, exclusive, tuple-count, multiplicity-count, flag-count, name-start, tuple-start, multiplicity-start, flag-start, element-start, tuple-width}
 use Rattle.lookup.specs.Table.{Table}
 use Rattle.lookup.specs.Tests.{lookups-within, lookups-fit, sizes, lengths-agree, nodes-present, lists-agree, in-position}
-use Rattle.lookup.specs.Valid.{Limited, Fitting, Agreeing, Placed}
+use Rattle.lookup.specs.Requires.{Limited, Fitting, Agreeing, Placed}
 
 below-at : (n : ℕ) (l : List ℕ) → all-below n l ≡ true → (i : ℕ) → i < length l → word l i < n
 unfolding all-below
@@ -47,7 +47,7 @@ pub fitting : (l : Lookups) → lookups-fit l ≡ true → Fitting l
 unfolding lookups-fit
 fitting l h =
     let k =
-    passed (eqb (length (l .lookups) % 8) 0)
+    passed (eqb (length (l .lookups) % lookup-words) 0)
     (eqb (length (l .names)) (name-start (l .lookups) (lookup-count (l .lookups)))
     ∷ eqb (length (l .tuples)) (tuple-start (l .lookups) (lookup-count (l .lookups)))
     ∷ eqb (length (l .multiplicities)) (multiplicity-start (l .lookups) (lookup-count (l .lookups)))
@@ -56,7 +56,7 @@ fitting l h =
     ∷ [])
     h in
     record {
-      lookups = omega (arith, eqb-true (length (l .lookups) % 8) 0 (k .0));
+      lookups = omega (arith, eqb-true (length (l .lookups) % lookup-words) 0 (k .0));
       names = eqb-true _ _ (k .1 .0);
       tuples = eqb-true _ _ (k .1 .1 .0);
       multiplicities = eqb-true _ _ (k .1 .1 .1 .0);

@@ -1,4 +1,4 @@
--- Worked cases c8 to c10 of document 01 and its examples of refusals 6 and 7: one table, one theorem, by computation.
+-- Worked cases c8 to c10 of SPECIFICATION, section 12.1, and its examples of refusals 6 and 7: one table, one theorem, by computation.
 use mathlib.Core.Path.{_≡_, refl}
 use mathlib.Core.List.{List, [], _∷_, _++_, flatMap, zipWith}
 use Prim.Native.Nat.{ℕ}
@@ -13,22 +13,24 @@ use Rattle.expression.specs.Degree.{node-degree, degrees}
 use Rattle.expression.specs.Tests.{nodes-within, nodes-fit, constants-below, nodes-known, degrees-low}
 use Rattle.expression.specs.declared.refusal.Refusal.the-variants.{SizeAtOdds, WidthsDiffer, WeightTooLarge}
 use Rattle.lookup.specs.Lookups.{Lookups, name-start, tuple-start, multiplicity-start, flag-start, element-start, tuple-width, multiplicity-node, flag-node, tuple-nodes, lookup-at, lookups-of}
-use Rattle.lookup.specs.Entry.{columns-within, form-sizes, nodes-refusal, lists-refusal, form-refusal, shape-of}
-use Rattle.lookup.specs.declared.entry.Columns.{Columns}
+use Rattle.lookup.specs.Refusals.{columns-within, form-sizes, nodes-refusal, lists-refusal, form-refusal, shape-of}
+use Rattle.lookup.specs.declared.refusals.Columns.{Columns}
 use Rattle.lookup.specs.Tests.{lookups-within, lookups-fit, lengths-agree, nodes-present, lists-agree}
-use Rattle.degree.specs.Sums.{sum-of, largest-of, greatest}
-use Rattle.degree.specs.Degree.{tuple-degree, denominator-degree, numerator-degree, additive-degree, exclusive-degree, lookup-degree}
-use Rattle.degree.specs.Door.{degree-refusal, degree-answer}
-use Rattle.degree.specs.declared.door.DegreeAnswer.{DegreeAnswer}
-use Rattle.degree.specs.declared.door.DegreeAnswer.the-variants as degree
-use Rattle.widths.specs.Order.{keep, position, by-place, numbers, name-at, alone-at, same-bus, place, arranged}
-use Rattle.widths.specs.Widths.{width-in-lookup, width-in-table, expected, by-bus, lookup-refusal, table-refusal, widths-refusal, widest-in-lookup, widest-in-table, widest}
-use Rattle.widths.specs.Door.{Lists, size-start, table-at, tables-of, lists-fit, table-fits, all-fit, widths-answer}
-use Rattle.widths.specs.declared.door.WidthsAnswer.the-variants as widths
+use Rattle.lookup.specs.Buses.{name-at, alone-at, same-bus}
+use Rattle.lookup_degree.specs.Sums.{sum-of, largest-of, greatest}
+use Rattle.lookup_degree.specs.Degree.{tuple-degree, denominator-degree, numerator-degree, additive-degree, exclusive-degree, lookup-degree}
+use Rattle.lookup_degree.specs.ConstraintDegree.{degree-refusal, degree-answer}
+use Rattle.lookup_degree.specs.declared.constraint_degree.DegreeAnswer.{DegreeAnswer}
+use Rattle.lookup_degree.specs.declared.constraint_degree.DegreeAnswer.the-variants as degree
+use Rattle.lookup_buses.specs.Order.{keep, position, by-place, numbers, place, arranged}
+use Rattle.lookup_buses.specs.Widths.{width-in-lookup, width-in-table, expected, by-bus, lookup-refusal, table-refusal, widths-refusal, widest-in-lookup, widest-in-table, widest}
+use Rattle.lookup.specs.Sizes.{size-start, table-part}
+use Rattle.lookup_buses.specs.CheckBusWidths.{BusTables, table-at, tables-of, lists-fit, table-fits, all-fit, widths-answer}
+use Rattle.lookup_buses.specs.declared.check_bus_widths.WidthsAnswer.the-variants as widths
 use Rattle.packing.specs.Packing.{in-order, fill, filled, renumbered, packed, overweight}
 use Rattle.packing.specs.Written.{lookup-words, words-of}
-use Rattle.packing.specs.Door.{Outcome, holds, columns, packing-refusal, packing}
-use Rattle.packing.specs.declared.door.PackingAnswer.the-variants.{Packed, Refused}
+use Rattle.packing.specs.PackSameBus.{Outcome, holds, columns, packing-refusal, packing}
+use Rattle.packing.specs.declared.answer.PackingAnswer.the-variants.{Packed, Refused}
 
 abbrev p : ℕ
 p = 2013265921
@@ -94,7 +96,7 @@ b-a-b =
       elements = replicate 3 0;
     }
 
--- row 6: the bus "mem", widths 2 and 3
+-- refusal 6: the bus "mem", widths 2 and 3
 abbrev mem : Lookups
 mem =
     record {
@@ -107,7 +109,7 @@ mem =
     }
 
 -- the same two lookups in two tables
-abbrev mem-tables : List ℕ → Lists
+abbrev mem-tables : List ℕ → BusTables
 mem-tables tuples =
     record {
       lookups = 1 ∷ 3 ∷ 1 ∷ 0 ∷ 0 ∷ 1 ∷ 1 ∷ 0 ∷ 1 ∷ 3 ∷ 1 ∷ 0 ∷ 0 ∷ 1 ∷ 1 ∷ 0 ∷ [];
@@ -116,7 +118,7 @@ mem-tables tuples =
       sizes = 1 ∷ 3 ∷ 1 ∷ 1 ∷ 3 ∷ 1 ∷ [];
     }
 
--- row 7: weights 4294967295 and 1
+-- refusal 7: weights 4294967295 and 1
 abbrev heavy : Lookups
 heavy = singles (1 ∷ 1 ∷ 4294967295 ∷ 0 ∷ 0 ∷ 1 ∷ 1 ∷ 0 ∷ 1 ∷ 1 ∷ 1 ∷ 1 ∷ 0 ∷ 1 ∷ 1 ∷ 0 ∷ []) 2
 
@@ -156,7 +158,7 @@ pub cases :
     × (packed-with 0 five room .lists ≡ five)
     × (packed-with 0 five room .answer
     ≡ Packed (record { lookups = 40; names = 5; tuples = 5; multiplicities = 5; flags = 0; elements = 5 }))
-    -- "each bus by its first additive lookup": "b" before "a", whatever their names
+    -- "a bus by its first additive lookup": "b" before "a", whatever their names
     × (packed-with 3 b-a-b b-a-b .lists
     ≡ record {
       lookups = 1 ∷ 1 ∷ 2 ∷ 0 ∷ 0 ∷ 2 ∷ 2 ∷ 0 ∷ 1 ∷ 1 ∷ 1 ∷ 1 ∷ 0 ∷ 1 ∷ 1 ∷ 0 ∷ 1 ∷ 1 ∷ 1 ∷ 2 ∷ 0 ∷ 1 ∷ 1 ∷ 0 ∷ [];
@@ -178,5 +180,12 @@ pub cases :
     × (packed-with 3 heavy room ≡ record { answer = Refused WeightTooLarge; lists = room })
     × (packed-with 2 heavy room .answer
     ≡ Packed (record { lookups = 16; names = 2; tuples = 2; multiplicities = 2; flags = 0; elements = 2 }))
-unfolding total every first tab flatMap zipWith all-below all-within cabinet decode node node-degree degrees nodes-within nodes-fit constants-below nodes-known degrees-low name-start tuple-start multiplicity-start flag-start element-start tuple-width multiplicity-node flag-node tuple-nodes lookup-at lookups-of lookups-within lookups-fit lengths-agree nodes-present lists-agree sum-of largest-of greatest tuple-degree denominator-degree numerator-degree additive-degree exclusive-degree lookup-degree columns-within form-sizes nodes-refusal lists-refusal form-refusal shape-of degree-refusal degree-answer keep position by-place numbers same-list name-at alone-at same-bus place arranged width-in-lookup width-in-table expected by-bus lookup-refusal table-refusal widths-refusal widest-in-lookup widest-in-table widest size-start table-at tables-of lists-fit table-fits all-fit widths-answer in-order fill filled renumbered packed overweight lookup-words words-of holds columns packing-refusal packing
+unfolding total every first tab flatMap zipWith all-below all-within cabinet decode node node-degree degrees nodes-within nodes-fit constants-below
+    nodes-known degrees-low name-start tuple-start multiplicity-start flag-start element-start tuple-width multiplicity-node flag-node tuple-nodes
+    lookup-at lookups-of lookups-within lookups-fit lengths-agree nodes-present lists-agree sum-of largest-of greatest tuple-degree denominator-degree
+    numerator-degree additive-degree exclusive-degree lookup-degree columns-within form-sizes nodes-refusal lists-refusal form-refusal shape-of
+    degree-refusal degree-answer keep position by-place numbers same-list name-at alone-at same-bus place arranged width-in-lookup width-in-table
+    expected by-bus lookup-refusal table-refusal widths-refusal widest-in-lookup widest-in-table widest size-start table-part table-at tables-of
+    lists-fit table-fits all-fit widths-answer in-order fill filled renumbered packed overweight lookup-words words-of holds columns packing-refusal
+    packing
 cases = (refl, refl, refl, refl, refl, refl, refl, refl, refl, refl, refl, refl, refl)

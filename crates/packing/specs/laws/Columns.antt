@@ -10,12 +10,13 @@ use lib.ListN.{length}
 use borrow.Author.Tests.{ltb-true, ltb-false, leb-true, lt-ltb, le-ltb, not-true}
 use Rattle.lists.specs.Same.{same-list}
 use Rattle.lists.specs.laws.Same.{same-list-eq}
-use Rattle.degree.specs.Sums.{sum-of}
+use Rattle.lookup_degree.specs.Sums.{sum-of}
 use Rattle.lookup.specs.Lookups.{Lookups, Lookup, lookup-count, lookup-at, lookups-of}
-use Rattle.degree.specs.Degree.{denominator-degree, numerator-degree, additive-degree, exclusive-degree, lookup-degree}
-use Rattle.widths.specs.Order.{keep, position, by-place, numbers, same-bus, place, arranged}
+use Rattle.lookup.specs.Buses.{same-bus}
+use Rattle.lookup_degree.specs.Degree.{denominator-degree, numerator-degree, additive-degree, exclusive-degree, lookup-degree}
+use Rattle.lookup_buses.specs.Order.{keep, position, by-place, numbers, place, arranged}
 use Rattle.packing.specs.Packing.{passes, additive-on, on-one-bus, in-order, merged, joins, fill, filled, numbered, renumbered, packed}
-use Rattle.widths.specs.laws.Order.{keep-append, keep-same, keep-none, keep-cong, keep-map, position-none, sum-append, sum-map, tab-map, numbers-length, arranged-sum, arranged-in, by-place-keep, by-place-front}
+use Rattle.lookup_buses.specs.laws.Order.{keep-append, keep-same, keep-none, keep-cong, keep-map, position-none, sum-append, sum-map, tab-map, numbers-length, arranged-sum, arranged-in, by-place-keep, by-place-front}
 
 pub and-both : (a b : Bool) → (a && b) ≡ true → (a ≡ true) × (b ≡ true)
 and-both true b e = (refl, e)

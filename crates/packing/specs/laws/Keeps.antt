@@ -7,12 +7,12 @@ use native.Mathlib.Omega.{arith}
 use lib.Dec.{eqb, leb, eqb·suc-zero}
 use lib.ListN.{length, length-append}
 use borrow.Author.Tests.{lt-ltb}
-use Rattle.degree.specs.Sums.{sum-of}
+use Rattle.lookup_degree.specs.Sums.{sum-of}
 use Rattle.lookup.specs.Lookups.{Lookups, Lookup, lookups-of}
-use Rattle.degree.specs.Degree.{lookup-degree}
-use Rattle.widths.specs.Order.{keep}
+use Rattle.lookup_degree.specs.Degree.{lookup-degree}
+use Rattle.lookup_buses.specs.Order.{keep}
 use Rattle.packing.specs.Packing.{passes, additive-on, on-one-bus, in-order, merged, joins, fill, filled, renumbered, packed}
-use Rattle.widths.specs.laws.Order.{keep-append, keep-same}
+use Rattle.lookup_buses.specs.laws.Order.{keep-append, keep-same}
 use Rattle.packing.specs.laws.Columns.{and-both, on-one, packed-keeps, packed-sum, packed-within, Lawful, order-passes, order-front}
 
 -- a lookup that passes is a column of its own

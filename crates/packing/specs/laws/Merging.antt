@@ -6,11 +6,11 @@ use Prim.Native.Nat.{ℕ, zero, suc, _+_, _-_, _≤_, max}
 use native.Mathlib.Omega.{arith}
 use lib.ListN.{length}
 use Rattle.lists.specs.laws.Tab.{zip-append}
-use Rattle.degree.specs.Sums.{sum-of, largest-of}
+use Rattle.lookup_degree.specs.Sums.{sum-of, largest-of}
 use Rattle.lookup.specs.Lookups.{Lookup}
-use Rattle.degree.specs.Degree.{tuple-degree, denominator-degree, term-degree, numerator-degree, additive-degree, lookup-degree}
+use Rattle.lookup_degree.specs.Degree.{tuple-degree, denominator-degree, term-degree, numerator-degree, additive-degree, lookup-degree}
 use Rattle.packing.specs.Packing.{merged}
-use Rattle.widths.specs.laws.Order.{sum-append}
+use Rattle.lookup_buses.specs.laws.Order.{sum-append}
 
 -- as many multiplicities as tuples
 abbrev pub Aligned : Lookup → Type 0

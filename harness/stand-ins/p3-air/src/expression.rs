@@ -1,4 +1,4 @@
-//! Expressions as trees that share their parts. Degrees are document 01's: constants are not folded.
+//! Expressions as trees that share their parts. Degrees are those of docs/SPECIFICATION.md: constants are not folded.
 use std::iter::Sum;
 use std::ops::{Add, AddAssign, Mul, MulAssign, Neg, Sub, SubAssign};
 use std::sync::Arc;

@@ -1,5 +1,5 @@
 use Rattle.field.specs.laws.Norm.{norm2-lo}
-use Rattle.field.specs.Ext.{ws}
+use Rattle.field.specs.Ext.{ext-words}
 use borrow.Author.Needs.{needs}
 use Rattle.field.proofs.extension.norm_lo.Statement.{statement}
 use Rattle.field.proofs.extension.norm_lo.Tie as tie
@@ -17,7 +17,12 @@ dot4-requires : tie.Need-dot4-requires
 dot4-requires c κs = search needs
 
 returns : tie.Need-returns
-returns c = (c .dot4 .ensures .0, norm2-lo _ _ (c .before .before .before .before .pre .2) (ws (c .before .before .before .before .args .a)) _ _ _ _ (c .before .before .before .mul .ensures .1) (c .before .before .mul2 .ensures .1) (c .before .neg .ensures .1) (c .dot4 .ensures .1))
+returns c =
+    let at-4 = c .before .before .before .before in (
+      c .dot4 .ensures .0,
+      norm2-lo _ _ (at-4 .pre .2) (ext-words (at-4 .args .a)) _ _ _ _ (c .before .before .before .mul .ensures .1) (c .before
+          .before .mul2 .ensures .1) (c .before .neg .ensures .1) (c .dot4 .ensures .1),
+    )
 
 pub norm-lo-spec : {M : Type 1} → statement M
 norm-lo-spec = tie.close (tie.spec mul-requires mul-requires-2 neg-requires dot4-requires returns)

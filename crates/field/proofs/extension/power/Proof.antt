@@ -1,4 +1,4 @@
-use Rattle.field.specs.Ext.{ws}
+use Rattle.field.specs.Ext.{ext-words}
 use Rattle.field.specs.Element.{Word4, mul4, power4}
 use native.Mathlib.Omega.{arith}
 use native.Mathlib.Numerals.{add-one}
@@ -10,7 +10,7 @@ use Rattle.field.proofs.extension.power.Statement.{statement}
 use Rattle.field.proofs.extension.power.Tie as tie
 
 abbrev Inv-loop : tie.InvT-loop
-Inv-loop p w b n r₀ i₀ r i = (i ≤ n) × Word4 p (ws r) × (ws r ≡ power4 p w (ws b) i)
+Inv-loop p w b n r₀ i₀ r i = (i ≤ n) × Word4 p (ext-words r) × (ext-words r ≡ power4 p w (ext-words b) i)
 
 abbrev μ-loop : tie.MeasureT-loop
 μ-loop p w b n r₀ i₀ r i = n - i

@@ -1,3 +1,4 @@
+use mathlib.Core.List.{[], _∷_}
 use Rattle.field.specs.Element.{scale4}
 use borrow.Author.Needs.{needs}
 use Rattle.field.proofs.extension.scale.Statement.{statement}
@@ -17,7 +18,12 @@ mul-requires-4 c κs = search needs
 
 returns : tie.Need-returns
 unfolding scale4
-returns c = (search needs, cc)
+returns c = (
+  search needs,
+  λ i.
+      (c .before .before .before .mul .ensures .1) i ∷ (c .before .before .mul2 .ensures .1) i ∷ (c .before .mul3 .ensures .1) i
+      ∷ (c .mul4 .ensures .1) i ∷ [],
+)
 
 pub scale-spec : {M : Type 1} → statement M
 scale-spec = tie.close (tie.spec mul-requires mul-requires-2 mul-requires-3 mul-requires-4 returns)

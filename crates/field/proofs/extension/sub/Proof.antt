@@ -1,3 +1,4 @@
+use mathlib.Core.List.{[], _∷_}
 use Rattle.field.specs.Element.{sub4}
 use borrow.Author.Needs.{needs}
 use Rattle.field.proofs.extension.sub.Statement.{statement}
@@ -17,7 +18,12 @@ sub-requires-4 c κs = search needs
 
 returns : tie.Need-returns
 unfolding sub4
-returns c = (search needs, cc)
+returns c = (
+  search needs,
+  λ i.
+      (c .before .before .before .sub .ensures .1) i ∷ (c .before .before .sub2 .ensures .1) i ∷ (c .before .sub3 .ensures .1) i
+      ∷ (c .sub4 .ensures .1) i ∷ [],
+)
 
 pub sub-spec : {M : Type 1} → statement M
 sub-spec = tie.close (tie.spec sub-requires sub-requires-2 sub-requires-3 sub-requires-4 returns)

@@ -17,7 +17,11 @@ reduce-requires : tie.Need-reduce-requires
 reduce-requires c κs = search needs
 
 returns : tie.Need-returns
-returns c = (c .reduce .ensures .0, cc (add-mod (c .before .before .before .args .a * c .before .before .before .args .b) (c .before .before .before .args .c * c .before .before .before .args .d) (c .before .before .before .args .p)))
+returns c = (
+  c .reduce .ensures .0,
+  cc (add-mod (c .before .before .before .args .a * c .before .before .before .args .b) (c .before .before .before .args .c
+      * c .before .before .before .args .d) (c .before .before .before .args .p)),
+)
 
 pub dot2-spec : {M : Type 1} → statement M
 dot2-spec =

@@ -1,3 +1,5 @@
+use mathlib.Core.Path.{_∙_}
+use Prim.Native.Nat.{_+_, _%_}
 use borrow.Author.Needs.{needs}
 use Rattle.field.proofs.word.dot4.Statement.{statement}
 use Rattle.field.proofs.word.dot4.Tie as tie
@@ -27,7 +29,13 @@ reduce-requires : tie.Need-reduce-requires
 reduce-requires c κs = search needs
 
 returns : tie.Need-returns
-returns c = (c .reduce .ensures .0, cc)
+returns c = (
+  c .reduce .ensures .0,
+  c .reduce .ensures .1
+      ∙ (λ i.
+      ((c .before .before .before .before .product .ensures .0) i + (c .before .before .before .product2 .ensures .0) i
+      + (c .before .before .product3 .ensures .0) i + (c .before .product4 .ensures .0) i) % c .before .before .before .before .before .args .p),
+)
 
 pub dot4-spec : {M : Type 1} → statement M
 dot4-spec =

@@ -16,8 +16,8 @@ inv-nonzero-requires c κs = search needs
 returns-2 : tie.Need-returns-2
 returns-2 c = (
   c .inv-nonzero .ensures .0,
-  inverse1-unique (c .before .before .args .p) (c .before .before .pre .0) (c .before .before .pre .1) (c .before .before .args .a) _ (omega arith)
-      (c .before .before .pre .2) (c .inv-nonzero .ensures .0) (c .inv-nonzero .ensures .1),
+  inverse1-unique (c .before .before .args .p) (c .before .before .pre .0) (c .before .before .pre .1) (c .before
+      .before .args .a) _ (omega arith) (c .before .before .pre .2) (c .inv-nonzero .ensures .0) (c .inv-nonzero .ensures .1),
 )
 
 pub inv-spec : {M : Type 1} → statement M

@@ -1,3 +1,5 @@
+use mathlib.Core.Path.{_∙_}
+use Prim.Native.Nat.{_%_}
 use borrow.Author.Needs.{needs}
 use Rattle.field.proofs.word.mul.Statement.{statement}
 use Rattle.field.proofs.word.mul.Tie as tie
@@ -9,7 +11,8 @@ reduce-requires : tie.Need-reduce-requires
 reduce-requires c κs = search needs
 
 returns : tie.Need-returns
-returns c = (c .reduce .ensures .0, cc)
+returns c =
+    (c .reduce .ensures .0, c .reduce .ensures .1 ∙ (λ i. (c .before .product .ensures .0) i % c .before .before .args .p))
 
 pub mul-spec : {M : Type 1} → statement M
 mul-spec = tie.close (tie.spec product-requires reduce-requires returns)

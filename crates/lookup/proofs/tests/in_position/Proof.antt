@@ -20,8 +20,8 @@ loop-holds c = test-begins
 column-requires : tie.Need-column-requires Inv-loop μ-loop
 column-requires c κs = search needs
 
-wide-requires : tie.Need-wide-requires Inv-loop μ-loop
-wide-requires c κs = search needs
+to-u64-requires : tie.Need-to-u64-requires Inv-loop μ-loop
+to-u64-requires c κs = search needs
 
 add-i : tie.Need-add-i Inv-loop μ-loop
 add-i c = search needs
@@ -30,7 +30,7 @@ loop-less : tie.Need-loop-less Inv-loop μ-loop
 loop-less c = search needs
 
 loop-again : tie.Need-loop-again Inv-loop μ-loop
-loop-again c = test-turn (c .before .before .before .loop .inv) (search needs) (rw (c .wide .ensures .0 ∙ c .before .column .ensures))
+loop-again c = test-turn (c .before .before .before .loop .inv) (search needs) (rw (c .to-u64 .ensures .0 ∙ c .before .column .ensures))
 
 returns : tie.Need-returns Inv-loop μ-loop
 unfolding in-position
@@ -44,7 +44,7 @@ in-position-spec =
     μ-loop
     loop-holds
     column-requires
-    wide-requires
+    to-u64-requires
     add-i
     loop-less
     loop-again

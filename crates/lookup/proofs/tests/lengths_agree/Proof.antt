@@ -17,7 +17,14 @@ flags-due-requires c κs = search needs
 
 returns : tie.Need-returns
 unfolding lengths-agree
-returns c = rw (c .before .before .before .multiplicity-count .ensures, c .before .before .tuple-count .ensures, c .before .flag-count .ensures, c .flags-due .ensures)
+returns c =
+    rw (
+      c .before .before .before .multiplicity-count .ensures,
+      c .before .before .tuple-count .ensures,
+      c .before .flag-count .ensures,
+      c .flags-due
+          .ensures,
+    )
 
 pub lengths-agree-spec : {M : Type 1} → statement M
 lengths-agree-spec =

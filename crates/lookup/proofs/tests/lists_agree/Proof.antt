@@ -11,7 +11,9 @@ nodes-present-requires c κs = search needs
 
 returns : tie.Need-returns
 unfolding lists-agree nodes-present
-returns c names tuples = rw (c .before .all-agree .ensures, c .nodes-present .ensures (c .before .before .before .before .before .before .args .lookups .now) names tuples)
+returns c names tuples =
+    let at-6 = c .before .before .before .before .before .before in
+    rw (c .before .all-agree .ensures, c .nodes-present .ensures (at-6 .args .lookups .now) names tuples)
 
 pub lists-agree-spec : {M : Type 1} → statement M
 lists-agree-spec = tie.close (tie.spec all-agree-requires nodes-present-requires returns)

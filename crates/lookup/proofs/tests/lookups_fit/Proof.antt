@@ -1,35 +1,43 @@
-use Rattle.lookup.specs.Lookups.{tuple-start, multiplicity-start, flag-start}
 use Rattle.lookup.specs.Tests.{lookups-fit}
 use borrow.Author.Needs.{needs}
 use Rattle.lookup.proofs.tests.lookups_fit.Statement.{statement}
 use Rattle.lookup.proofs.tests.lookups_fit.Tie as tie
 
-name-total-requires : tie.Need-name-total-requires
-name-total-requires c κs = search needs
+name-start-requires : tie.Need-name-start-requires
+name-start-requires c κs = search needs
 
-entry-total-requires : tie.Need-entry-total-requires
-entry-total-requires c κs = search needs
+tuple-start-requires : tie.Need-tuple-start-requires
+tuple-start-requires c κs = search needs
 
-entry-total-requires-2 : tie.Need-entry-total-requires-2
-entry-total-requires-2 c κs = search needs
+multiplicity-start-requires : tie.Need-multiplicity-start-requires
+multiplicity-start-requires c κs = search needs
 
-entry-total-requires-3 : tie.Need-entry-total-requires-3
-entry-total-requires-3 c κs = search needs
+flag-start-requires : tie.Need-flag-start-requires
+flag-start-requires c κs = search needs
 
-width-total-requires : tie.Need-width-total-requires
-width-total-requires c κs = search needs
+element-start-requires : tie.Need-element-start-requires
+element-start-requires c κs = search needs
 
 returns : tie.Need-returns
-unfolding lookups-fit tuple-start multiplicity-start flag-start
-returns c = rw (c .before .before .before .before .name-total .ensures, c .before .before .before .entry-total .ensures .0, c .before .before .entry-total2 .ensures .0, c .before .entry-total3 .ensures .0, c .width-total .ensures)
+unfolding lookups-fit
+returns c =
+    let at-4 = c .before .before .before .before in
+    rw (
+      at-4 .name-start .ensures .0,
+      c .before .before .before .tuple-start .ensures .0,
+      c .before .before .multiplicity-start .ensures .0,
+      c
+          .before .flag-start .ensures .0,
+      c .element-start .ensures .0,
+    )
 
 pub lookups-fit-spec : {M : Type 1} → statement M
 lookups-fit-spec =
     tie.close
     (tie.spec
-    name-total-requires
-    entry-total-requires
-    entry-total-requires-2
-    entry-total-requires-3
-    width-total-requires
+    name-start-requires
+    tuple-start-requires
+    multiplicity-start-requires
+    flag-start-requires
+    element-start-requires
     returns)

@@ -6,14 +6,14 @@ use Rattle.lookup.proofs.types.name_length.Tie as tie
 on-bus-requires : tie.Need-on-bus-requires
 on-bus-requires c κs = search needs
 
-entry-requires : tie.Need-entry-requires
-entry-requires c κs = search needs
+lookup-word-requires : tie.Need-lookup-word-requires
+lookup-word-requires c κs = search needs
 
 returns : tie.Need-returns
-returns c = rw (sym (c .before .before .on-bus .ensures), c .before .if1 .taken) (c .entry .ensures)
+returns c = rw (sym (c .before .before .on-bus .ensures), c .before .if1 .taken) (c .lookup-word .ensures)
 
 returns-2 : tie.Need-returns-2
 returns-2 c = rw (sym (c .before .on-bus .ensures), c .if1 .left)
 
 pub name-length-spec : {M : Type 1} → statement M
-name-length-spec = tie.close (tie.spec on-bus-requires entry-requires returns returns-2)
+name-length-spec = tie.close (tie.spec on-bus-requires lookup-word-requires returns returns-2)

@@ -1,5 +1,5 @@
 use Prim.Native.Nat.{_-_}
-use Rattle.wire.proofs.Turns.{Decoding, decode-begins, decode-turn, decode-ends}
+use Rattle.wire.proofs.Loops.{Decoding, decode-begins, decode-turn, decode-ends}
 use borrow.Author.Needs.{needs}
 use Rattle.wire.proofs.words.decode.Statement.{statement}
 use Rattle.wire.proofs.words.decode.Tie as tie

@@ -1,2 +1,0 @@
-// Refusals as numbers.
-pub mod numbers;

@@ -1,0 +1,2 @@
+pub mod LookupStarts
+pub mod Requires

@@ -1,0 +1,2 @@
+// Balance (`check_lookups`): the entry point.
+pub mod debug_util;

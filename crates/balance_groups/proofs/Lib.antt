@@ -1,0 +1,3 @@
+pub mod AccumulateLoops
+pub mod CheckLoops
+pub mod TestsLoops

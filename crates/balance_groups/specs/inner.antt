@@ -1,0 +1,4 @@
+pub mod ByNumber
+pub mod Visits
+pub mod Lowest
+pub mod Ranges

@@ -1,0 +1,4 @@
+pub mod Groups
+pub mod Visits
+pub mod Lowest
+pub mod Ranges

@@ -1,0 +1,4 @@
+pub mod DecimalLoops
+pub mod SlotsLoops
+pub mod GroupRefusalLoops
+pub mod ChainsLoops

@@ -1,0 +1,6 @@
+pub mod Decimal
+pub mod Slots
+pub mod Workspace
+pub mod GroupRefusal
+pub mod inner
+pub mod laws

@@ -1,3 +1,0 @@
-pub mod Building
-pub mod Door
-pub mod laws

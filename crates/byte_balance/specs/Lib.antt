@@ -1,2 +1,0 @@
-pub mod Balancing
-pub mod laws

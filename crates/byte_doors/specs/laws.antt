@@ -1,3 +1,0 @@
-pub mod Balancing
-pub mod Pack
-pub mod Permutation

@@ -1,2 +1,0 @@
-pub mod Permutation
-pub mod laws

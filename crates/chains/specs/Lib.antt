@@ -1,3 +1,0 @@
-pub mod Hash
-pub mod Chain
-pub mod laws

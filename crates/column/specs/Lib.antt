@@ -1,4 +1,0 @@
-pub mod Powers
-pub mod Own
-pub mod Shares
-pub mod laws

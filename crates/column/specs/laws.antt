@@ -1,4 +1,0 @@
-pub mod Powers
-pub mod Own
-pub mod Parts
-pub mod Shares

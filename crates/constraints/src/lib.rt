@@ -1,2 +1,0 @@
-// The constraints over a whole trace: the tests of the door `eval_all` around the constraints of all rows.
-pub mod eval;

@@ -1,2 +1,0 @@
-// Balance's door (`check_lookups`).
-pub mod debug_util;

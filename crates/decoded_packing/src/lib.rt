@@ -1,2 +1,0 @@
-// Packing on lists of bytes that fit their rooms.
-pub mod pack;

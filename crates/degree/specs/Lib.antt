@@ -1,6 +1,0 @@
-pub mod Sums
-pub mod Degree
-pub mod At
-pub mod Formed
-pub mod Door
-pub mod laws

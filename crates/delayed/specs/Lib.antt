@@ -1,2 +1,0 @@
-pub mod Sum
-pub mod laws

@@ -1,0 +1,44 @@
+use mathlib.Core.List.{[], _∷_}
+use mathlib.Core.Path.{ap, _∙_}
+use Rattle.delmatik_answers.specs.Types.{widths-refused, widest-value}
+use Rattle.delmatik.specs.Exports.{exported-widest, exported-verdict}
+use Rattle.delmatik.proofs.Answered.{verdict-is}
+use borrow.Author.Needs.{needs}
+use Rattle.delmatik.proofs.types.delmatik_widths.Statement.{statement}
+use Rattle.delmatik.proofs.types.delmatik_widths.Tie as tie
+
+check-bus-widths-requires : tie.Need-check-bus-widths-requires
+check-bus-widths-requires c κs = search needs
+
+widest-value-requires : tie.Need-widest-value-requires
+widest-value-requires c κs = search needs
+
+write-value-requires : tie.Need-write-value-requires
+write-value-requires c κs = search needs
+
+widths-verdict-requires : tie.Need-widths-verdict-requires
+widths-verdict-requires c κs = search needs
+
+write-answer-requires : tie.Need-write-answer-requires
+write-answer-requires c κs = search needs
+
+returns : tie.Need-returns
+unfolding exported-widest exported-verdict
+returns c =
+    let at-5 = c .before .before .before .before .before in
+    let a = at-5 .before .check-bus-widths .ensures in
+    let v = verdict-is (c .write-answer .ensures) (c .before .before .widths-verdict .ensures ∙ ap widths-refused a) in
+    let n = at-5 .widest-value .ensures ∙ ap widest-value a in
+    let written = c .before .before .before .write-value .ensures ∙ (λ i. n i ∷ []) in
+    λ i. record { number = v i .number; details = v i .details; value = written i }
+
+pub delmatik-widths-spec : {M : Type 1} → statement M
+delmatik-widths-spec =
+    tie.close
+    (tie.spec
+    check-bus-widths-requires
+    widest-value-requires
+    write-value-requires
+    widths-verdict-requires
+    write-answer-requires
+    returns)

@@ -1,0 +1,68 @@
+// Building for callers that hold words.
+use delmatik_answers::answer::write_answer;
+use delmatik_answers::built::building_verdict;
+use delmatik_answers::built::built_value;
+use delmatik_answers::values::write_value;
+use lookup::refusals::Columns;
+use lookup_builder::answer::Kinds;
+use lookup_builder::builder::from_interactions;
+ghost use mathlib.Core.Path.{_≡_};
+ghost use Rattle.expression.specs.Limits.{cabinet};
+ghost use Rattle.field.specs.Modulus.{babybear};
+ghost use Rattle.lookup_builder.specs.FromInteractions.{lent-interactions, building};
+ghost use Rattle.delmatik_answers.specs.Types.{columns-of};
+ghost use Rattle.delmatik_answers.specs.Building.{kinds-of};
+ghost use Rattle.delmatik.specs.Exports.{exported-building};
+
+// `from_interactions` of one table: the lookups' words into the front of a lent list, and how many were written. `interactions`
+// has two words for each, locals first, then globals, then exclusives: the length of its name and the number of its tuples.
+#[no_mangle]
+pub extern "C" fn delmatik_build(
+    main_width: usize,
+    pre_width: usize,
+    public_values: usize,
+    nodes: &[u32],
+    locals: usize,
+    globals: usize,
+    exclusives: usize,
+    interactions: &[u32],
+    weights: &[u32],
+    names: &[u8],
+    tuples: &[u32],
+    multiplicities: &[u32],
+    flags: &[u32],
+    elements: &[u32],
+    lookups_out: &mut [u32],
+    used: &mut [u64; 1],
+    details: &mut [u64; 3],
+) -> u32
+    ensures { λ r. ⌜ record { number = r; details = now (details .exit); used = now (used .exit); lookups = now («lookups_out» .exit) }
+        ≡ exported-building (building cabinet babybear (columns-of «main_width» «pre_width» «public_values»)
+        (now (nodes .entry)) (kinds-of locals globals exclusives)
+        (lent-interactions (now (interactions .entry)) (now (weights .entry)) (now (names .entry)) (now (tuples .entry)) (now (multiplicities .entry))
+        (now (flags .entry)) (now (elements .entry))) (now («lookups_out» .entry))) ⌝ }
+{
+    let a = from_interactions(
+        Columns {
+            main: main_width,
+            preprocessed: pre_width,
+            public_values,
+        },
+        nodes,
+        Kinds {
+            locals,
+            globals,
+            exclusives,
+        },
+        interactions,
+        weights,
+        names,
+        tuples,
+        multiplicities,
+        flags,
+        elements,
+        lookups_out,
+    );
+    write_value(built_value(a), used);
+    write_answer(building_verdict(a), details)
+}

@@ -1,0 +1,69 @@
+// Generation for callers that hold words.
+use delmatik_answers::answer::write_details;
+use delmatik_answers::generated::generation_details;
+use delmatik_answers::generated::generation_number;
+use delmatik_answers::generated::write_terminal;
+use expression::sizes::Shape;
+use logup_generation::generate_permutation::generate;
+ghost use mathlib.Core.Path.{_≡_};
+ghost use Rattle.expression.specs.Limits.{cabinet};
+ghost use Rattle.field.specs.Modulus.{babybear, babybear-w};
+ghost use Rattle.lookup.specs.Lookups.{lent-lookups};
+ghost use Rattle.lookup.specs.Table.{lent-table};
+ghost use Rattle.logup.specs.Generation.{generation};
+ghost use Rattle.delmatik_answers.specs.Generation.{shape-of};
+ghost use Rattle.delmatik.specs.Exports.{exported-generation};
+
+// `generate_permutation`: the number of the refusal is returned, 0 where there is none; its details, the terminal and the trace are written.
+#[no_mangle]
+pub extern "C" fn delmatik_generate(
+    main_width: usize,
+    height: usize,
+    pre_width: usize,
+    pre_height: usize,
+    main: &[u32],
+    preprocessed: &[u32],
+    public_values: &[u32],
+    nodes: &[u32],
+    lookups: &[u32],
+    names: &[u8],
+    tuples: &[u32],
+    multiplicities: &[u32],
+    flags: &[u32],
+    elements: &[u32],
+    challenges: &[u32],
+    trace: &mut [u32],
+    terminal: &mut [u32; 5],
+    details_out: &mut [u64; 3],
+) -> u32
+    ensures { λ r. ⌜ record { number = r; details = now («details_out» .exit); terminal = now (terminal .exit); trace = now (trace .exit) }
+        ≡ exported-generation (generation cabinet babybear babybear-w
+        (lent-table (shape-of «main_width» height «pre_width» «pre_height») (now (main .entry)) (now (preprocessed .entry)) (now («public_values» .entry))
+        (now (nodes .entry))
+        (lent-lookups (now (lookups .entry)) (now (names .entry)) (now (tuples .entry)) (now (multiplicities .entry)) (now (flags .entry))
+        (now (elements .entry)))) (now (challenges .entry)) (now (trace .entry))) ⌝ }
+{
+    let g = generate(
+        Shape {
+            main_width,
+            height,
+            pre_width,
+            pre_height,
+        },
+        main,
+        preprocessed,
+        public_values,
+        nodes,
+        lookups,
+        names,
+        tuples,
+        multiplicities,
+        flags,
+        elements,
+        challenges,
+        trace,
+    );
+    write_terminal(g, terminal);
+    write_details(generation_details(g), details_out);
+    generation_number(g)
+}

@@ -1,0 +1,80 @@
+// Degree and bus widths, for callers that hold words.
+use delmatik_answers::answer::write_answer;
+use delmatik_answers::values::degree_value;
+use delmatik_answers::values::degree_verdict;
+use delmatik_answers::values::widest_value;
+use delmatik_answers::values::widths_verdict;
+use delmatik_answers::values::write_value;
+use lookup::refusals::Columns;
+use lookup_buses::check_bus_widths::check_bus_widths;
+use lookup_degree::constraint_degree::constraint_degree;
+ghost use mathlib.Core.Path.{_≡_};
+ghost use Rattle.expression.specs.Limits.{cabinet};
+ghost use Rattle.field.specs.Modulus.{babybear};
+ghost use Rattle.lookup.specs.Lookups.{lent-lookups};
+ghost use Rattle.lookup_degree.specs.ConstraintDegree.{degree-answer};
+ghost use Rattle.lookup_buses.specs.CheckBusWidths.{widths-answer, lent-bus-tables};
+ghost use Rattle.delmatik_answers.specs.Types.{columns-of};
+ghost use Rattle.delmatik.specs.Exports.{exported-degree, exported-widest};
+
+// `constraint_degree_with_transition` of one lookup of a table; 0 where it is refused.
+#[no_mangle]
+pub extern "C" fn delmatik_degree(
+    main_width: usize,
+    pre_width: usize,
+    public_values: usize,
+    nodes: &[u32],
+    lookups: &[u32],
+    names: &[u8],
+    tuples: &[u32],
+    multiplicities: &[u32],
+    flags: &[u32],
+    elements: &[u32],
+    lookup: usize,
+    transition: u32,
+    degree: &mut [u64; 1],
+    details: &mut [u64; 3],
+) -> u32
+    ensures { λ r. ⌜ record { number = r; details = now (details .exit); value = now (degree .exit) }
+        ≡ exported-degree (degree-answer cabinet babybear (columns-of «main_width» «pre_width» «public_values») (now (nodes .entry))
+        (lent-lookups (now (lookups .entry)) (now (names .entry)) (now (tuples .entry)) (now (multiplicities .entry)) (now (flags .entry))
+        (now (elements .entry))) lookup transition) ⌝ }
+{
+    let a = constraint_degree(
+        Columns {
+            main: main_width,
+            preprocessed: pre_width,
+            public_values,
+        },
+        nodes,
+        lookups,
+        names,
+        tuples,
+        multiplicities,
+        flags,
+        elements,
+        lookup,
+        transition,
+    );
+    write_value(degree_value(a), degree);
+    write_answer(degree_verdict(a), details)
+}
+
+// `check_bus_widths` of several tables: the widest bus tuple; 0 where it is refused. `sizes` has for each table how many
+// lookups, bytes of names and tuples it has.
+#[no_mangle]
+pub extern "C" fn delmatik_widths(
+    lookups: &[u32],
+    names: &[u8],
+    tuples: &[u32],
+    sizes: &[u32],
+    widest: &mut [u64; 1],
+    details: &mut [u64; 3],
+) -> u32
+    ensures { λ r. ⌜ record { number = r; details = now (details .exit); value = now (widest .exit) }
+        ≡ exported-widest (widths-answer cabinet (lent-bus-tables (now (lookups .entry)) (now (names .entry)) (now (tuples .entry)) (now (sizes .entry)))) ⌝ }
+{
+    let a = check_bus_widths(lookups, names, tuples, sizes);
+    write_value(widest_value(a), widest);
+    write_answer(widths_verdict(a), details)
+}

@@ -1,0 +1,49 @@
+-- Generation for a caller that holds bytes: what is answered, and what stands in the lent bytes and rooms afterwards, for every input.
+use Prim.Native.Nat.{ℕ}
+use mathlib.Core.Bool.{cond, _&&_}
+use mathlib.Core.List.{List, [], _∷_}
+use Rattle.field.specs.Modulus.{babybear, babybear-w}
+use Rattle.expression.specs.Limits.{cabinet}
+use Rattle.expression.specs.declared.refusal.Refusal.the-variants.{SizeAtOdds}
+use Rattle.lookup.specs.Table.{Table}
+use Rattle.logup.specs.Generation.{Answer, refused, Outcome, generation}
+use Rattle.delmatik_answers.specs.Generation.{generation-number, generation-details, generation-terminal}
+use Rattle.wire.specs.Wire.{words-of, bytes-of}
+use Rattle.wire.specs.Room.{fit, all-words}
+use Rattle.delmatik_bytes.specs.Bytes.{lookup-lists, decoded-table}
+
+pub record Generation : Type 0 where
+  pub number : ℕ
+  pub details : List ℕ
+  pub terminal : List ℕ
+  -- the bytes of the trace buffer
+  pub trace : List ℕ
+  -- the words in the two rooms
+  pub room : List ℕ
+  pub trace-room : List ℕ
+
+abbrev pub answered : Answer → List ℕ → List ℕ → List ℕ → Generation
+answered a trace room trace-room =
+    record {
+      number = generation-number a;
+      details = generation-details a;
+      terminal = generation-terminal a;
+      trace = trace;
+      room = room;
+      trace-room = trace-room;
+    }
+
+-- the lists in their room
+abbrev pub lists-of : Table → List ℕ → List (List ℕ)
+lists-of t challenges = t .traces .main ∷ t .traces .preprocessed ∷ t .traces .public-values ∷ t .nodes ∷ challenges ∷ lookup-lists (t .lookups)
+
+-- the outcome on words, its buffer as bytes
+abbrev pub in-bytes : Outcome → List ℕ → Generation
+in-bytes o room = answered (o .answer) (bytes-of (o .buffer)) room (o .buffer)
+
+-- refusal 1, and nothing is written, where bytes are not whole words or a room has another number of words
+unfoldable pub generation-on-bytes : Table → List ℕ → List ℕ → List ℕ → List ℕ → Generation
+generation-on-bytes t challenges trace room trace-room =
+    cond (fit (lists-of t challenges) room && fit (trace ∷ []) trace-room)
+    (in-bytes (generation cabinet babybear babybear-w (decoded-table t) (words-of challenges) (words-of trace)) (all-words (lists-of t challenges)))
+    (answered (refused SizeAtOdds) trace room trace-room)

@@ -1,0 +1,3 @@
+pub mod Balance
+pub mod Generate
+pub mod Pack

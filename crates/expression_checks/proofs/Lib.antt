@@ -1,0 +1,2 @@
+pub mod DegreesLoops
+pub mod Rest

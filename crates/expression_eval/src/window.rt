@@ -1,0 +1,64 @@
+// The two-row window on a trace: the current row and the next row, two parts of it that are lent.
+use expression::words::to_usize;
+ghost use mathlib.Core.Path.{_≡_};
+ghost use Prim.Native.Nat.{_+_, _*_, _<_, _≤_, _%_};
+ghost use lib.ListN.{length};
+ghost use Rattle.expression.specs.Words.{word};
+ghost use Rattle.expression.specs.Window.{row-of, two};
+
+// Row r of a trace, as the part of it that is lent.
+pub fn row_of(s: &[u32], width: usize, height: usize, r: usize) -> &[u32]
+    requires { ⌜ (r < height) × (width * height ≤ length (now s)) ⌝ }
+    ensures { λ t. ⌜ now t ≡ row-of (now (s .entry)) width r ⌝ }
+{
+    let start = r * width;
+    &s[start..start + width]
+}
+
+// The row after row r: row 0 after the last.
+pub fn next_row(r: usize, height: usize) -> usize
+    requires { ⌜ r < height ⌝ }
+    ensures { λ s. ⌜ (s < height) × (s ≡ (r + 1) % height) ⌝ }
+{
+    if r + 1 < height { r + 1 } else { 0 }
+}
+
+// The current row on top of the next.
+pub struct VerticalPair<'a> {
+    pub top: &'a [u32],
+    pub bottom: &'a [u32],
+}
+
+// Word a of the row at an offset, 0 the current row: the work, on two rows.
+pub fn at_offset<'a>(top: &'a [u32], bottom: &'a [u32], o: u32, a: u32) -> u32
+    requires { ⌜ (a < length (now top)) × (a < length (now bottom)) ⌝ }
+    ensures { λ r. ⌜ r ≡ word (two (now (top .entry)) (now (bottom .entry)) o) a ⌝ }
+{
+    if o == 0 {
+        top[to_usize(a)]
+    } else {
+        bottom[to_usize(a)]
+    }
+}
+
+pub fn from_two_rows<'a>(top: &'a [u32], bottom: &'a [u32]) -> VerticalPair<'a>
+    ensures { λ r. ⌜ (r .top ≡ top .entry) × (r .bottom ≡ bottom .entry) ⌝ }
+{
+    VerticalPair { top, bottom }
+}
+
+// The same of the window.
+pub fn shown<'a>(pair: VerticalPair<'a>, o: u32, a: u32) -> u32
+    requires { ⌜ (a < length (now (pair .top))) × (a < length (now (pair .bottom))) ⌝ }
+    ensures { λ r. ⌜ r ≡ word (two (now (pair .entry .top)) (now (pair .entry .bottom)) o) a ⌝ }
+{
+    at_offset(pair.top, pair.bottom, o, a)
+}
+
+// For callers that hold two rows: what their window shows.
+pub fn cell<'a>(top: &'a [u32], bottom: &'a [u32], o: u32, a: u32) -> u32
+    requires { ⌜ (a < length (now top)) × (a < length (now bottom)) ⌝ }
+    ensures { λ r. ⌜ r ≡ word (two (now (top .entry)) (now (bottom .entry)) o) a ⌝ }
+{
+    shown(from_two_rows(top, bottom), o, a)
+}

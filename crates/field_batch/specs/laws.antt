@@ -1,0 +1,3 @@
+pub mod Dot
+pub mod Joined
+pub mod Quotients

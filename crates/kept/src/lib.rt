@@ -1,1 +1,0 @@
-// What packing keeps of a table. No code: laws only.

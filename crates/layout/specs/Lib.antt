@@ -1,2 +1,0 @@
-pub mod Layout
-pub mod laws

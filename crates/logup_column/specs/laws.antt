@@ -1,0 +1,9 @@
+pub mod Powers
+pub mod Own
+pub mod Parts
+pub mod Terms
+pub mod Table
+pub mod Lookup
+pub mod Values
+pub mod Tested
+pub mod Refusals

@@ -1,0 +1,2 @@
+// Generation: the tests of the entry point around the rows of the permutation trace; and the row reader.
+pub mod generate_permutation;

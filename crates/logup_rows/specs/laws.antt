@@ -1,0 +1,4 @@
+pub mod Lengths
+pub mod Terms
+pub mod Sums
+pub mod Unnamed

@@ -1,0 +1,3 @@
+pub mod TermsLoops
+pub mod EvalRowLoops
+pub mod EvalRowsLoops

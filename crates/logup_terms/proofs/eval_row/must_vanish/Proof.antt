@@ -1,0 +1,15 @@
+use borrow.Author.Needs.{needs}
+use Rattle.logup_terms.proofs.eval_row.must_vanish.Statement.{statement}
+use Rattle.logup_terms.proofs.eval_row.must_vanish.Tie as tie
+
+is-zero-requires : tie.Need-is-zero-requires
+is-zero-requires c κs = search needs
+
+returns : tie.Need-returns
+returns c = rw (← (c .before .is-zero .ensures), c .if1 .taken)
+
+returns-2 : tie.Need-returns-2
+returns-2 c = rw (← (c .before .is-zero .ensures), c .if1 .left)
+
+pub must-vanish-spec : {M : Type 1} → statement M
+must-vanish-spec = tie.close (tie.spec is-zero-requires returns returns-2)

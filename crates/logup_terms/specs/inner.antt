@@ -1,0 +1,2 @@
+pub mod Constraint
+pub mod ConstraintRow

@@ -1,0 +1,103 @@
+-- The answers.
+use mathlib.Core.Path.{_≡_, refl, sym, ap, ap₂, _∙_}
+use mathlib.Core.Bool.{Bool, true, false, not}
+use mathlib.Core.Option.{Option, some}
+use mathlib.Core.List.{List, _++_}
+use Prim.Native.Nat.{ℕ, zero, suc, _+_, _*_, _-_, _≤_}
+use native.Mathlib.Omega.{arith}
+use lib.ListN.{length, take, drop, replicate, length-append}
+use lib.Seq.{take-at}
+use borrow.Author.Tests.{not-true, not-false}
+use Rattle.lists.specs.Count.{joined}
+use Rattle.expression.specs.Limits.{Sane, cabinet}
+use Rattle.expression.specs.Refusal.{refusal}
+use Rattle.expression.specs.laws.Tested.{cabinet-sane}
+use Rattle.expression.specs.declared.sizes.Limits.{Limits}
+use Rattle.expression.specs.declared.refusal.Refusal.{Refusal}
+use Rattle.expression.specs.declared.refusal.Refusal.the-variants.{SizeAtOdds}
+use Rattle.expression.specs.declared.refusal.Verdict.{Verdict}
+use Rattle.expression.specs.declared.refusal.Verdict.the-variants as verdict
+use Rattle.lookup.specs.Lookups.{Lookups, lent-lookups, lookup-count, tuple-start}
+use Rattle.lookup.specs.Refusals.{form-refusal}
+use Rattle.lookup.specs.declared.refusals.Columns.{Columns}
+use Rattle.lookup_degree.specs.Formed.{Formed}
+use Rattle.lookup_degree.specs.laws.Formed.{formed}
+use Rattle.lookup_builder.specs.Building.{interaction-count, built-words, built, locals-refusal}
+use Rattle.lookup_builder.specs.FromInteractions.{Interactions, building-fits, lookups-built, built-refusal, building-refusal, building}
+use Rattle.lookup_builder.specs.declared.answer.Kinds.{Kinds}
+use Rattle.lookup_builder.specs.declared.answer.BuildingAnswer.{BuildingAnswer}
+use Rattle.lookup_builder.specs.declared.answer.BuildingAnswer.the-variants.{Built, Refused}
+use Rattle.lookup_builder.specs.inner.Requires.{InteractionsSized}
+use Rattle.lookup_builder.proofs.Built.{words-eight}
+use Rattle.lookup_builder.proofs.Sizes.{sized}
+
+-- `words_verdict`
+module _ (m : Limits) (p : ℕ) (c : Columns) (nodes : List ℕ) (locals : ℕ) (l : Lookups) {v : Verdict} (g : refusal v ≡ form-refusal m p c nodes l) where
+  pub locals-asks : Sane m → locals ≤ lookup-count (l .lookups) → v ≡ verdict.Accepted
+      → (lookup-count (l .lookups) ≤ 64) × (locals ≤ lookup-count (l .lookups)) × (tuple-start (l .lookups) (lookup-count (l .lookups)) ≤ length (l .tuples))
+  locals-asks s h q =
+      let f : Formed m nodes l = formed m p c nodes l s (sym g ∙ ap refusal q) in
+      (f .few-lookups, h, omega (arith, f .fitting .tuples))
+
+  pub form-refused : {f : Refusal} → v ≡ verdict.Refused f → some f ≡ built-refusal m p c nodes locals l
+  unfolding built-refusal
+  form-refused q = rw (sym g ∙ ap refusal q) refl
+
+  pub locals-tested : {r : Option Refusal} → v ≡ verdict.Accepted → r ≡ locals-refusal locals (l .lookups) (l .tuples) → r ≡ built-refusal m p c nodes locals l
+  unfolding built-refusal
+  locals-tested q h = rw (sym g ∙ ap refusal q) h
+
+-- eight words for each lookup
+joined-eight : (f : ℕ → List ℕ) → ((i : ℕ) → length (f i) ≡ 8) → (n : ℕ) → length (joined f 0 n) ≡ 8 * n
+unfolding joined
+joined-eight f h zero = refl
+joined-eight f h (suc n) = length-append (joined f 0 n) (f (0 + n)) ∙ omega (arith, joined-eight f h n, h (0 + n))
+
+built-length : (k : Kinds) (interactions weights : List ℕ) → length (built k interactions weights) ≡ 8 * interaction-count k
+unfolding built
+built-length k interactions weights = joined-eight (built-words k interactions weights) (words-eight k interactions weights) (interaction-count k)
+
+-- `built_verdict`: the words that are lent on are those that are built
+pub built-tested : {n : ℕ} {b : List ℕ} {r : Option Refusal} (m : Limits) (p : ℕ) (c : Columns) (nodes : List ℕ) (k : Kinds) (g : Interactions) → n ≡ interaction-count k
+    → b ≡ built k (g .interactions) (g .weights) ++ drop (8 * interaction-count k) (replicate 512 0)
+    → r ≡ built-refusal m p c nodes (k .locals) (lent-lookups (take (8 * n - 0) (drop 0 b)) (g .names) (g .tuples) (g .multiplicities) (g .flags) (g .elements))
+    → r ≡ built-refusal m p c nodes (k .locals) (lookups-built k g)
+built-tested {n} {b} {r} m p c nodes k g q e h =
+    let words : List ℕ = built k (g .interactions) (g .weights) in
+    let z : 8 * n - 0 ≡ 8 * interaction-count k = omega arith in
+    let same : take (8 * n - 0) (drop 0 b) ≡ words =
+    ap₂ (λ (j : ℕ) (x : List ℕ). take j x) z e ∙ take-at words (drop (8 * interaction-count k) (replicate 512 0)) (8 * interaction-count k) (built-length k (g .interactions) (g .weights)) in
+    h ∙ ap (λ (x : List ℕ). built-refusal m p c nodes (k .locals) (lent-lookups x (g .names) (g .tuples) (g .multiplicities) (g .flags) (g .elements))) same
+
+-- `build_within`
+module _ (m : Limits) (p : ℕ) (c : Columns) (nodes : List ℕ) (k : Kinds) (g : Interactions) (lent : List ℕ) {b : Bool} (e : b ≡ building-fits m k (g .interactions) (g .weights) (g .tuples) (length lent)) where
+  pub size-refused : not b ≡ true → (Refused SizeAtOdds ≡ building m p c nodes k g lent .answer) × (lent ≡ building m p c nodes k g lent .lookups)
+  unfolding building building-refusal
+  size-refused z = rw (sym e ∙ not-true b z) (refl, refl)
+
+  pub fits-asks : Sane m → not b ≡ false → InteractionsSized k (g .interactions) (g .weights) × (8 * interaction-count k ≤ length lent)
+  fits-asks s z = sized m k (g .interactions) (g .weights) (g .tuples) (length lent) s (sym e ∙ not-false b z)
+
+  pub answer-refused : {v : Verdict} {f : Refusal} → not b ≡ false → refusal v ≡ built-refusal m p c nodes (k .locals) (lookups-built k g) → v ≡ verdict.Refused f
+      → (Refused f ≡ building m p c nodes k g lent .answer) × (lent ≡ building m p c nodes k g lent .lookups)
+  unfolding building building-refusal
+  answer-refused z h q = rw (sym e ∙ not-false b z, sym h ∙ ap refusal q) (refl, refl)
+
+  pub answer-built : {v : Verdict} {n : ℕ} {out : List ℕ} → not b ≡ false → refusal v ≡ built-refusal m p c nodes (k .locals) (lookups-built k g) → v ≡ verdict.Accepted → n ≡ interaction-count k
+      → out ≡ built k (g .interactions) (g .weights) ++ drop (8 * interaction-count k) lent
+      → (Built (8 * n) ≡ building m p c nodes k g lent .answer) × (out ≡ building m p c nodes k g lent .lookups)
+  unfolding building building-refusal
+  answer-built {v} {n} {out} z h q t o =
+      let words : List ℕ = built k (g .interactions) (g .weights) in
+      let w : 8 * interaction-count k ≡ length words = sym (built-length k (g .interactions) (g .weights)) in
+      rw (sym e ∙ not-false b z, sym h ∙ ap refusal q) (ap Built (ap (λ (x : ℕ). 8 * x) t ∙ w), o ∙ ap (λ (x : ℕ). words ++ drop x lent) w)
+
+-- the limits of SPECIFICATION, section 11
+pub cabinet-asks : {m : Limits} → m ≡ cabinet → Sane m
+cabinet-asks e = rw e cabinet-sane
+
+pub at-cabinet : {m : Limits} {a : BuildingAnswer} {out : List ℕ} (p : ℕ) (c : Columns) (nodes : List ℕ) (k : Kinds) (g : Interactions) (lent : List ℕ) → m ≡ cabinet
+    → (a ≡ building m p c nodes k g lent .answer) × (out ≡ building m p c nodes k g lent .lookups)
+    → (a ≡ building cabinet p c nodes k g lent .answer) × (out ≡ building cabinet p c nodes k g lent .lookups)
+at-cabinet p c nodes k g lent e h =
+    (h .0 ∙ ap (λ (x : Limits). building x p c nodes k g lent .answer) e, h .1 ∙ ap (λ (x : Limits). building x p c nodes k g lent .lookups) e)

@@ -1,0 +1,4 @@
+pub mod Building
+pub mod FromInteractions
+pub mod inner
+pub mod laws

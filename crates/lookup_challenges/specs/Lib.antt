@@ -1,0 +1,3 @@
+pub mod Prefixes
+pub mod inner
+pub mod laws

@@ -1,0 +1,56 @@
+-- What the prefixes' code relies on: a factor may be reduced before it is used, one element is its list, and what the tests leave.
+use mathlib.Core.Path.{_≡_, sym, ap, _∙_}
+use mathlib.Core.Bool.{Bool, true, false, not, _&&_}
+use mathlib.Core.Option.{Option}
+use mathlib.Core.List.{List, [], _∷_}
+use Prim.Native.Nat.{ℕ, _*_, _/_, _%_, _<_, _≤_}
+use native.Mathlib.Omega.{arith}
+use lib.Dec.{eqb, leb}
+use lib.ListN.{length}
+use borrow.Author.Tests.{eqb-true, leb-true, not-false}
+use Rattle.lists.specs.laws.Tests.{passed}
+use Rattle.algebra.specs.laws.Remainder.{mod-mul-mod}
+use Rattle.field.specs.Modulus.{Modulus}
+use Rattle.field.specs.Element.{at, Word4, scale4, element}
+use Rattle.field.specs.laws.Slice.{word-element}
+use Rattle.expression.specs.Words.{all-below}
+use Rattle.expression.specs.Requires.{Below}
+use Rattle.expression.specs.declared.sizes.Limits.{Limits}
+use Rattle.expression.specs.declared.refusal.Refusal.{Refusal}
+use Rattle.expression.specs.laws.Below.{below-tested}
+use Rattle.lookup_challenges.specs.Prefixes.{prefixes-fit, prefixes-refusal, prefixes-after, outcome, prefixes}
+use Rattle.lookup_challenges.specs.inner.Requires.{Writable}
+
+pub scale-reduced : (p z : ℕ) (a : List ℕ) → scale4 p (z % p) a ≡ scale4 p z a
+unfolding scale4
+scale-reduced p z a = rw (mod-mul-mod z (at a 0) p, mod-mul-mod z (at a 1) p, mod-mul-mod z (at a 2) p, mod-mul-mod z (at a 3) p)
+
+pub loaded : {p : ℕ} {l e : List ℕ} → Below p l → e ≡ element l 0 → Word4 p e
+loaded {p} {l} {e} b q = rw q (word-element l 0 (b .each))
+
+pub writable : {p : ℕ} {s a b : Bool} (m : Limits) (alpha beta : List ℕ) (width n : ℕ) (out : List ℕ) → 0 < p → m .«prefix_width» ≤ 4294967295 → m .prefixes ≤ 4294967295
+    → s ≡ prefixes-fit m alpha beta width n (length out / 4) → not s ≡ false → a ≡ all-below p alpha → b ≡ all-below p beta → not (a && b) ≡ false
+    → Writable p alpha beta width n out
+unfolding prefixes-fit
+writable {p} {s} {a} {b} m alpha beta width n out pos hk hm es hs ea eb h =
+    let t =
+    passed (eqb (length alpha) 4) (eqb (length beta) 4 ∷ leb width (m .«prefix_width») ∷ leb n (m .prefixes) ∷ leb n (length out / 4) ∷ []) (sym es ∙ not-false s hs) in
+    let u = passed a (b ∷ []) (not-false (a && b) h) in
+    record {
+      alpha-four = eqb-true (length alpha) 4 (t .0);
+      beta-four = eqb-true (length beta) 4 (t .1 .0);
+      alpha-below = below-tested alpha pos (sym ea ∙ u .0);
+      beta-below = below-tested beta pos (sym eb ∙ u .1 .0);
+      narrow = omega (arith, leb-true width (m .«prefix_width») (t .1 .1 .0));
+      few = omega (arith, leb-true n (m .prefixes) (t .1 .1 .1 .0));
+      room = omega (arith, leb-true n (length out / 4) (t .1 .1 .1 .1 .0));
+    }
+
+-- a refusal and the list that it leaves are the outcome
+pub outcome-is : {m k : Limits} {r : Option Refusal} {written : List ℕ} (p w : ℕ) (alpha beta : List ℕ) (width n : ℕ) (out : List ℕ) → m ≡ k
+    → (r ≡ prefixes-refusal m p alpha beta width n out) × (written ≡ prefixes-after r p w alpha beta width n out)
+    → record { refusal = r; out = written } ≡ prefixes k p w alpha beta width n out
+unfolding prefixes
+outcome-is {m} {k} {r} p w alpha beta width n out e (er, ew) =
+    (λ i. record { refusal = r; out = ew i })
+    ∙ ap (λ (x : Option Refusal). outcome x p w alpha beta width n out) (er ∙ ap (λ (x : Limits). prefixes-refusal x p alpha beta width n out) e)

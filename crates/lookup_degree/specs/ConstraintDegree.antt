@@ -1,0 +1,28 @@
+-- The degree of one lookup of a table: the answer for every input.
+use mathlib.Core.Bool.{_&&_}
+use mathlib.Core.Option.{Option, none, some}
+use mathlib.Core.List.{List}
+use Prim.Native.Nat.{ℕ}
+use lib.Dec.{leb, ltb}
+use Rattle.expression.specs.Refusal.{unless}
+use Rattle.expression.specs.declared.sizes.Limits.{Limits}
+use Rattle.expression.specs.declared.refusal.Refusal.{Refusal}
+use Rattle.expression.specs.declared.refusal.Refusal.the-variants.{SizeAtOdds}
+use Rattle.lookup.specs.Lookups.{Lookups, lookup-count, lookup-at}
+use Rattle.lookup.specs.Refusals.{form-refusal}
+use Rattle.lookup.specs.declared.refusals.Columns.{Columns}
+use Rattle.lookup_degree.specs.Degree.{node-degrees, lookup-degree}
+use Rattle.lookup_degree.specs.declared.constraint_degree.DegreeAnswer.{DegreeAnswer}
+use Rattle.lookup_degree.specs.declared.constraint_degree.DegreeAnswer.the-variants.{Degree, Refused}
+
+-- SPECIFICATION, section 6.1: "A lookup number past the list, or t above 1, is refusal 1."
+unfoldable pub degree-refusal : Limits → ℕ → Columns → List ℕ → Lookups → ℕ → ℕ → Option Refusal
+degree-refusal m p c nodes l i t = unless (leb t 1 && ltb i (lookup-count (l .lookups))) SizeAtOdds (form-refusal m p c nodes l)
+
+abbrev pub answered : Option Refusal → ℕ → DegreeAnswer
+answered none d = Degree d
+answered (some f) d = Refused f
+
+-- of lookup i at a transition degree t
+unfoldable pub degree-answer : Limits → ℕ → Columns → List ℕ → Lookups → ℕ → ℕ → DegreeAnswer
+degree-answer m p c nodes l i t = answered (degree-refusal m p c nodes l i t) (lookup-degree (node-degrees t nodes) (lookup-at l i))

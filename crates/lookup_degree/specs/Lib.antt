@@ -1,0 +1,6 @@
+pub mod Sums
+pub mod Degree
+pub mod Formed
+pub mod ConstraintDegree
+pub mod inner
+pub mod laws

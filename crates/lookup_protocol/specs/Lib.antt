@@ -1,0 +1,4 @@
+pub mod Terminals
+pub mod Height
+pub mod inner
+pub mod laws

@@ -1,0 +1,53 @@
+-- The worked case c12 of SPECIFICATION, section 12.1, and its examples of refusals 19 and 20, with some that show the readings, as one
+-- table with one theorem. An answer is its number and its three details.
+use mathlib.Core.List.{List, [], _∷_}
+use mathlib.Core.Option.{Option}
+use Prim.Native.Nat.{ℕ}
+use lib.Dec.{T}
+use Rattle.lists.specs.Count.{total, every}
+use Rattle.field.specs.Modulus.{babybear}
+use Rattle.field.specs.Element.{add4, is-zero}
+use Rattle.expression.specs.Limits.{cabinet}
+use Rattle.expression.specs.Words.{all-below, all-within}
+use Rattle.expression.specs.Refusal.{answer-number, answer-details}
+use Rattle.lists.specs.Same.{same-list}
+use Rattle.lists.specs.Cases.{Case, hold}
+use Rattle.expression.specs.declared.refusal.Refusal.{Refusal}
+use Rattle.lookup.specs.Lookups.{tuple-start}
+use Rattle.lookup.specs.Sizes.{size-start, table-part}
+use Rattle.lookup_protocol.specs.Terminals.{present, terminal, terminal-below, with-terminal, terminal-sum, terminals-refusal}
+use Rattle.lookup_protocol.specs.Height.{table-lookups, weight-sum, table-weight, height-sum, lookups-small, tables-within, tables-fit, height-refusal}
+
+abbrev pub answer : Option Refusal → List ℕ
+answer o = answer-number o ∷ answer-details o
+
+abbrev pub passes : List ℕ
+passes = 0 ∷ 0 ∷ 0 ∷ 0 ∷ []
+
+abbrev pub terminals : List ℕ → List ℕ
+terminals ts = answer (terminals-refusal cabinet babybear ts)
+
+-- one lookup of this weight on a bus without a name, in a table of this height
+abbrev pub weighing : ℕ → ℕ → List ℕ
+weighing w h = answer (height-refusal cabinet babybear (1 ∷ 0 ∷ w ∷ 0 ∷ 0 ∷ 0 ∷ 0 ∷ 0 ∷ []) (1 ∷ []) (h ∷ []))
+
+pub cases : List Case
+cases =
+    -- 20: terminals 1 and 1; 1 and -1 cancel, an absent one is skipped, whatever its words
+    record { computed = terminals (1 ∷ 1 ∷ 0 ∷ 0 ∷ 0 ∷ 1 ∷ 1 ∷ 0 ∷ 0 ∷ 0 ∷ []); expected = 20 ∷ 0 ∷ 0 ∷ 0 ∷ [] }
+    ∷ record { computed = terminals (1 ∷ 1 ∷ 0 ∷ 0 ∷ 0 ∷ 0 ∷ 1 ∷ 4294967295 ∷ 0 ∷ 0 ∷ 1 ∷ 2013265920 ∷ 0 ∷ 0 ∷ 0 ∷ []); expected = passes }
+    ∷ record { computed = terminals (1 ∷ 2013265921 ∷ 0 ∷ 0 ∷ 0 ∷ []); expected = 2 ∷ 0 ∷ 0 ∷ 0 ∷ [] }
+    ∷ record { computed = terminals []; expected = passes }
+    -- c12: weight 2013265920, height 1 passes
+    ∷ record { computed = weighing 2013265920 1; expected = passes }
+    -- 19: weight 2013265921, height 1
+    ∷ record { computed = weighing 2013265921 1; expected = 19 ∷ 2013265921 ∷ 0 ∷ 0 ∷ [] }
+    ∷ record { computed = weighing 0 1048577; expected = 1 ∷ 0 ∷ 0 ∷ 0 ∷ [] }
+    ∷ record { computed = answer (height-refusal cabinet babybear [] [] []); expected = passes }
+    ∷ record { computed = answer (height-refusal cabinet babybear [] [] (1 ∷ [])); expected = 1 ∷ 0 ∷ 0 ∷ 0 ∷ [] }
+    ∷ []
+
+-- each case computes to what SPECIFICATION says
+pub cases-hold : T (hold cases)
+unfolding cases cabinet total every all-below all-within add4 is-zero present terminal terminal-below with-terminal terminal-sum terminals-refusal tuple-start size-start table-part table-lookups weight-sum table-weight height-sum lookups-small tables-within tables-fit height-refusal same-list
+cases-hold = tt

@@ -1,2 +1,0 @@
-// The door of packing.
-pub mod door;

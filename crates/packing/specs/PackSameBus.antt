@@ -1,0 +1,85 @@
+-- Packing of one table: the answer, and the lent lists afterwards, for every input.
+use mathlib.Core.Bool.{Bool, not, _&&_}
+use mathlib.Core.Option.{Option, none, some}
+use mathlib.Core.List.{List}
+use Prim.Native.Nat.{ℕ}
+use lib.Dec.{leb}
+use lib.ListN.{length}
+use Rattle.lists.specs.Count.{or-else}
+use Rattle.expression.specs.Refusal.{unless}
+use Rattle.expression.specs.declared.sizes.Limits.{Limits}
+use Rattle.expression.specs.declared.refusal.Refusal.{Refusal}
+use Rattle.expression.specs.declared.refusal.Refusal.the-variants.{SizeAtOdds, WeightTooLarge}
+use Rattle.lookup.specs.Lookups.{Lookups, Lookup}
+use Rattle.lookup.specs.Refusals.{form-refusal}
+use Rattle.lookup.specs.declared.refusals.Columns.{Columns}
+use Rattle.lookup_degree.specs.Degree.{node-degrees}
+use Rattle.lookup_buses.specs.Widths.{Tables, widths-refusal}
+use Rattle.packing.specs.Packing.{packed, overweight}
+use Rattle.packing.specs.Written.{words-of, written}
+use Rattle.packing.specs.declared.answer.Counts.{Counts}
+use Rattle.packing.specs.declared.answer.PackingAnswer.{PackingAnswer}
+use Rattle.packing.specs.declared.answer.PackingAnswer.the-variants.{Packed, Refused}
+
+-- one table by itself
+abbrev pub single-table : Lookups → Tables
+single-table l = record { count = 1; table = λ t. l }
+
+-- refusal 1: no lent list is too small for what is written into it
+unfoldable pub holds : Lookups → Lookups → Bool
+holds lent w =
+    leb (length (w .lookups)) (length (lent .lookups))
+    && leb (length (w .names)) (length (lent .names))
+    && leb (length (w .tuples)) (length (lent .tuples))
+    && leb (length (w .multiplicities)) (length (lent .multiplicities))
+    && leb (length (w .flags)) (length (lent .flags))
+    && leb (length (w .elements)) (length (lent .elements))
+
+-- SPECIFICATION, section 6.2: degrees at t = 0
+unfoldable pub columns : ℕ → List ℕ → Lookups → List Lookup
+columns limit nodes l = packed (node-degrees 0 nodes) limit l
+
+-- Refusals 1 to 5; then, since the words to write are known now, 1 where a lent list is too small for them; 6; and 7 (SPECIFICATION,
+-- section 6.2).
+unfoldable pub packing-refusal : Limits → ℕ → ℕ → Columns → List ℕ → Lookups → Lookups → Option Refusal
+packing-refusal m p limit c nodes l lent =
+    or-else (form-refusal m p c nodes l)
+    (unless (holds lent (words-of (columns limit nodes l))) SizeAtOdds
+    (or-else (widths-refusal (single-table l))
+    (unless (not (overweight (columns limit nodes l))) WeightTooLarge none)))
+
+pub record Outcome : Type 0 where
+  pub answer : PackingAnswer
+  pub lists : Lookups
+
+abbrev pub counts : Lookups → Counts
+counts w =
+    record {
+      lookups = length (w .lookups);
+      names = length (w .names);
+      tuples = length (w .tuples);
+      multiplicities = length (w .multiplicities);
+      flags = length (w .flags);
+      elements = length (w .elements);
+    }
+
+-- words at the front of each lent list
+abbrev pub all-written : Lookups → Lookups → Lookups
+all-written w lent =
+    record {
+      lookups = written (w .lookups) (lent .lookups);
+      names = written (w .names) (lent .names);
+      tuples = written (w .tuples) (lent .tuples);
+      multiplicities = written (w .multiplicities) (lent .multiplicities);
+      flags = written (w .flags) (lent .flags);
+      elements = written (w .elements) (lent .elements);
+    }
+
+-- refusals 1 to 12 leave lent outputs as they were (SPECIFICATION, section 10.5)
+abbrev pub outcome : Option Refusal → Lookups → Lookups → Outcome
+outcome (some f) w lent = record { answer = Refused f; lists = lent }
+outcome none w lent = record { answer = Packed (counts w); lists = all-written w lent }
+
+-- the table's columns, nodes and lookups, and the lent lists
+unfoldable pub packing : Limits → ℕ → ℕ → Columns → List ℕ → Lookups → Lookups → Outcome
+packing m p limit c nodes l lent = outcome (packing-refusal m p limit c nodes l lent) (words-of (columns limit nodes l)) lent

@@ -1,0 +1,5 @@
+pub mod LookupListLoops
+pub mod ColumnsLoops
+pub mod PlanLoops
+pub mod LayoutLoops
+pub mod Refusals

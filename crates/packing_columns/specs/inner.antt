@@ -1,0 +1,5 @@
+pub mod LookupLists
+pub mod LookupListsRequires
+pub mod Columns
+pub mod ColumnsRequires
+pub mod Layout

@@ -1,0 +1,2 @@
+// Packing: the entry point.
+pub mod pack_same_bus;

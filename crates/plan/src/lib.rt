@@ -1,2 +1,0 @@
-// The plan of packing: which lookups share a column.
-pub mod columns;

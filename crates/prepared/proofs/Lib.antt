@@ -1,3 +1,0 @@
-pub mod Starting
-pub mod Tabling
-pub mod Entering

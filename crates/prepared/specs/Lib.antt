@@ -1,4 +1,0 @@
-pub mod Ready
-pub mod Entry
-pub mod Tested
-pub mod laws

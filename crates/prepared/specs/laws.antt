@@ -1,5 +1,0 @@
-pub mod Table
-pub mod Lookup
-pub mod Values
-pub mod Tested
-pub mod Entry

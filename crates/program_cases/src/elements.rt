@@ -1,0 +1,55 @@
+// The exported functions of elements and terminals.
+use crate::answer::Answer;
+use crate::answer::compared;
+use crate::spans;
+use crate::spans::holds;
+use crate::spans::list;
+use crate::spans::room;
+use crate::text::word;
+use delmatik::challenges::delmatik_prefixes;
+use delmatik::element::delmatik_power;
+use delmatik::protocol::delmatik_terminals;
+use expression::words::to_u64;
+
+pub fn terminals(line: &[u64; 8], words: &[u32], spans: &[usize; 64]) -> Answer {
+    let mut details = [0u64; 3];
+    let number = delmatik_terminals(list(words, spans, spans::GIVEN), &mut details);
+    compared(number, &details, line, true)
+}
+
+pub fn prefixes(line: &[u64; 8], words: &[u32], spans: &[usize; 64]) -> Answer {
+    let mut buffer = [7u32; 32768];
+    let mut details = [0u64; 3];
+    let pair = list(words, spans, spans::ELEMENT);
+    let expected = list(words, spans, spans::WRITTEN);
+    let n = room(expected);
+    let number = delmatik_prefixes(
+        spans::front(pair),
+        spans::back(pair),
+        line[4] as usize,
+        line[5] as usize,
+        &mut buffer[0..n],
+        &mut details,
+    );
+    compared(number, &details, line, holds(&buffer, expected))
+}
+
+// A power has no details: its line gives the number and the exponent.
+pub fn power(line: &[u64; 8], words: &[u32], spans: &[usize; 64]) -> Answer {
+    let mut buffer = [7u32; 32768];
+    let expected = list(words, spans, spans::RESULT);
+    let end = room(expected);
+    let number = delmatik_power(
+        list(words, spans, spans::ELEMENT),
+        word(line[1]),
+        &mut buffer[0..end],
+    );
+    let n = to_u64(number);
+    Answer {
+        number: n,
+        first: 0,
+        second: 0,
+        third: 0,
+        same: holds(&buffer, expected) & (n == line[0]),
+    }
+}

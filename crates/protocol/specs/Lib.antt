@@ -1,3 +1,0 @@
-pub mod Terminals
-pub mod Height
-pub mod laws

@@ -1,3 +1,0 @@
-pub mod Sharing
-pub mod Lining
-pub mod Zeroing

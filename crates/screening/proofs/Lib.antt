@@ -1,2 +1,0 @@
-pub mod Rating
-pub mod Rest

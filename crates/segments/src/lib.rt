@@ -1,2 +1,0 @@
-// The parts of a table's lists that belong to its lookups.
-pub mod writing;

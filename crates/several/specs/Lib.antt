@@ -1,3 +1,0 @@
-pub mod Lowest
-pub mod Spans
-pub mod laws

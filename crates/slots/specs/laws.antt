@@ -1,4 +1,0 @@
-pub mod Nets
-pub mod Entering
-pub mod Naming
-pub mod Room

@@ -1,5 +1,0 @@
-pub mod Demand3
-pub mod Lawful
-pub mod Paper
-pub mod Vanishing
-pub mod laws

@@ -1,2 +1,0 @@
-pub mod Constraint
-pub mod laws

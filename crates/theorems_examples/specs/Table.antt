@@ -1,0 +1,90 @@
+-- The worked cases c1 to c12 of SPECIFICATION, section 12.1: what the definitions give, beside the numbers that it names.
+use Prim.Native.Nat.{ℕ}
+use mathlib.Core.List.{List, [], _∷_, _++_, map}
+use lib.ListN.{length, replicate}
+use Rattle.lists.specs.Count.{joined}
+use Rattle.lists.specs.Cases.{Case}
+use Rattle.field.specs.Element.{lift, mul4}
+use Rattle.field.specs.Modulus.{babybear, babybear-w}
+use Rattle.expression.specs.Limits.{cabinet}
+use Rattle.expression.specs.Refusal.{answer-number, answer-details}
+use Rattle.lookup.specs.Lookups.{Lookups, Lookup, lookup-at}
+use Rattle.lookup_degree.specs.Degree.{node-degrees, lookup-degree}
+use Rattle.packing.specs.PackSameBus.{columns}
+use Rattle.lookup_challenges.specs.Prefixes.{prefix}
+use Rattle.lookup_protocol.specs.Height.{height-refusal}
+use Rattle.logup.specs.Tuple.{combine}
+use Rattle.logup.specs.laws.Cases.{additive, branching, generated, five, plain}
+
+-- one node: a column, of degree 1
+abbrev pub one-node : List ℕ
+one-node = 1 ∷ 0 ∷ 0 ∷ []
+
+-- a lookup of n tuples of that node, counted by it, on the bus "b"; exclusive ones have as many flags
+abbrev pub lookup-of : ℕ → ℕ → ℕ → Lookups
+lookup-of exclusive n flags =
+    record {
+      lookups = 1 ∷ 1 ∷ 1 ∷ 0 ∷ exclusive ∷ n ∷ n ∷ flags ∷ [];
+      names = 98 ∷ [];
+      tuples = replicate n 1;
+      multiplicities = replicate n 0;
+      flags = replicate flags 0;
+      elements = replicate n 0;
+    }
+
+abbrev pub degree-of : Lookups → List ℕ
+degree-of l = lookup-degree (node-degrees 0 one-node) (lookup-at l 0) ∷ []
+
+-- five lookups of one such tuple each
+abbrev pub five-singles : Lookups
+five-singles =
+    record {
+      lookups = joined (λ i. 1 ∷ 1 ∷ 1 ∷ i ∷ 0 ∷ 1 ∷ 1 ∷ 0 ∷ []) 0 5;
+      names = replicate 5 98;
+      tuples = replicate 5 1;
+      multiplicities = replicate 5 0;
+      flags = [];
+      elements = replicate 5 0;
+    }
+
+-- how many tuples each column has
+abbrev pub column-sizes : ℕ → List ℕ
+column-sizes limit = map (λ (l : Lookup). length (l .tuples)) (columns limit one-node five-singles)
+
+-- one lookup of this weight, in a table of this height
+abbrev pub bound-of : ℕ → ℕ → List ℕ
+bound-of weight height =
+    let r = height-refusal cabinet babybear (1 ∷ 0 ∷ weight ∷ 0 ∷ 0 ∷ 0 ∷ 0 ∷ 0 ∷ []) (1 ∷ []) (height ∷ []) in
+    answer-number r ∷ answer-details r
+
+abbrev pub cases : List Case
+cases =
+    -- c1: (3, 7) with beta 10 combines to 37
+    record { computed = combine babybear babybear-w (lift 10) (3 ∷ 7 ∷ []); expected = lift 37 }
+    -- c2: the empty tuple, 0
+    ∷ record { computed = combine babybear babybear-w (lift 10) []; expected = lift 0 }
+    -- c3: X³ × X = 11
+    ∷ record { computed = mul4 babybear babybear-w (0 ∷ 0 ∷ 0 ∷ 1 ∷ []) (0 ∷ 1 ∷ 0 ∷ 0 ∷ []); expected = lift 11 }
+    -- c4: rows 3, 4 with multiplicity 1, alpha 5: fractions 1006632961 and 1, terminal 1006632962
+    ∷ record {
+      computed = generated (additive 1 (3 ∷ 4 ∷ [])) five (replicate 16 7);
+      expected = 0 ∷ 0 ∷ 0 ∷ 0 ∷ lift 1006632962 ++ lift 0 ++ lift 1006632961 ++ lift 1006632961 ++ lift 1;
+    }
+    -- c5: additive (3), multiplicity 0, alpha 3: fraction 0
+    ∷ record { computed = generated (additive 0 (3 ∷ [])) (lift 3 ++ lift 0) (replicate 8 7); expected = replicate 16 0 }
+    -- c6: the same in a chosen branch, 15
+    ∷ record { computed = generated (branching 1 0 1 (3 ∷ [])) (lift 3 ++ lift 0) (replicate 8 7); expected = plain 15 (replicate 8 0) }
+    -- c7: all flags 0, fraction 0
+    ∷ record { computed = generated (branching 2 1 0 (3 ∷ [])) (lift 3 ++ lift 0) (replicate 8 7); expected = replicate 16 0 }
+    -- c8: two additive tuples, all of degree 1: degree 3
+    ∷ record { computed = degree-of (lookup-of 0 2 0); expected = 3 ∷ [] }
+    -- c9: four exclusive branches likewise, 3
+    ∷ record { computed = degree-of (lookup-of 1 4 4); expected = 3 ∷ [] }
+    -- c10: five one-tuple additive lookups of degree 1 on one bus, limit 3: columns of 2, 2, 1; limit 0: five
+    ∷ record { computed = column-sizes 3; expected = 2 ∷ 2 ∷ 1 ∷ [] }
+    ∷ record { computed = column-sizes 0; expected = 1 ∷ 1 ∷ 1 ∷ 1 ∷ 1 ∷ [] }
+    -- c11: alpha 1, beta 2, W 3: 9, 17
+    ∷ record { computed = joined (prefix babybear babybear-w (lift 1) (lift 2) 3) 0 2; expected = lift 9 ++ lift 17 }
+    -- c12: weight 2013265920, height 1: passes
+    ∷ record { computed = bound-of 2013265920 1; expected = 0 ∷ 0 ∷ 0 ∷ 0 ∷ [] }
+    ∷ []

@@ -1,0 +1,4 @@
+pub mod Packed
+pub mod Same
+pub mod inner
+pub mod laws

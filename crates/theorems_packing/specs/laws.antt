@@ -1,0 +1,6 @@
+pub mod Back
+pub mod Entries
+pub mod Ledger
+pub mod Groups
+pub mod Same
+pub mod Packed

@@ -1,0 +1,208 @@
+-- The words of a list of lookups, read back.
+use mathlib.Core.Path.{_≡_, refl, sym, ap, ap₂, _∙_}
+use mathlib.Core.Bool.{Bool, true, false, cond, not}
+use mathlib.Core.List.{List, [], _∷_, _++_, append-assoc, append-nil, map, flatMap}
+use Prim.Native.Nat.{ℕ, suc, _+_, _*_, _/_, _<_, _≤_}
+use native.Mathlib.Nat.{zero-add}
+use native.Mathlib.Omega.{arith}
+use lib.Dec.{eqb}
+use lib.ListN.{length, take, drop, getD, length-append, length-map}
+use lib.Seq.{getD-append-add, drop-append-add, take-at, drop-at}
+use Rattle.lists.specs.Count.{total}
+use Rattle.lists.specs.Tab.{tab}
+use Rattle.lists.specs.laws.Tab.{tab-none, tab-cons, tab-cong}
+use Rattle.lists.specs.laws.Sums.{total-head}
+use Rattle.expression.specs.Words.{word}
+use Rattle.expression.specs.Values.{bit}
+use Rattle.lookup.specs.Lookups.{Lookups, Lookup, lookup-count, lookup-word, on-bus, name-length, exclusive, tuple-count, multiplicity-count, flag-count, name-start, tuple-start, multiplicity-start, flag-start, element-start, tuple-width, tuple-nodes, lookup-at, lookups-of}
+use Rattle.packing.specs.Written.{lookup-words, words-of}
+
+-- every lookup has the property
+abbrev pub Each : (Lookup → Type 0) → List Lookup → Type 0
+Each P [] = Unit
+Each P (x ∷ xs) = P x × Each P xs
+
+-- a local has no name
+abbrev pub Unnamed : Lookup → Type 0
+Unnamed x = x .local ≡ true → x .name ≡ []
+
+-- a list of sizes with one more in front
+total-shift : (f g : ℕ → ℕ) (a n : ℕ) → f 0 ≡ a → ((k : ℕ) → f (suc k) ≡ g k) → total f (suc n) ≡ a + total g n
+total-shift f g a n e h = total-head f n ∙ ap₂ _+_ e (ap (λ (q : ℕ → ℕ). total q n) (λ j k. h k j))
+
+-- one tuple more in front: the widths, and where the elements begin
+widths-cons : (t : List ℕ) (ws : List ℕ) (k : ℕ) → element-start (length t ∷ ws) (suc k) ≡ length t + element-start ws k
+unfolding element-start
+widths-cons t ws k = total-shift (word (length t ∷ ws)) (word ws) (length t) k refl (λ j. refl)
+
+-- the tuples from their widths and elements, whatever follows
+tuples-back : (ts : List (List ℕ)) (ws es : List ℕ)
+    → tab (λ k. take (word (map (λ (t : List ℕ). length t) ts ++ ws) k) (drop (element-start (map (λ (t : List ℕ). length t) ts ++ ws) k) (flatMap (λ (t : List ℕ). t) ts ++ es))) 0 (length ts) ≡ ts
+unfolding flatMap
+tuples-back [] ws es = tab-none (λ k. take (word ws k) (drop (element-start ws k) es)) 0
+tuples-back (t ∷ ts) ws es = tab-cons F (length ts) ∙ ap₂ (λ (x : List ℕ) (y : List (List ℕ)). x ∷ y) first (tab-cong (λ k. F (suc k)) G (length ts) (λ k _. later k) ∙ tuples-back ts ws es)
+  where
+    W : List ℕ
+    W = map (λ (t : List ℕ). length t) ts ++ ws
+
+    E : List ℕ
+    E = flatMap (λ (t : List ℕ). t) ts ++ es
+
+    F : ℕ → List ℕ
+    F k = take (word (length t ∷ W) k) (drop (element-start (length t ∷ W) k) ((t ++ flatMap (λ (t : List ℕ). t) ts) ++ es))
+
+    G : ℕ → List ℕ
+    G k = take (word W k) (drop (element-start W k) E)
+
+    first : F 0 ≡ t
+    first = unfold element-start in unfold total in (ap (take (length t)) (append-assoc t (flatMap (λ (t : List ℕ). t) ts) es) ∙ take-at t E (length t) refl)
+
+    later : (k : ℕ) → F (suc k) ≡ G k
+    later k =
+        ap₂ (λ (n : ℕ) (x : List ℕ). take (word W k) (drop n x)) (widths-cons t W k) (append-assoc t (flatMap (λ (t : List ℕ). t) ts) es)
+        ∙ ap (take (word W k)) (drop-append-add t E (element-start W k))
+
+-- a table with one lookup more in front
+abbrev prepend : Lookup → Lookups → Lookups
+prepend c l =
+    record {
+      lookups = lookup-words c ++ l .lookups;
+      names = c .name ++ l .names;
+      tuples = map (λ (t : List ℕ). length t) (c .tuples) ++ l .tuples;
+      multiplicities = c .multiplicities ++ l .multiplicities;
+      flags = c .flags ++ l .flags;
+      elements = flatMap (λ (t : List ℕ). t) (c .tuples) ++ l .elements;
+    }
+
+-- all widths of some tuples are all their elements
+widths-sum : (ts : List (List ℕ)) (ws : List ℕ) (k : ℕ) → element-start (map (λ (t : List ℕ). length t) ts ++ ws) (length ts + k) ≡ length (flatMap (λ (t : List ℕ). t) ts) + element-start ws k
+unfolding flatMap
+widths-sum [] ws k = ap (element-start ws) (zero-add k) ∙ sym (zero-add (element-start ws k))
+widths-sum (t ∷ ts) ws k =
+    let z : suc (length ts) + k ≡ suc (length ts + k) = omega arith in
+    let W : List ℕ = map (λ (t : List ℕ). length t) ts ++ ws in
+    ap (element-start (length t ∷ W)) z ∙ widths-cons t W (length ts + k)
+    ∙ (let e : length t + element-start W (length ts + k) ≡ length (t ++ flatMap (λ (t : List ℕ). t) ts) + element-start ws k = omega (arith, widths-sum ts ws k, length-append t (flatMap (λ (t : List ℕ). t) ts)) in e)
+
+module _ (c : Lookup) (un : Unnamed c) (l : Lookups) where
+  abbrev L : Lookups
+  L = prepend c l
+
+  entry-later : (k f : ℕ) → lookup-word (lookup-words c ++ l .lookups) (suc k) f ≡ lookup-word (l .lookups) k f
+  unfolding lookup-words
+  entry-later k f =
+      let z : 8 * suc k + f ≡ 8 + (8 * k + f) = omega arith in
+      ap (λ (n : ℕ). word (lookup-words c ++ l .lookups) n) z ∙ getD-append-add (lookup-words c) (l .lookups) (8 * k + f) 0
+
+  name-later : (k : ℕ) → name-length (lookup-words c ++ l .lookups) (suc k) ≡ name-length (l .lookups) k
+  name-later k = ap₂ (λ (s n : ℕ). cond (not (eqb s 0)) n 0) (entry-later k 0) (entry-later k 1)
+
+  name-first : name-length (lookup-words c ++ l .lookups) 0 ≡ length (c .name)
+  unfolding lookup-words
+  name-first = go (c .local) refl
+    where
+      go : (b : Bool) → c .local ≡ b → cond (not (eqb (bit (not b)) 0)) (length (c .name)) 0 ≡ length (c .name)
+      go true e = sym (ap length (un e))
+      go false e = refl
+
+  names-start : (k : ℕ) → name-start (lookup-words c ++ l .lookups) (suc k) ≡ length (c .name) + name-start (l .lookups) k
+  unfolding name-start
+  names-start k = total-shift (name-length (lookup-words c ++ l .lookups)) (name-length (l .lookups)) (length (c .name)) k name-first name-later
+
+  tuples-start : (k : ℕ) → tuple-start (lookup-words c ++ l .lookups) (suc k) ≡ length (c .tuples) + tuple-start (l .lookups) k
+  unfolding tuple-start
+  tuples-start k = total-shift (tuple-count (lookup-words c ++ l .lookups)) (tuple-count (l .lookups)) (length (c .tuples)) k (unfold lookup-words in refl) (λ j. entry-later j 5)
+
+  multiplicities-start : (k : ℕ) → multiplicity-start (lookup-words c ++ l .lookups) (suc k) ≡ length (c .multiplicities) + multiplicity-start (l .lookups) k
+  unfolding multiplicity-start
+  multiplicities-start k = total-shift (multiplicity-count (lookup-words c ++ l .lookups)) (multiplicity-count (l .lookups)) (length (c .multiplicities)) k (unfold lookup-words in refl) (λ j. entry-later j 6)
+
+  flags-start : (k : ℕ) → flag-start (lookup-words c ++ l .lookups) (suc k) ≡ length (c .flags) + flag-start (l .lookups) k
+  unfolding flag-start
+  flags-start k = total-shift (flag-count (lookup-words c ++ l .lookups)) (flag-count (l .lookups)) (length (c .flags)) k (unfold lookup-words in refl) (λ j. entry-later j 7)
+
+  -- a part of a list with one part more in front
+  part-later : (xs ys : List ℕ) (n m s t : ℕ) → n ≡ m → s ≡ length xs + t → take n (drop s (xs ++ ys)) ≡ take m (drop t ys)
+  part-later xs ys n m s t e g = ap₂ (λ (a b : ℕ). take a (drop b (xs ++ ys))) e g ∙ ap (take m) (drop-append-add xs ys t)
+
+  nodes-later : (k j : ℕ) → tuple-nodes (prepend c l) (suc k) j ≡ tuple-nodes l k j
+  unfolding tuple-nodes tuple-width
+  nodes-later k j =
+      let ws : List ℕ = map (λ (t : List ℕ). length t) (c .tuples) in
+      let T : ℕ = tuple-start (l .lookups) k in
+      let z : tuple-start (lookup-words c ++ l .lookups) (suc k) + j ≡ length (c .tuples) + (T + j) = omega (arith, tuples-start k) in
+      let y : length (c .tuples) + (T + j) ≡ length ws + (T + j) = ap (λ (n : ℕ). n + (T + j)) (sym (length-map (c .tuples) (λ (t : List ℕ). length t))) in
+      part-later (flatMap (λ (t : List ℕ). t) (c .tuples)) (l .elements)
+      (word (ws ++ l .tuples) (tuple-start (lookup-words c ++ l .lookups) (suc k) + j)) (word (l .tuples) (T + j))
+      (element-start (ws ++ l .tuples) (tuple-start (lookup-words c ++ l .lookups) (suc k) + j)) (element-start (l .tuples) (T + j))
+      (ap (word (ws ++ l .tuples)) (z ∙ y) ∙ getD-append-add ws (l .tuples) (T + j) 0)
+      (ap (element-start (ws ++ l .tuples)) z ∙ widths-sum (c .tuples) (l .tuples) (T + j))
+
+  pub later : (k : ℕ) → lookup-at (prepend c l) (suc k) ≡ lookup-at l k
+  unfolding lookup-at
+  later k =
+      let on = entry-later k 0 in
+      let we = entry-later k 2 in
+      let co = entry-later k 3 in
+      let ex = entry-later k 4 in
+      let na = part-later (c .name) (l .names) _ _ _ _ (name-later k) (names-start k) in
+      let mu = part-later (c .multiplicities) (l .multiplicities) _ _ _ _ (entry-later k 6) (multiplicities-start k) in
+      let fl = part-later (c .flags) (l .flags) _ _ _ _ (entry-later k 7) (flags-start k) in
+      let tu = tab-cong (tuple-nodes (prepend c l) (suc k)) (tuple-nodes l k) (tuple-count (lookup-words c ++ l .lookups) (suc k)) (λ j _. nodes-later k j) ∙ ap (λ (n : ℕ). tab (tuple-nodes l k) 0 n) (entry-later k 5) in
+      λ j. record {
+        local = not (not (eqb (on j) 0));
+        name = na j;
+        weight = we j;
+        column = co j;
+        exclusive = not (eqb (ex j) 0);
+        tuples = tu j;
+        multiplicities = mu j;
+        flags = fl j;
+      }
+
+  mark-back : (b : Bool) → not (not (eqb (bit (not b)) 0)) ≡ b
+  mark-back true = refl
+  mark-back false = refl
+
+  flag-back : (b : Bool) → not (eqb (bit b) 0) ≡ b
+  flag-back true = refl
+  flag-back false = refl
+
+  pub now : lookup-at (prepend c l) 0 ≡ c
+  unfolding lookup-at lookup-words name-start multiplicity-start flag-start total tuple-nodes tuple-width tuple-start
+  now =
+      let lo = mark-back (c .local) in
+      let ex = flag-back (c .exclusive) in
+      let na = ap (λ (n : ℕ). take n (c .name ++ l .names)) name-first ∙ take-at (c .name) (l .names) (length (c .name)) refl in
+      let mu = take-at (c .multiplicities) (l .multiplicities) (length (c .multiplicities)) refl in
+      let fl = take-at (c .flags) (l .flags) (length (c .flags)) refl in
+      let tu = tab-cong (tuple-nodes (prepend c l) 0) (λ k. take (word (map (λ (t : List ℕ). length t) (c .tuples) ++ l .tuples) k) (drop (element-start (map (λ (t : List ℕ). length t) (c .tuples) ++ l .tuples) k) (flatMap (λ (t : List ℕ). t) (c .tuples) ++ l .elements)))
+      (length (c .tuples)) (λ k _. ap (λ (n : ℕ). take (word (map (λ (t : List ℕ). length t) (c .tuples) ++ l .tuples) n) (drop (element-start (map (λ (t : List ℕ). length t) (c .tuples) ++ l .tuples) n) (flatMap (λ (t : List ℕ). t) (c .tuples) ++ l .elements))) (zero-add k))
+      ∙ tuples-back (c .tuples) (l .tuples) (l .elements) in
+      λ j. record {
+        local = lo j;
+        name = na j;
+        weight = c .weight;
+        column = c .column;
+        exclusive = ex j;
+        tuples = tu j;
+        multiplicities = mu j;
+        flags = fl j;
+      }
+
+-- the lookups that the words of a list of lookups say are that list
+words-long : (cs : List Lookup) → length (words-of cs .lookups) ≡ 8 * length cs
+unfolding words-of flatMap lookup-words
+words-long [] = refl
+words-long (c ∷ cs) = omega (arith, words-long cs)
+
+back : (cs : List Lookup) → Each Unnamed cs → tab (lookup-at (words-of cs)) 0 (length cs) ≡ cs
+unfolding words-of flatMap
+back [] u = tab-none (lookup-at (words-of [])) 0
+back (c ∷ cs) u =
+    tab-cons (lookup-at (words-of (c ∷ cs))) (length cs)
+    ∙ ap₂ (λ (x : Lookup) (y : List Lookup). x ∷ y) (now c (u .0) (words-of cs)) (tab-cong (λ k. lookup-at (words-of (c ∷ cs)) (suc k)) (lookup-at (words-of cs)) (length cs) (λ k _. later c (u .0) (words-of cs) k) ∙ back cs (u .1))
+
+pub read-back : (cs : List Lookup) → Each Unnamed cs → lookups-of (words-of cs) ≡ cs
+unfolding lookups-of
+read-back cs u = ap (λ (n : ℕ). tab (lookup-at (words-of cs)) 0 n) (let e : lookup-count (words-of cs .lookups) ≡ length cs = omega (arith, words-long cs) in e) ∙ back cs u

@@ -1,0 +1,5 @@
+pub mod Soundness
+pub mod Lawful
+pub mod Paper
+pub mod Vanishing
+pub mod laws

@@ -1,0 +1,189 @@
+-- The theorem of SPECIFICATION, section 9.3, is not empty: any two tables with ledgers and lawful flags have a full set at each pair of
+-- which generation accepts both, if the field is large enough; the cabinet's is, for all tables within its limits.
+use mathlib.Core.Path.{_≡_, refl, sym, ap, ap₂, _∙_, subst}
+use mathlib.Core.Logic.{⊎-elim}
+use mathlib.Core.Bool.{Bool, true, false, cond, _||_}
+use mathlib.Core.List.{List, [], _∷_, _++_, map, List-discrete, List·Memᴰ, List·Memᴰ·not-nil, List·Memᴰ·cases-cons, Memᴰ·append-left, Memᴰ·append-right, Memᴰ·map}
+use Prim.Native.Nat.{ℕ, zero, suc, _+_, _*_, _-_, _/_, _%_, _<_, _≤_}
+use native.Mathlib.Omega.{arith}
+use native.Mathlib.Decide.{ℕ-discrete}
+use native.Mathlib.Nat.{le-refl, mod-lt, div-add-mod, div-lt-iff-lt-mul, mul-le-mul, zero-add}
+use lib.Dec.{T, eqb, eqb→eq, leb→le}
+use lib.ListN.{length, take, length-append, length-map}
+use lib.Seq.{length-take-le}
+use Rattle.lists.specs.Count.{total, joined}
+use Rattle.lists.specs.laws.Count.{and-left, and-right}
+use Rattle.lists.specs.laws.Joined.{joined-length}
+use Rattle.field.specs.Element.{at}
+use Rattle.field.specs.Modulus.{Certificate, babybear, babybear-w}
+use Rattle.field.specs.laws.Extension.{h, babybear-certificate}
+use Rattle.theorems_logup.specs.Distinct.{Distinct}
+use Rattle.theorems_logup.specs.Sets.{Pairing}
+use Rattle.theorems_logup.specs.laws.Exists.{pairings, take-member, take-distinct}
+use Rattle.expression.specs.Limits.{cabinet}
+use Rattle.expression.specs.Tests.{traces-within}
+use Rattle.expression.specs.Values.{row-values}
+use Rattle.expression.specs.declared.sizes.Limits.{Limits}
+use Rattle.lookup.specs.Lookups.{lookup-count, tuple-count, tuple-start}
+use Rattle.lookup.specs.Table.{Table}
+use Rattle.lookup.specs.Tests.{lookups-within, lookups-fit, sizes}
+use Rattle.logup.specs.Tuple.{combine}
+use Rattle.logup.specs.Rows.{used}
+use Rattle.logup.specs.Generation.{accepts}
+use Rattle.logup.specs.Ledger.{has-ledger, Entry, Element, entry, lookup-entries, row-entries, entries, met, listed, tuples-met}
+use Rattle.theorems_soundness.specs.Soundness.{FullSet, answer-at, AtEachPair}
+use Rattle.theorems_soundness.specs.Lawful.{LawfulFlags}
+use Rattle.theorems_soundness.specs.laws.Accepts.{accepts-at}
+
+-- as many elements as are asked for: two words of each, the other two 0
+module _ (p : ℕ) (pos : 0 < p) where
+  abbrev point : ℕ → List ℕ
+  point k = (k % p) ∷ (k / p) ∷ 0 ∷ 0 ∷ []
+
+  point-injective : (j k : ℕ) → point j ≡ point k → j ≡ k
+  point-injective j k e =
+      sym (div-add-mod j p) ∙ ap₂ (λ (a b : ℕ). p * a + b) (ap (λ (l : List ℕ). at l 1) e) (ap (λ (l : List ℕ). at l 0) e) ∙ div-add-mod k p
+
+  point-element : (k : ℕ) → k < p * p → Element p (point k)
+  point-element k l =
+      record { four = refl; below = record { w0 = mod-lt k pos; w1 = div-lt-iff-lt-mul {k = p} {x = k} {y = p} pos .1 l; w2 = pos; w3 = pos } }
+
+  points : ℕ → List (List ℕ)
+  points zero = []
+  points (suc n) = point n ∷ points n
+
+  points-length : (n : ℕ) → length (points n) ≡ n
+  unfolding points
+  points-length zero = refl
+  points-length (suc n) = ap suc (points-length n)
+
+  points-member : (n : ℕ) (x : List ℕ) → List·Memᴰ x (points n) → (k : ℕ) × (k < n) × (x ≡ point k)
+  unfolding points
+  points-member zero x m = absurd (List·Memᴰ·not-nil m)
+  points-member (suc n) x m =
+      ⊎-elim (λ e. (n, le-refl (suc n), e)) (λ q. let (k, l, e) = points-member n x q in (k, omega arith, e)) (List·Memᴰ·cases-cons m)
+
+  points-distinct : (n : ℕ) → Distinct (points n)
+  unfolding points
+  points-distinct zero = tt
+  points-distinct (suc n) = (
+    λ y m e. let (k, l, q) = points-member n y m in let same : n ≡ k = point-injective n k (e ∙ q) in omega arith,
+    points-distinct n,
+  )
+
+  points-element : (n : ℕ) → n ≤ p * p → (x : List ℕ) → List·Memᴰ x (points n) → Element p x
+  points-element n l x m = let (k, q, e) = points-member n x m in subst (Element p) (sym e) (point-element k (omega arith))
+
+module _ (m : Limits) (p w : ℕ) (C : Certificate p w) (t₁ t₂ : Table) (width : ℕ) (buffers₁ buffers₂ : List ℕ → List ℕ → List ℕ)
+    (ok₁ : T (has-ledger m p t₁)) (ok₂ : T (has-ledger m p t₂)) (flags₁ : LawfulFlags p t₁) (flags₂ : LawfulFlags p t₂)
+    (room₁ : (a b : List ℕ) → used (t₁ .lookups .lookups) (t₁ .traces .shape .height) ≤ length (buffers₁ a b))
+    (room₂ : (a b : List ℕ) → used (t₂ .lookups .lookups) (t₂ .traces .shape .height) ≤ length (buffers₂ a b)) where
+  abbrev all : List Entry
+  all = entries p t₁ ++ entries p t₂
+
+  abbrev n : ℕ
+  n = tuples-met p t₁ t₂
+
+  abbrev betas : ℕ
+  betas = 1 + (width - 1) * n * (n - 1) / 2
+
+  -- what the alphas must not be
+  abbrev avoid : List ℕ → List (List ℕ)
+  avoid beta = map (λ (e : Entry). combine p w beta (e .tuple)) all
+
+  avoid-length : (beta : List ℕ) → length (avoid beta) ≡ length (entries p t₁) + length (entries p t₂)
+  avoid-length beta = length-map all (λ (e : Entry). combine p w beta (e .tuple)) ∙ length-append (entries p t₁) (entries p t₂)
+
+  pub full-set-exists : n + (length (entries p t₁) + length (entries p t₂)) ≤ p * p → betas ≤ p * p
+      → (set : List (Pairing (List ℕ))) × FullSet p width n set
+      × AtEachPair set (λ a b. T (accepts (answer-at m p w t₁ buffers₁ a b)))
+      × AtEachPair set (λ a b. T (accepts (answer-at m p w t₂ buffers₂ a b)))
+  full-set-exists enough many =
+      let pos : 0 < p = h p w C in
+      let ps : List (List ℕ) = points p pos (p * p) in
+      let long : length ps ≡ p * p = points-length p pos (p * p) in
+      let (set, at, fines) =
+      pairings (List-discrete ℕ-discrete) ps (points-distinct p pos (p * p)) avoid n (λ beta. rw (avoid-length beta, long) enough) (take betas ps) in
+      let alpha-ok : (r : Pairing (List ℕ)) → List·Memᴰ r set → (a : List ℕ) → List·Memᴰ a (r .alphas) → Element p a =
+      λ r k a ma. points-element p pos (p * p) (le-refl (p * p)) a (fines r k .within a ma) in
+      let beta-ok : (r : Pairing (List ℕ)) → List·Memᴰ r set → Element p (r .beta) =
+      λ r k.
+      points-element p pos (p * p) (le-refl (p * p)) (r .beta)
+      (take-member betas ps (r .beta) (subst (List·Memᴰ (r .beta)) at (Memᴰ·map (λ (r : Pairing (List ℕ)). r .beta) k))) in (
+        set,
+        record {
+          betas = subst Distinct (sym at) (take-distinct betas ps (points-distinct p pos (p * p)));
+          betas-many = sym (length-map set (λ (r : Pairing (List ℕ)). r .beta)) ∙ ap length at ∙ length-take-le betas ps (rw long many);
+          beta-element = beta-ok;
+          alphas = λ r k. fines r k .distinct;
+          alphas-many = λ r k. fines r k .many;
+          alpha-element = alpha-ok;
+        },
+        λ r k a ma.
+            accepts-at m p w C t₁ a (r .beta) (buffers₁ a (r .beta)) (alpha-ok r k a ma) (beta-ok r k) ok₁ flags₁ (room₁ a (r .beta))
+            (λ e me. fines r k .off a ma (combine p w (r .beta) (e .tuple)) (Memᴰ·map (λ (e : Entry). combine p w (r .beta) (e .tuple)) (Memᴰ·append-left (entries p t₂) me))),
+        λ r k a ma.
+            accepts-at m p w C t₂ a (r .beta) (buffers₂ a (r .beta)) (alpha-ok r k a ma) (beta-ok r k) ok₂ flags₂ (room₂ a (r .beta))
+            (λ e me. fines r k .off a ma (combine p w (r .beta) (e .tuple)) (Memᴰ·map (λ (e : Entry). combine p w (r .beta) (e .tuple)) (Memᴰ·append-right (entries p t₁) me))),
+      )
+
+-- how many entries a table has
+joined-total : {A : Type 0} (f : ℕ → List A) (g : ℕ → ℕ) (n : ℕ) → ((i : ℕ) → length (f i) ≡ g i) → length (joined f 0 n) ≡ total g n
+unfolding joined total
+joined-total f g zero each = refl
+joined-total f g (suc n) each =
+    length-append (joined f 0 n) (f (0 + n)) ∙ ap₂ _+_ (joined-total f g n each) (each (0 + n) ∙ ap g (zero-add n))
+
+entries-length : (p : ℕ) (t : Table) → length (entries p t) ≡ tuple-start (t .lookups .lookups) (lookup-count (t .lookups .lookups)) * t .traces .shape .height
+unfolding entries row-entries lookup-entries tuple-start
+entries-length p t =
+    joined-length (λ r. row-entries p (t .lookups) (row-values p (t .nodes) (t .traces) r))
+    (total (tuple-count (t .lookups .lookups)) (lookup-count (t .lookups .lookups))) (t .traces .shape .height)
+    (λ r.
+    joined-total (lookup-entries p (t .lookups) (row-values p (t .nodes) (t .traces) r)) (tuple-count (t .lookups .lookups)) (lookup-count (t .lookups .lookups))
+    (λ i. joined-length (λ k. entry p (t .lookups) (row-values p (t .nodes) (t .traces) r) i k ∷ []) 1 (tuple-count (t .lookups .lookups) i) (λ k. refl) ∙ omega arith))
+
+met-length : (es : List Entry) → length (met es) ≤ length es
+unfolding met
+met-length [] = le-refl 0
+met-length (e ∷ es) = go (eqb (e .count) 0 || listed (e .tuple) (met es)) (met-length es)
+  where
+    go : (b : Bool) → length (met es) ≤ length es → length (cond b (met es) (e .tuple ∷ met es)) ≤ suc (length es)
+    go true l = omega arith
+    go false l = omega arith
+
+-- 64 tuples, height 2^20
+cabinet-entries : (p : ℕ) (t : Table) → T (has-ledger cabinet p t) → length (entries p t) ≤ 67108864
+unfolding cabinet has-ledger sizes traces-within lookups-within lookups-fit
+cabinet-entries p t ok =
+    let high : t .traces .shape .height ≤ 1048576 = leb→le (t .traces .shape .height) 1048576 (search (and-left, and-right) depth 14) in
+    let few : length (t .lookups .tuples) ≤ 64 = leb→le (length (t .lookups .tuples)) 64 (search (and-left, and-right) depth 14) in
+    let same : length (t .lookups .tuples) ≡ tuple-start (t .lookups .lookups) (lookup-count (t .lookups .lookups)) =
+    eqb→eq (length (t .lookups .tuples)) (tuple-start (t .lookups .lookups) (lookup-count (t .lookups .lookups))) (search (and-left, and-right) depth 14) in
+    rw (entries-length p t, sym same) (mul-le-mul few high)
+
+betas-few : (width n : ℕ) → width ≤ 8 → n ≤ 134217728 → 1 + (width - 1) * n * (n - 1) / 2 ≤ babybear * babybear
+betas-few width n lw ln =
+    let a : width - 1 ≤ 7 = omega arith in
+    let b : n - 1 ≤ 134217728 = omega arith in
+    let c : (width - 1) * n * (n - 1) ≤ 7 * 134217728 * 134217728 = mul-le-mul (mul-le-mul a ln) b in
+    omega arith
+
+-- A full set exists in the cabinet's field for all tables within its limits, of tuples of at most 8 words
+pub cabinet-full-set-exists : (t₁ t₂ : Table) (width : ℕ) (buffers₁ buffers₂ : List ℕ → List ℕ → List ℕ) → width ≤ 8
+    → T (has-ledger cabinet babybear t₁) → T (has-ledger cabinet babybear t₂) → LawfulFlags babybear t₁ → LawfulFlags babybear t₂
+    → ((a b : List ℕ) → used (t₁ .lookups .lookups) (t₁ .traces .shape .height) ≤ length (buffers₁ a b))
+    → ((a b : List ℕ) → used (t₂ .lookups .lookups) (t₂ .traces .shape .height) ≤ length (buffers₂ a b))
+    → (set : List (Pairing (List ℕ))) × FullSet babybear width (tuples-met babybear t₁ t₂) set
+    × AtEachPair set (λ a b. T (accepts (answer-at cabinet babybear babybear-w t₁ buffers₁ a b)))
+    × AtEachPair set (λ a b. T (accepts (answer-at cabinet babybear babybear-w t₂ buffers₂ a b)))
+unfolding tuples-met
+cabinet-full-set-exists t₁ t₂ width buffers₁ buffers₂ lw ok₁ ok₂ flags₁ flags₂ room₁ room₂ =
+    let few₁ : length (entries babybear t₁) ≤ 67108864 = cabinet-entries babybear t₁ ok₁ in
+    let few₂ : length (entries babybear t₂) ≤ 67108864 = cabinet-entries babybear t₂ ok₂ in
+    let both : length (entries babybear t₁ ++ entries babybear t₂) ≡ length (entries babybear t₁) + length (entries babybear t₂) =
+    length-append (entries babybear t₁) (entries babybear t₂) in
+    let n-few : length (met (entries babybear t₁ ++ entries babybear t₂)) ≤ length (entries babybear t₁ ++ entries babybear t₂) =
+    met-length (entries babybear t₁ ++ entries babybear t₂) in
+    full-set-exists cabinet babybear babybear-w babybear-certificate t₁ t₂ width buffers₁ buffers₂ ok₁ ok₂ flags₁ flags₂ room₁ room₂
+    (omega arith) (betas-few width (tuples-met babybear t₁ t₂) lw (omega arith))

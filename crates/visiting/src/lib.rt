@@ -1,2 +1,0 @@
-// The visit of all groups in order: each in a workspace of zeros, up to the first refusal.
-pub mod visits;

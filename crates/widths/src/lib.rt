@@ -1,6 +1,0 @@
-// Bus widths, and the order of a table's lookups by bus.
-pub mod door;
-pub mod order;
-pub mod seen;
-pub mod spans;
-pub mod tables;

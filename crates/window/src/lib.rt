@@ -1,2 +1,0 @@
-// The two-row window on a trace.
-pub mod pair;
