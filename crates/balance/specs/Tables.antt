@@ -1,12 +1,10 @@
 -- Several tables: their lists one after the other, and a list of sizes for each table. SPECIFICATION, section 2.7.
-use Prim.Native.Nat.{ℕ, _+_, _*_, _/_, _%_}
+use Prim.Native.Nat.{ℕ, _%_}
 use mathlib.Core.Bool.{Bool, _&&_}
 use mathlib.Core.List.{List}
 use lib.Dec.{eqb, leb}
-use lib.ListN.{length, take, drop}
-use Rattle.lists.specs.Count.{total}
+use lib.ListN.{length}
 use Rattle.lists.specs.Tab.{tab}
-use Rattle.expression.specs.Words.{word}
 use Rattle.expression.specs.declared.sizes.Shape.{Shape}
 use Rattle.expression.specs.declared.sizes.Limits.{Limits}
 use Rattle.lookup.specs.Lookups.{Lookups, lent-lookups, lookup-words}

@@ -69,8 +69,8 @@ outcome refusal nodes used kind a weight = record { answer = counted refusal use
 
 -- the count of a number: a constant
 unfoldable pub from-i32 : Limits → ℕ → List ℕ → ℕ → ℤ → Outcome
-from-i32 m p nodes used x = outcome (count-refusal m nodes used) nodes used 0 (residue p (negative x) (magnitude x)) (magnitude x)
+from-i32 m p nodes used x = outcome (count-refusal m nodes used) nodes used constant-kind (residue p (negative x) (magnitude x)) (magnitude x)
 
 -- the count with the other sign
 unfoldable pub negated : Limits → List ℕ → ℕ → Count → Outcome
-negated m nodes used c = outcome (negation-refusal m nodes used (c .node)) nodes used 12 (c .node) (c .weight)
+negated m nodes used c = outcome (negation-refusal m nodes used (c .node)) nodes used negation-kind (c .node) (c .weight)

@@ -16,29 +16,17 @@ use Rattle.lookup.specs.Requires.{Placed}
 use Rattle.lookup.specs.laws.Tested.{placed, element-start-le}
 use Rattle.logup.specs.Tuple.{tuple}
 use Rattle.logup.specs.Ledger as logup
-use Rattle.lookup.specs.Sizes.{table-part as sized-part}
+use Rattle.lookup.specs.laws.Sizes.{part-is}
 use Rattle.balance.specs.declared.starts.LookupStarts.{LookupStarts}
 use Rattle.balance.specs.inner.LookupStarts.{PartLists, part-lists, source, lookup-starts-at, StartsWithin, count-from, nodes-from, entries-from, rows-entries}
 use Rattle.balance_slots.specs.inner.Work.{Work, step}
-use Rattle.balance.specs.Tables.{TableLists, table-count, size, size-start, table-part, shape-at, table-at, main-count-size, preprocessed-count-size, public-value-count-size, node-count-size}
+use Rattle.balance.specs.Tables.{TableLists, table-sizes, table-count, size, size-start, table-part, shape-at, table-at, main-count-size, preprocessed-count-size, public-value-count-size, node-count-size}
 use Rattle.balance.specs.Entries.{row-entries, values-of, member-entries}
 use Rattle.balance.specs.Members.{table-of, member-at}
 use Rattle.balance.specs.inner.Requires.{TablesTested}
 use Rattle.balance.specs.laws.Lists.{joined-same}
 use Rattle.balance.specs.laws.Ledger.{lookup-entries-is}
-use Rattle.balance.specs.laws.Members.{part-in}
 use Rattle.expression.specs.Node.{node-words}
-
--- a part that ends where table t's does
-pub ends-within : {e : ℕ} (sizes xs : List ℕ) (f unit t n : ℕ) → t < n → length xs ≡ unit * size-start sizes f n → e ≡ unit * size-start sizes f t + unit * size sizes f t → e ≤ length xs
-ends-within sizes xs f unit t n h g e = omega (arith, part-in sizes f unit t n h)
-
--- is table t's
-pub cut-is : {a b : ℕ} (sizes xs : List ℕ) (f unit t : ℕ) → a ≡ unit * size-start sizes f t → b ≡ unit * size-start sizes f t + unit * size sizes f t → take (b - a) (drop a xs) ≡ table-part sizes f unit t xs
-unfolding sized-part
-cut-is {a} {b} sizes xs f unit t ea eb =
-    let z : b - a ≡ unit * size sizes f t = omega arith in
-    ap₂ (λ (n m : ℕ). take n (drop m xs)) z ea
 
 module _ (p : ℕ) (l : TableLists) (w : TablesTested p l) (m : ℕ) (h : m < lookup-count (l .lookups .lookups)) where
   abbrev G : Lookups
@@ -86,12 +74,12 @@ module _ (p : ℕ) (l : TableLists) (w : TablesTested p l) (m : ℕ) (h : m < lo
       → lent-traces s (take (b - a) (drop a (l .main))) (take (d - c) (drop c (l .preprocessed))) (take (f - e) (drop e (l .public-values))) ≡ table-at l T .traces
   unfolding table-at
   traces-cut {t} et es ea eb ec ed ee ef =
-      (λ j. lent-traces (es j) (cut-is (l .sizes) (l .main) main-count-size 1 t ea eb j) (cut-is (l .sizes) (l .preprocessed) preprocessed-count-size 1 t ec ed j) (cut-is (l .sizes) (l .public-values) public-value-count-size 1 t ee ef j))
+      (λ j. lent-traces (es j) (part-is table-sizes (l .sizes) (l .main) main-count-size 1 t ea eb j) (part-is table-sizes (l .sizes) (l .preprocessed) preprocessed-count-size 1 t ec ed j) (part-is table-sizes (l .sizes) (l .public-values) public-value-count-size 1 t ee ef j))
       ∙ ap (λ (x : ℕ). lent-traces (shape-at (l .sizes) x) (table-part (l .sizes) main-count-size 1 x (l .main)) (table-part (l .sizes) preprocessed-count-size 1 x (l .preprocessed)) (table-part (l .sizes) public-value-count-size 1 x (l .public-values))) et
 
   pub nodes-cut : {t a b : ℕ} → t ≡ T → a ≡ node-words * size-start (l .sizes) node-count-size t → b ≡ node-words * size-start (l .sizes) node-count-size t + node-words * size (l .sizes) node-count-size t → take (b - a) (drop a (l .nodes)) ≡ table-at l T .nodes
   unfolding table-at
-  nodes-cut {t} et ea eb = cut-is (l .sizes) (l .nodes) node-count-size node-words t ea eb ∙ ap (λ (x : ℕ). table-part (l .sizes) node-count-size node-words x (l .nodes)) et
+  nodes-cut {t} et ea eb = part-is table-sizes (l .sizes) (l .nodes) node-count-size node-words t ea eb ∙ ap (λ (x : ℕ). table-part (l .sizes) node-count-size node-words x (l .nodes)) et
 
   pub member-able : {tr : Traces} {nd : List ℕ} → tr ≡ table-at l T .traces → nd ≡ table-at l T .nodes → Evaluable p tr nd
   member-able e q = rw (e, q) (w .rowed m h .evaluable)

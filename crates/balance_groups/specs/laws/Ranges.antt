@@ -6,9 +6,9 @@ use native.Mathlib.Omega.{arith}
 use lib.ListN.{length, take, drop}
 use Rattle.lookup.specs.Lookups.{lent-lookups, lookup-words}
 use Rattle.lookup.specs.Table.{lent-table}
-use Rattle.balance.specs.Tables.{TableLists, table-count, shape-at, lookups-at, table-at, main-count-size, preprocessed-count-size, public-value-count-size, node-count-size, lookup-count-size, name-byte-count-size, tuple-count-size, multiplicity-count-size, flag-count-size, element-count-size}
+use Rattle.balance.specs.Tables.{table-sizes, TableLists, table-count, shape-at, lookups-at, table-at, main-count-size, preprocessed-count-size, public-value-count-size, node-count-size, lookup-count-size, name-byte-count-size, tuple-count-size, multiplicity-count-size, flag-count-size, element-count-size}
 use Rattle.balance.specs.inner.Requires.{ListsCovered}
-use Rattle.balance.specs.laws.Accumulate.{ends-within, cut-is}
+use Rattle.lookup.specs.laws.Sizes.{part-within, part-is}
 use Rattle.balance_groups.specs.inner.Ranges.{table-ranges-at}
 use Rattle.balance_groups.specs.declared.ranges.TableRanges.{TableRanges}
 use Rattle.expression.specs.Node.{node-words}
@@ -48,29 +48,29 @@ unfolding table-ranges-at table-at lookups-at
 lies-at l t f h =
     record {
       main = omega arith;
-      main-end = ends-within (l .sizes) (l .main) main-count-size 1 t (table-count (l .sizes)) h (f .main) refl;
+      main-end = part-within table-sizes (l .sizes) (l .main) main-count-size 1 t (table-count (l .sizes)) h (f .main) refl;
       preprocessed = omega arith;
-      preprocessed-end = ends-within (l .sizes) (l .preprocessed) preprocessed-count-size 1 t (table-count (l .sizes)) h (f .preprocessed) refl;
+      preprocessed-end = part-within table-sizes (l .sizes) (l .preprocessed) preprocessed-count-size 1 t (table-count (l .sizes)) h (f .preprocessed) refl;
       public-values = omega arith;
-      public-values-end = ends-within (l .sizes) (l .public-values) public-value-count-size 1 t (table-count (l .sizes)) h (f .public-values) refl;
+      public-values-end = part-within table-sizes (l .sizes) (l .public-values) public-value-count-size 1 t (table-count (l .sizes)) h (f .public-values) refl;
       nodes = omega arith;
-      nodes-end = ends-within (l .sizes) (l .nodes) node-count-size node-words t (table-count (l .sizes)) h (f .nodes) refl;
+      nodes-end = part-within table-sizes (l .sizes) (l .nodes) node-count-size node-words t (table-count (l .sizes)) h (f .nodes) refl;
       lookups = omega arith;
-      lookups-end = ends-within (l .sizes) (l .lookups .lookups) lookup-count-size lookup-words t (table-count (l .sizes)) h (f .lookups) refl;
+      lookups-end = part-within table-sizes (l .sizes) (l .lookups .lookups) lookup-count-size lookup-words t (table-count (l .sizes)) h (f .lookups) refl;
       names = omega arith;
-      names-end = ends-within (l .sizes) (l .lookups .names) name-byte-count-size 1 t (table-count (l .sizes)) h (f .names) refl;
+      names-end = part-within table-sizes (l .sizes) (l .lookups .names) name-byte-count-size 1 t (table-count (l .sizes)) h (f .names) refl;
       tuples = omega arith;
-      tuples-end = ends-within (l .sizes) (l .lookups .tuples) tuple-count-size 1 t (table-count (l .sizes)) h (f .tuples) refl;
+      tuples-end = part-within table-sizes (l .sizes) (l .lookups .tuples) tuple-count-size 1 t (table-count (l .sizes)) h (f .tuples) refl;
       multiplicities = omega arith;
-      multiplicities-end = ends-within (l .sizes) (l .lookups .multiplicities) multiplicity-count-size 1 t (table-count (l .sizes)) h (f .multiplicities) refl;
+      multiplicities-end = part-within table-sizes (l .sizes) (l .lookups .multiplicities) multiplicity-count-size 1 t (table-count (l .sizes)) h (f .multiplicities) refl;
       flags = omega arith;
-      flags-end = ends-within (l .sizes) (l .lookups .flags) flag-count-size 1 t (table-count (l .sizes)) h (f .flags) refl;
+      flags-end = part-within table-sizes (l .sizes) (l .lookups .flags) flag-count-size 1 t (table-count (l .sizes)) h (f .flags) refl;
       elements = omega arith;
-      elements-end = ends-within (l .sizes) (l .lookups .elements) element-count-size 1 t (table-count (l .sizes)) h (f .elements) refl;
+      elements-end = part-within table-sizes (l .sizes) (l .lookups .elements) element-count-size 1 t (table-count (l .sizes)) h (f .elements) refl;
       table =
-          λ j. lent-table (shape-at (l .sizes) t) (cut-is (l .sizes) (l .main) main-count-size 1 t refl refl j) (cut-is (l .sizes) (l .preprocessed) preprocessed-count-size 1 t refl refl j) (cut-is (l .sizes) (l .public-values) public-value-count-size 1 t refl refl j) (cut-is (l .sizes) (l .nodes) node-count-size node-words t refl refl j)
-          (lent-lookups (cut-is (l .sizes) (l .lookups .lookups) lookup-count-size lookup-words t refl refl j) (cut-is (l .sizes) (l .lookups .names) name-byte-count-size 1 t refl refl j) (cut-is (l .sizes) (l .lookups .tuples) tuple-count-size 1 t refl refl j)
-          (cut-is (l .sizes) (l .lookups .multiplicities) multiplicity-count-size 1 t refl refl j) (cut-is (l .sizes) (l .lookups .flags) flag-count-size 1 t refl refl j) (cut-is (l .sizes) (l .lookups .elements) element-count-size 1 t refl refl j));
+          λ j. lent-table (shape-at (l .sizes) t) (part-is table-sizes (l .sizes) (l .main) main-count-size 1 t refl refl j) (part-is table-sizes (l .sizes) (l .preprocessed) preprocessed-count-size 1 t refl refl j) (part-is table-sizes (l .sizes) (l .public-values) public-value-count-size 1 t refl refl j) (part-is table-sizes (l .sizes) (l .nodes) node-count-size node-words t refl refl j)
+          (lent-lookups (part-is table-sizes (l .sizes) (l .lookups .lookups) lookup-count-size lookup-words t refl refl j) (part-is table-sizes (l .sizes) (l .lookups .names) name-byte-count-size 1 t refl refl j) (part-is table-sizes (l .sizes) (l .lookups .tuples) tuple-count-size 1 t refl refl j)
+          (part-is table-sizes (l .sizes) (l .lookups .multiplicities) multiplicity-count-size 1 t refl refl j) (part-is table-sizes (l .sizes) (l .lookups .flags) flag-count-size 1 t refl refl j) (part-is table-sizes (l .sizes) (l .lookups .elements) element-count-size 1 t refl refl j));
     }
 
 pub lies : {l : TableLists} {t : ℕ} {s : TableRanges} → ListsCovered l → t < table-count (l .sizes) → s ≡ table-ranges-at (l .sizes) t → Lies l t s

@@ -1,9 +1,10 @@
-use Rattle.balance.specs.laws.Accumulate.{ends-within, starts-within, traces-cut, nodes-cut, member-able, member-entered, table-there, few-rows, start-in}
+use Rattle.lookup.specs.laws.Sizes.{part-within}
+use Rattle.balance.specs.laws.Accumulate.{starts-within, traces-cut, nodes-cut, member-able, member-entered, table-there, few-rows, start-in}
 use native.Mathlib.Omega.{arith}
 use borrow.Author.Needs.{needs}
 use Rattle.balance.proofs.accumulate.accumulate_lookup.Statement.{statement}
 use Rattle.balance.proofs.accumulate.accumulate_lookup.Tie as tie
-use Rattle.balance.specs.Tables.{main-count-size, preprocessed-count-size, public-value-count-size, node-count-size}
+use Rattle.balance.specs.Tables.{table-sizes, main-count-size, preprocessed-count-size, public-value-count-size, node-count-size}
 use Rattle.expression.specs.Node.{node-words}
 
 table-of-requires : tie.Need-table-of-requires
@@ -82,7 +83,7 @@ part-accumulate-rows-end c =
     let at-7 = c .before .before .before .before .before .before .before in
     let at-10 = at-7 .before .before .before in
     let at-23 = at-10 .before .before .before .before .before .before .before .before .before .before .before .before .before in
-    ends-within (at-23 .args .sizes .now) (at-23 .args .main .now) main-count-size 1 _ _ (table-there _ _ (at-23 .pre .0) _ (at-23 .pre .1) (at-10 .table-of
+    part-within table-sizes (at-23 .args .sizes .now) (at-23 .args .main .now) main-count-size 1 _ _ (table-there _ _ (at-23 .pre .0) _ (at-23 .pre .1) (at-10 .table-of
     .ensures)) (at-23 .pre .0 .main) (at-7 .part-end .ensures .0)
 
 mul-accumulate-rows-2 : tie.Need-mul-accumulate-rows-2
@@ -102,7 +103,7 @@ part-accumulate-rows-end-2 c =
     let at-6 = c .before .before .before .before .before .before in
     let at-11 = at-6 .before .before .before .before .before in
     let at-24 = at-11 .before .before .before .before .before .before .before .before .before .before .before .before .before in
-    ends-within (at-24 .args .sizes .now) (at-24 .args .preprocessed .now) preprocessed-count-size 1 _ _ (table-there _ _ (at-24 .pre .0) _ (at-24 .pre .1) (at-11 .table-of
+    part-within table-sizes (at-24 .args .sizes .now) (at-24 .args .preprocessed .now) preprocessed-count-size 1 _ _ (table-there _ _ (at-24 .pre .0) _ (at-24 .pre .1) (at-11 .table-of
     .ensures)) (at-24 .pre .0 .preprocessed) (at-6 .part-end2 .ensures .0)
 
 mul-accumulate-rows-3 : tie.Need-mul-accumulate-rows-3
@@ -122,7 +123,7 @@ part-accumulate-rows-end-3 c =
     let at-5 = c .before .before .before .before .before in
     let at-12 = at-5 .before .before .before .before .before .before .before in
     let at-25 = at-12 .before .before .before .before .before .before .before .before .before .before .before .before .before in
-    ends-within (at-25 .args .sizes .now) (at-25 .args .public-values .now) public-value-count-size 1 _ _ (table-there _ _ (at-25 .pre .0) _ (at-25 .pre .1) (at-12
+    part-within table-sizes (at-25 .args .sizes .now) (at-25 .args .public-values .now) public-value-count-size 1 _ _ (table-there _ _ (at-25 .pre .0) _ (at-25 .pre .1) (at-12
     .table-of .ensures)) (at-25 .pre .0 .public-values) (at-5 .part-end3 .ensures .0)
 
 mul-accumulate-rows-4 : tie.Need-mul-accumulate-rows-4
@@ -142,7 +143,7 @@ part-accumulate-rows-end-4 c =
     let at-4 = c .before .before .before .before in
     let at-13 = at-4 .before .before .before .before .before .before .before .before .before in
     let at-26 = at-13 .before .before .before .before .before .before .before .before .before .before .before .before .before in
-    ends-within (at-26 .args .sizes .now) (at-26 .args .nodes .now) node-count-size node-words _ _ (table-there _ _ (at-26 .pre .0) _ (at-26 .pre .1) (at-13 .table-of
+    part-within table-sizes (at-26 .args .sizes .now) (at-26 .args .nodes .now) node-count-size node-words _ _ (table-there _ _ (at-26 .pre .0) _ (at-26 .pre .1) (at-13 .table-of
     .ensures)) (at-26 .pre .0 .nodes) (at-4 .part-end4 .ensures .0)
 
 accumulate-rows-requires : tie.Need-accumulate-rows-requires
