@@ -1,0 +1,4 @@
+pub mod OneBus
+pub mod Sums
+pub mod Balance
+pub mod laws

@@ -1,0 +1,136 @@
+-- Full sets without poles exist: in the cabinet's field for every group of tables within its limits whose tuples are of one width.
+use mathlib.Core.Path.{_≡_, refl, sym, ap, _∙_, subst}
+use mathlib.Core.Option.{none}
+use mathlib.Core.List.{List, [], _∷_, map, List-discrete, List·Memᴰ, List·Memᴰ·head, List·Memᴰ·tail, Memᴰ·map}
+use Prim.Native.Nat.{ℕ, _+_, _*_, _-_, _/_, _<_, _≤_}
+use native.Mathlib.Omega.{arith}
+use native.Mathlib.Decide.{ℕ-discrete}
+use native.Mathlib.Nat.{le-refl, mul-le-mul}
+use lib.ListN.{length, take, length-map}
+use lib.Seq.{length-take-le}
+use Rattle.field.specs.Modulus.{Certificate, babybear, babybear-w}
+use Rattle.field.specs.laws.Extension.{K, h, babybear-certificate}
+use Rattle.theorems_logup.specs.Distinct.{Distinct}
+use Rattle.theorems_logup.specs.Sets.{Pairing}
+use Rattle.theorems_logup.specs.laws.Arithmetic.{sub-ne}
+use Rattle.theorems_logup.specs.laws.Exists.{pairings, take-member, take-distinct}
+use Rattle.expression.specs.Limits.{cabinet}
+use Rattle.logup.specs.Tuple.{combine}
+use Rattle.logup.specs.Ledger.{Entry, Element, met}
+use Rattle.balance.specs.Tables.{TableLists}
+use Rattle.balance.specs.Groups.{Member}
+use Rattle.balance.specs.Entries.{entries}
+use Rattle.balance.specs.Refusals.{tables-refusal}
+use Rattle.balance.specs.laws.Passes.{AllGroups}
+use Rattle.theorems_soundness.specs.laws.Setting.{same-of-el}
+use Rattle.theorems_soundness.specs.laws.Elements.{element-sum}
+use Rattle.theorems_soundness.specs.laws.Tuples.{combine-is}
+use Rattle.theorems_balance.specs.Sums.{Wide, Sampled}
+use Rattle.theorems_balance.specs.Balance.{groups-of, OneWidth, SamplesExist}
+use Rattle.theorems_balance.specs.laws.Points.{points, points-length, points-distinct, points-element}
+use Rattle.theorems_balance.specs.laws.Groups.{source}
+use Rattle.theorems_balance.specs.laws.Sizes.{met-length, few-of-group, narrow}
+
+-- one group, where the field has enough elements
+module _ (p w : ℕ) (C : Certificate p w) (ms : List Member) (width : ℕ) (wide : Wide width ms) where
+  abbrev E : List Entry
+  E = entries p ms
+
+  abbrev n : ℕ
+  n = length (met E)
+
+  abbrev betas : ℕ
+  betas = 1 + (width - 1) * n * (n - 1) / 2
+
+  -- what the alphas must not be
+  abbrev avoid : List ℕ → List (List ℕ)
+  avoid beta = map (λ (e : Entry). combine p w beta (e .tuple)) E
+
+  combine-element : (beta t : List ℕ) → Element p (combine p w beta t)
+  unfolding combine
+  combine-element beta t = element-sum p w C _ (length t)
+
+  pub sample : n + length E ≤ p * p → betas ≤ p * p → Sampled p w C ms
+  sample enough many =
+      let pos : 0 < p = h p w C in
+      let ps : List (List ℕ) = points p pos (p * p) in
+      let long : length ps ≡ p * p = points-length p pos (p * p) in
+      let (set, at, fines) =
+      pairings (List-discrete ℕ-discrete) ps (points-distinct p pos (p * p)) avoid n
+      (λ beta. rw (length-map E (λ (e : Entry). combine p w beta (e .tuple)), long) enough) (take betas ps) in
+      let alpha-ok : (r : Pairing (List ℕ)) → List·Memᴰ r set → (a : List ℕ) → List·Memᴰ a (r .alphas) → Element p a =
+      λ r k a ma. points-element p pos (p * p) (le-refl (p * p)) a (fines r k .within a ma) in
+      let beta-ok : (r : Pairing (List ℕ)) → List·Memᴰ r set → Element p (r .beta) =
+      λ r k.
+      points-element p pos (p * p) (le-refl (p * p)) (r .beta)
+      (take-member betas ps (r .beta) (subst (List·Memᴰ (r .beta)) at (Memᴰ·map (λ (r : Pairing (List ℕ)). r .beta) k))) in
+      record {
+        width = width;
+        wide = wide;
+        set = set;
+        full =
+            record {
+              betas = subst Distinct (sym at) (take-distinct betas ps (points-distinct p pos (p * p)));
+              betas-many = sym (length-map set (λ (r : Pairing (List ℕ)). r .beta)) ∙ ap length at ∙ length-take-le betas ps (rw long many);
+              beta-element = beta-ok;
+              alphas = λ r k. fines r k .distinct;
+              alphas-many = λ r k. fines r k .many;
+              alpha-element = alpha-ok;
+            };
+        no-pole =
+            λ r k a ma e me _.
+            sub-ne (K p w C)
+            (λ q.
+            fines r k .off a ma (combine p w (r .beta) (e .tuple)) (Memᴰ·map (λ (e : Entry). combine p w (r .beta) (e .tuple)) me)
+            (same-of-el p w C a (combine p w (r .beta) (e .tuple)) (alpha-ok r k a ma) (combine-element (r .beta) (e .tuple))
+            (q ∙ sym (combine-is p w C (r .beta) (e .tuple)))));
+      }
+
+-- 16 tables of 64 tuples and 2^20 rows, tuples of 8 words: the betas are fewer than p²
+betas-few : (width n : ℕ) → width ≤ 8 → n ≤ 1073741824 → 1 + (width - 1) * n * (n - 1) / 2 ≤ babybear * babybear
+betas-few width n lw ln =
+    let a : width - 1 ≤ 7 = omega arith in
+    let b : n - 1 ≤ 1073741824 = omega arith in
+    let c : (width - 1) * n * (n - 1) ≤ 7 * 1073741824 * 1073741824 = mul-le-mul (mul-le-mul a ln) b in
+    omega arith
+
+-- a group that meets no tuple asks for one beta, whatever its width
+betas-none : (width n : ℕ) → n ≡ 0 → 1 + (width - 1) * n * (n - 1) / 2 ≤ babybear * babybear
+betas-none width n z =
+    let a : (width - 1) * n * (n - 1) ≡ 0 = ap (λ (k : ℕ). (width - 1) * k * (k - 1)) z ∙ omega arith in
+    omega arith
+
+none-met : length (met []) ≡ 0
+unfolding met
+none-met = refl
+
+module _ (l : TableLists) (e : tables-refusal cabinet babybear l ≡ none) where
+  -- one of its groups
+  group-sample : (ms : List Member) → List·Memᴰ ms (groups-of l) → (width : ℕ) → Wide width ms → Sampled babybear babybear-w babybear-certificate ms
+  unfolding cabinet
+  group-sample ms k width wide =
+      let few : length (entries babybear ms) ≤ 1073741824 = few-of-group cabinet babybear l e k in
+      let fewer : length (met (entries babybear ms)) ≤ length (entries babybear ms) = met-length (entries babybear ms) in
+      sample babybear babybear-w babybear-certificate ms width wide (omega arith)
+      (go (entries babybear ms) refl (omega arith))
+    where
+      go : (es : List Entry) → entries babybear ms ≡ es → length (met (entries babybear ms)) ≤ 1073741824
+          → 1 + (width - 1) * length (met (entries babybear ms)) * (length (met (entries babybear ms)) - 1) / 2 ≤ babybear * babybear
+      go [] q few = betas-none width (length (met (entries babybear ms))) (ap (λ (es : List Entry). length (met es)) q ∙ none-met)
+      go (x ∷ es) q few =
+          let o = source babybear ms (subst (List·Memᴰ x) (sym q) (List·Memᴰ·head refl)) in
+          betas-few width (length (met (entries babybear ms)))
+          (subst (λ (n : ℕ). n ≤ 8) (wide (o .member) (o .member-there) (o .nodes) (o .nodes-there))
+          (narrow cabinet babybear l e k (o .member-there) (o .nodes-there))) few
+
+  group-samples : (gs : List (List Member)) → ((ms : List Member) → List·Memᴰ ms gs → List·Memᴰ ms (groups-of l))
+      → AllGroups OneWidth gs → AllGroups (Sampled babybear babybear-w babybear-certificate) gs
+  group-samples [] within wide = tt
+  group-samples (ms ∷ gs) within (one, rest) = (
+    group-sample ms (within ms (List·Memᴰ·head refl)) (one .0) (one .1),
+    group-samples gs (λ g k. within g (List·Memᴰ·tail k)) rest,
+  )
+
+-- every group of the cabinet's tables has a full set without poles
+pub cabinet-samples-exist : SamplesExist cabinet babybear babybear-w babybear-certificate
+cabinet-samples-exist l e wide = group-samples l e (groups-of l) (λ g k. k) wide

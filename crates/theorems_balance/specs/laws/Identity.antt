@@ -1,0 +1,49 @@
+-- Balance refuses nothing exactly where the paper's sum of every group is identically zero.
+use mathlib.Core.Path.{sym, _∙_}
+use mathlib.Core.List.{List, [], _∷_}
+use Prim.Native.Nat.{ℕ}
+use lib.ListN.{length}
+use Rattle.field.specs.Modulus.{Modulus, Certificate, babybear, babybear-w}
+use Rattle.field.specs.laws.Extension.{K, h, babybear-certificate, babybear-modulus}
+use Rattle.field.specs.laws.Homomorphism.{el}
+use Rattle.expression.specs.Limits.{cabinet}
+use Rattle.expression.specs.declared.sizes.Limits.{Limits}
+use Rattle.balance.specs.Groups.{Member}
+use Rattle.balance.specs.Entries.{entries}
+use Rattle.balance.specs.laws.Passes.{Passes, AllGroups, counted, check-passes}
+use Rattle.theorems_soundness.specs.laws.Setting.{N}
+use Rattle.theorems_balance.specs.Sums.{IdenticallyZero, Sampled}
+use Rattle.theorems_balance.specs.Balance.{groups-of, AllVanish, SamplesExist, BalanceIsTheIdentity}
+use Rattle.theorems_balance.specs.laws.Nets.{net-is}
+use Rattle.theorems_balance.specs.laws.Zero.{zero-everywhere}
+use Rattle.theorems_balance.specs.laws.Balance.{sums-determine-balance}
+use Rattle.theorems_balance.specs.laws.Exists.{cabinet-samples-exist}
+
+module _ (p w : ℕ) (M : Modulus p) (C : Certificate p w) where
+  -- nets that are zero make the sum zero at every pair
+  all-identical : (room : ℕ) (gs : List (List Member)) → AllGroups (Passes p room) gs → AllGroups (IdenticallyZero p w C) gs
+  all-identical room [] pass = tt
+  all-identical room (ms ∷ gs) (one, rest) = (
+    λ alpha beta _ _ _.
+        zero-everywhere (K p w C) (N p w C) (entries p ms) (counted p (h p w C) ms) (λ t. sym (net-is p w C (entries p ms) t) ∙ one .1 t)
+        (el p w C alpha) (el p w C beta),
+    all-identical room gs rest,
+  )
+
+  -- a sum that is identically zero vanishes at the pairs of any set
+  all-vanish : (gs : List (List Member)) (samples : AllGroups (Sampled p w C) gs) → AllGroups (IdenticallyZero p w C) gs → AllVanish p w C gs samples
+  all-vanish [] samples zeros = tt
+  all-vanish (ms ∷ gs) (s, samples) (one, rest) = (
+    λ r k a ma. one a (r .beta) (s .full .alpha-element r k a ma) (s .full .beta-element r k) (s .no-pole r k a ma),
+    all-vanish gs samples rest,
+  )
+
+  pub balance-is-the-identity : (m : Limits) → SamplesExist m p w C → BalanceIsTheIdentity m p w C
+  balance-is-the-identity m exist l workspace e fits wide = (
+    λ x. all-identical (length workspace) (groups-of l) (check-passes m p (h p w C) l workspace .0 x .1),
+    λ x. let samples = exist l e wide in sums-determine-balance p w M C m l workspace e fits samples .1 (all-vanish (groups-of l) samples x),
+  )
+
+-- for the cabinet and its field
+pub cabinet-balance-is-the-identity : BalanceIsTheIdentity cabinet babybear babybear-w babybear-certificate
+cabinet-balance-is-the-identity = balance-is-the-identity babybear babybear-w babybear-modulus babybear-certificate cabinet cabinet-samples-exist

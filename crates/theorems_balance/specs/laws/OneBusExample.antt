@@ -1,0 +1,84 @@
+-- A table of one row with two lookups on one bus: it meets `OneBus`, its lookups are one group, and the net of (3) is its ledger's word.
+use Prim.Native.Nat.{ℕ, zero, suc, _<_}
+use mathlib.Core.Path.{_≡_, refl, _∙_}
+use mathlib.Core.Bool.{true}
+use mathlib.Core.List.{[], _∷_}
+use native.Mathlib.Omega.{arith}
+use lib.Dec.{T}
+use Rattle.lists.specs.Same.{same-list}
+use Rattle.lists.specs.Count.{total, every, joined}
+use Rattle.lists.specs.Fold.{fold}
+use Rattle.field.specs.Modulus.{babybear}
+use Rattle.field.specs.laws.Extension.{babybear-modulus}
+use Rattle.expression.specs.Words.{all-below, all-within}
+use Rattle.expression.specs.Limits.{cabinet}
+use Rattle.expression.specs.Node.{decode, node}
+use Rattle.expression.specs.Window.{row-of, window}
+use Rattle.expression.specs.Values.{node-value, values, row-values}
+use Rattle.expression.specs.Degree.{node-degree, degrees}
+use Rattle.expression.specs.Tests.{traces-within, nodes-within, traces-fit, nodes-fit, traces-below, constants-below, nodes-known, degrees-low}
+use Rattle.lookup.specs.Lookups.{name-start, tuple-start, multiplicity-start, flag-start, element-start, tuple-width, multiplicity-node, flag-node, tuple-nodes, lookup-at}
+use Rattle.lookup.specs.Table.{Table}
+use Rattle.lookup.specs.Tests.{lookups-within, lookups-fit, sizes, words-below, known, lengths-agree, nodes-present, lists-agree, in-position, has-lookups, preprocessed-enough, rows-enough}
+use Rattle.logup.specs.Tuple.{tuple}
+use Rattle.logup.specs.Ledger.{has-ledger, count, lookup-entries, row-entries, entries, post, ledger}
+use Rattle.balance_slots.specs.laws.Nets.{net-of}
+use Rattle.balance.specs.Groups.{members, same-bus, groups}
+use Rattle.balance.specs.Entries as balance
+use Rattle.balance.specs.laws.Cases.{columns}
+use Rattle.theorems_balance.specs.OneBus.{member-of, OneBus}
+use Rattle.theorems_balance.specs.laws.OneBus.{one-bus-ledger}
+
+-- column 0 is 3, the tuple's word in both lookups, and column 1 is 1, how often it counts
+abbrev twice : Table
+twice =
+    record {
+      traces =
+          record {
+            shape = record { «main_width» = 2; height = 1; «pre_width» = 0; «pre_height» = 0 };
+            main = 3 ∷ 1 ∷ [];
+            preprocessed = [];
+            public-values = [];
+          };
+      nodes = columns;
+      lookups =
+          record {
+            lookups = 1 ∷ 1 ∷ 1 ∷ 0 ∷ 0 ∷ 1 ∷ 1 ∷ 0 ∷ 1 ∷ 1 ∷ 1 ∷ 1 ∷ 0 ∷ 1 ∷ 1 ∷ 0 ∷ [];
+            names = 98 ∷ 98 ∷ [];
+            tuples = 1 ∷ 1 ∷ [];
+            multiplicities = 1 ∷ 1 ∷ [];
+            flags = [];
+            elements = 0 ∷ 0 ∷ [];
+          };
+    }
+
+same : (i j : ℕ) → i < 2 → j < 2 → same-bus (member-of twice i) (member-of twice j) ≡ true
+unfolding same-bus same-list lookup-at name-start total
+same zero zero a b = refl
+same zero (suc zero) a b = refl
+same (suc zero) zero a b = refl
+same (suc zero) (suc zero) a b = refl
+same zero (suc (suc j)) a b = absurd (omega arith)
+same (suc zero) (suc (suc j)) a b = absurd (omega arith)
+same (suc (suc i)) j a b = absurd (omega arith)
+
+one-bus : OneBus twice
+one-bus = record { some = omega arith; each = same }
+
+has : T (has-ledger cabinet babybear twice)
+unfolding total every joined cabinet all-below all-within node decode row-of window node-value values row-values node-degree degrees traces-within
+    nodes-within traces-fit nodes-fit traces-below constants-below nodes-known degrees-low name-start tuple-start multiplicity-start flag-start
+    element-start tuple-width multiplicity-node flag-node tuple-nodes lookups-within lookups-fit sizes words-below known lengths-agree nodes-present
+    lists-agree in-position has-lookups preprocessed-enough rows-enough has-ledger
+has = tt
+
+ledger-two : ledger babybear twice (3 ∷ []) ≡ 2
+unfolding total joined fold node decode row-of window node-value values row-values tuple-start multiplicity-start flag-start element-start tuple-width
+    multiplicity-node flag-node tuple-nodes tuple count lookup-entries row-entries entries same-list post ledger
+ledger-two = refl
+
+pub one-group : groups (members (twice ∷ [])) ≡ members (twice ∷ []) ∷ []
+one-group = one-bus-ledger cabinet babybear babybear-modulus twice one-bus has .0
+
+pub net-two : net-of babybear (balance.entries babybear (members (twice ∷ []))) (3 ∷ []) ≡ 2
+net-two = one-bus-ledger cabinet babybear babybear-modulus twice one-bus has .1 (3 ∷ []) ∙ ledger-two
