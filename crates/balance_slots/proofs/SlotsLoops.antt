@@ -13,6 +13,7 @@ use Rattle.lists.specs.laws.Parts.{part-length}
 use Rattle.lists.specs.laws.Filled.{Filled, filled-one, filled-whole, put-mid}
 use Rattle.lists.specs.Tab.{tab}
 use Rattle.lists.specs.laws.Tab.{tab-none, tab-one}
+use Rattle.field.specs.laws.Word.{addM-sum, addM-mod}
 use Rattle.expression.specs.Words.{word}
 use Rattle.balance_slots.specs.inner.Work.{match-at, find-slot, added-at, new-words, new-at}
 use Rattle.balance_slots.specs.Workspace.{slot-words, tuple-word, net-word}
@@ -64,7 +65,9 @@ search-ends {workspace} {t} {f} {n} {k} s h =
 -- a count
 pub added-is : {a b s r : ℕ} (p : ℕ) (workspace : List ℕ) (k count : ℕ) → a ≡ word workspace (slot-words * k + net-word) → b ≡ count → s ≡ a + b → r ≡ s % p → set workspace (slot-words * k + net-word) r ≡ added-at p workspace k count
 unfolding added-at
-added-is p workspace k count ea eb es er = ap (set workspace (slot-words * k + net-word)) (er ∙ ap (λ (n : ℕ). n % p) (es ∙ ap₂ (λ (x y : ℕ). x + y) ea eb))
+added-is p workspace k count ea eb es er =
+    let net : ℕ = word workspace (slot-words * k + net-word) in
+    ap (set workspace (slot-words * k + net-word)) (er ∙ ap (λ (n : ℕ). n % p) (es ∙ ap₂ (λ (x y : ℕ). x + y) ea eb) ∙ sym (addM-sum p net count) ∙ addM-mod p net count)
 
 -- the words of a slot, from the front
 pub record PutSlotLoop (d t : List ℕ) (j : ℕ) (s : List ℕ) : Type 0 where

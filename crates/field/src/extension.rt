@@ -79,7 +79,7 @@ pub fn mul(p: u32, w: u32, a: Ext, b: Ext) -> Ext
     }
 }
 
-// b to the power n.
+// b to the power n, by squaring: r·x^k stays what it is, while k is halved.
 pub fn power(p: u32, w: u32, b: Ext, n: u32) -> Ext
     requires { ⌜ Modulus p × (w < p) × Word4 p (ext-words b) ⌝ }
     ensures { λ r. ⌜ Word4 p (ext-words r) × (ext-words r ≡ power4 p w (ext-words b) n) ⌝ }
@@ -90,10 +90,14 @@ pub fn power(p: u32, w: u32, b: Ext, n: u32) -> Ext
         c2: 0,
         c3: 0,
     };
-    let mut i: u32 = 0;
-    while i < n {
-        r = mul(p, w, r, b);
-        i += 1;
+    let mut x = b;
+    let mut k = n;
+    while 0 < k {
+        if k % 2 == 1 {
+            r = mul(p, w, r, x);
+        }
+        x = mul(p, w, x, x);
+        k = k / 2;
     }
     r
 }

@@ -5,8 +5,7 @@ ghost use mathlib.Core.Path.{_≡_};
 ghost use Prim.Native.Nat.{_<_, _≤_, _*_, _%_};
 ghost use Rattle.algebra.specs.Prime.{Prime};
 ghost use Rattle.field.specs.Modulus.{Modulus};
-ghost use Rattle.field.specs.Word.{addM, subM, negM, mulM, inverse1};
-ghost use Rattle.field.specs.laws.Reduction.{dot};
+ghost use Rattle.field.specs.Word.{addM, subM, negM, mulM, dot, inverse1};
 
 pub fn add(p: u32, a: u32, b: u32) -> u32
     requires { ⌜ Modulus p × (a < p) × (b < p) ⌝ }

@@ -2,8 +2,8 @@
 use mathlib.Core.Path.{_≡_, refl, sym, ap, ap₂, _∙_, subst}
 use mathlib.Core.Logic.{_≢_}
 use mathlib.Core.List.{List, [], _∷_, _++_}
-use Prim.Native.Nat.{ℕ, suc, _+_, _*_, _-_, _%_, _<_, _≤_, zero-le}
-use native.Mathlib.Nat.{zero-add, one-mul, mul-comm, mod-eq-of-lt}
+use Prim.Native.Nat.{ℕ, suc, _+_, _*_, _-_, _<_, _≤_, zero-le}
+use native.Mathlib.Nat.{zero-add}
 use native.Mathlib.Numerals.{add-one}
 use native.Mathlib.Omega.{arith}
 use lib.ListN.{length, take, drop, length-append}
@@ -18,6 +18,7 @@ use Rattle.field.specs.Ext.{ext-words}
 use Rattle.field.specs.Modulus.{Modulus, Certificate}
 use Rattle.field.specs.Word.{mulM}
 use Rattle.field.specs.Element.{at, Word4, lift, zero4, mul4, norm2, norm, cofactor, element}
+use Rattle.field.specs.laws.Word.{mulM-comm, one-mulM}
 use Rattle.field.specs.laws.Slice.{word-element}
 use Rattle.field_batch.specs.inner.Quotients.{quotient, quotient-at, nonzero, factor, productM, kept, factor-from-last, kept-from-last, Divisible}
 use Rattle.field_batch.specs.laws.Joined.{joined-size, total-same, element-of, element-past}
@@ -50,14 +51,14 @@ words-kept p w m q d k l e =
 
 -- a factor of 1
 pub times-one : (p a b : ℕ) → a ≡ 1 → b < p → b ≡ mulM p a b
-times-one p a b e l = sym (ap (λ (n : ℕ). mulM p n b) e ∙ ap (λ (n : ℕ). n % p) (one-mul b) ∙ mod-eq-of-lt l)
+times-one p a b e l = sym (ap (λ (n : ℕ). mulM p n b) e ∙ one-mulM p b l)
 
 -- a quotient, and the inverse of the rest: where the multiplicity is 0, and where not
-pub step-out : (p w m v : ℕ) (d k : Ext) → m ≡ 0 → ext-words k ≡ kept p w m (ext-words d) (k .c3) → mulM p (mulM p (k .c3) (k .c2)) v ≡ 1
+pub step-out : (p w m v : ℕ) (d k : Ext) → v < p → m ≡ 0 → ext-words k ≡ kept p w m (ext-words d) (k .c3) → mulM p (mulM p (k .c3) (k .c2)) v ≡ 1
     → (mulM p (k .c3) v ≡ 1) × (zero4 ≡ quotient p w m (ext-words d))
-step-out p w m v d k e ek i =
+step-out p w m v d k l e ek i =
     let f : k .c2 ≡ 1 = ap (λ (l : List ℕ). at l 2) (ek ∙ kept-out p w m (ext-words d) (k .c3) e) in
-    (inverts-same (k .c3) v p (ap (λ (n : ℕ). mulM p (mulM p (k .c3) n) v) (sym f) ∙ i), quotient-none p w m (ext-words d) e)
+    (inverts-same (k .c3) v p l (ap (λ (n : ℕ). mulM p (mulM p (k .c3) n) v) (sym f) ∙ i), quotient-none p w m (ext-words d) e)
 
 pub step-in : {u t v′ : ℕ} {r : List ℕ} (p w m v : ℕ) (d k : Ext) → Modulus p → Certificate p w → Word4 p (ext-words d) → m ≢ 0 → ext-words k ≡ kept p w m (ext-words d) (k .c3)
     → mulM p (mulM p (k .c3) (k .c2)) v ≡ 1 → u ≡ mulM p v (k .c3) → t ≡ mulM p m u → r ≡ mul4 p w (cofactor p w (ext-words d)) (lift t) → v′ ≡ mulM p v (k .c2)
@@ -126,7 +127,7 @@ module _ {p w n : ℕ} {ms ds d held : List ℕ} {product j : ℕ} (s : Multiply
           below = l;
           product≡ =
               rw (add-one j)
-              (ep ∙ ap (λ (i : ℕ). i % p) (mul-comm (k .c2) product) ∙ ap₂ (mulM p) (s .product≡) (factor-kept p w m product (ext-words x) k ek ∙ ap₂ (factor p w) em ex ∙ ap (λ (i : ℕ). factor p w (at ms (i - 1 - j)) (element ds (i - 1 - j))) (s .count)));
+              (ep ∙ mulM-comm p (k .c2) product ∙ ap₂ (mulM p) (s .product≡) (factor-kept p w m product (ext-words x) k ek ∙ ap₂ (factor p w) em ex ∙ ap (λ (i : ℕ). factor p w (at ms (i - 1 - j)) (element ds (i - 1 - j))) (s .count)));
         }
       where
         f : ℕ → List ℕ

@@ -13,6 +13,8 @@ use Rattle.field_batch.specs.declared.dot.Sum.{Sum}
 use Rattle.field_batch.specs.inner.Dot.{residues, Room}
 use Rattle.field.specs.Ext.{ext-words}
 use Rattle.field.specs.Element.{at, Word4, zero4, add4, scale4, power4, sum4}
+use Rattle.field.specs.laws.Slice.{four-words}
+use Rattle.field.specs.laws.Powers.{four-power4}
 use Rattle.expression.specs.Words.{word}
 use Rattle.logup.specs.Tuple.{exponent, combine}
 use Rattle.logup_column.specs.inner.Powers.{beta-of, Powers}
@@ -86,7 +88,7 @@ module _ {p w : ℕ} {ps : List (List ℕ)} {vals nodes : List ℕ} {k j : ℕ} 
 pub combine-loop-turn : {p w : ℕ} {ps : List (List ℕ)} {vals nodes : List ℕ} {k j v : ℕ} {sum held next : Sum} {m : List ℕ} → CombineLoop p w ps vals nodes k j sum → j < k
     → v ≡ word vals (word nodes j) → m ≡ words (getD ps (k - 1 - j) []) → Ready p j sum held
     → ((n : ℕ) → Room (1 + n) held → Room n next) × (residues p next ≡ add4 p (residues p held) (scale4 p v m)) → CombineLoop p w ps vals nodes k (j + 1) next
-unfolding sum4 scale4
+unfolding sum4
 combine-loop-turn {p} {w} {ps} {vals} {nodes} {k} {j} {v} {sum} {held} {next} {m} s h ev em q (r, e) =
     record {
       powers = s .powers;
@@ -95,14 +97,19 @@ combine-loop-turn {p} {w} {ps} {vals} {nodes} {k} {j} {v} {sum} {held} {next} {m
       within = omega arith;
       first-four = λ l. let n : 3 - j ≡ 4 - (j + 1) = omega arith in subst (λ (n : ℕ). Room n next) n (r (3 - j) (low s h q (omega arith)));
       last-four = λ l. let n : 7 - j ≡ 8 - (j + 1) = omega arith in subst (λ (n : ℕ). Room n next) n (r (7 - j) (high s h q (omega arith)));
-      sum≡ = rw (add-one j) (e ∙ ap₂ (add4 p) (q .2 ∙ s .sum≡) (ap (scale4 p v) em ∙ ap₂ (scale4 p) value power));
+      sum≡ = rw (add-one j) (e ∙ ap₂ (add4 p) (q .2 ∙ s .sum≡) (ap₂ (scale4 p) value (em ∙ power)));
     }
   where
     len : length (map (word vals) nodes) ≡ k
     len = map-length (word vals) nodes ∙ sym (s .size)
 
-    power : getD ps (k - 1 - j) [] ≡ power4 p w (beta-of ps) (exponent (length (map (word vals) nodes)) j)
-    power = power-at p w ps (k - 1 - j) (s .powers) (omega (arith, s .small)) ∙ ap (λ (n : ℕ). power4 p w (beta-of ps) (exponent n j)) (sym len)
+    power-is : getD ps (k - 1 - j) [] ≡ power4 p w (beta-of ps) (exponent (length (map (word vals) nodes)) j)
+    power-is = power-at p w ps (k - 1 - j) (s .powers) (omega (arith, s .small)) ∙ ap (λ (n : ℕ). power4 p w (beta-of ps) (exponent n j)) (sym len)
+
+    power : words (getD ps (k - 1 - j) []) ≡ power4 p w (beta-of ps) (exponent (length (map (word vals) nodes)) j)
+    power =
+        let n : ℕ = exponent (length (map (word vals) nodes)) j in
+        ap words power-is ∙ four-words (power4 p w (beta-of ps) n) (four-power4 p w (beta-of ps) n)
 
     value : v ≡ word (map (word vals) nodes) j
     value = ev ∙ sym (map-at (word vals) nodes j (omega (arith, s .size)))

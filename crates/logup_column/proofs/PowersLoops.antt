@@ -15,6 +15,7 @@ use Rattle.lists.specs.laws.Tab.{tab-one}
 use Rattle.field.specs.declared.extension.Ext.{Ext}
 use Rattle.field.specs.Ext.{ext-words}
 use Rattle.field.specs.Element.{Word4, one4, mul4, power4, element}
+use Rattle.field.specs.laws.Powers.{power4-zero, power4-suc}
 use Rattle.logup_column.specs.laws.Powers.{word-one}
 
 pub record PowersLoop (p w : ℕ) (b d out : List ℕ) (e : ℕ) (power : Ext) : Type 0 where
@@ -26,19 +27,19 @@ pub record PowersLoop (p w : ℕ) (b d out : List ℕ) (e : ℕ) (power : Ext) :
   pub out≡ : Filled d (joined (power4 p w b) 0 e) (4 * e) out
 
 pub powers-loop-begins : {p w : ℕ} {b d : List ℕ} {power : Ext} → 1 < p → length d ≡ 32 → ext-words power ≡ one4 → PowersLoop p w b d d 0 power
-unfolding power4 joined
-powers-loop-begins {p} h e o = record { upto = zero-le; size = e; len = e; word = subst (Word4 p) (sym o) (word-one p h); is = o; out≡ = filled-none }
+unfolding joined
+powers-loop-begins {p} {w} {b} h e o = record { upto = zero-le; size = e; len = e; word = subst (Word4 p) (sym o) (word-one p h); is = o ∙ sym (power4-zero p w b); out≡ = filled-none }
 
 pub powers-loop-turn : {p w : ℕ} {b d out : List ℕ} {e : ℕ} {power next : Ext} (ys : List ℕ) → PowersLoop p w b d out e power → e < 8 → ys ≡ ext-words power
     → Word4 p (ext-words next) × (ext-words next ≡ mul4 p w (ext-words power) b) → PowersLoop p w b d (putMid (4 * e) (4 * e + 4 - 4 * e) out ys) (e + 1) next
-unfolding power4 joined
+unfolding joined
 powers-loop-turn {p} {w} {b} {d} {out} {e} {power} {next} ys s h ey (q, en) =
     record {
       upto = omega arith;
       size = s .size;
       len = grown .len ∙ s .size;
       word = q;
-      is = rw (add-one e) (en ∙ ap (λ (l : List ℕ). mul4 p w l b) (s .is));
+      is = rw (add-one e) (en ∙ ap (λ (l : List ℕ). mul4 p w l b) (s .is) ∙ sym (power4-suc p w b e));
       out≡ = subst (λ (n : ℕ). Filled d (joined (power4 p w b) 0 (e + 1)) n (putMid (4 * e) (4 * e + 4 - 4 * e) out ys)) four grown;
     }
   where

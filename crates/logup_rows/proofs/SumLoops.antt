@@ -15,10 +15,10 @@ use Rattle.lists.specs.laws.Parts.{part-length}
 use Rattle.field.specs.declared.extension.Ext.{Ext}
 use Rattle.field.specs.Ext.{ext-words}
 use Rattle.field.specs.Element.{Word4, zero4, add4, sum4, element}
+use Rattle.field.specs.laws.Element.{four-sum4}
 use Rattle.lookup.specs.Lookups.{lookup-count, tuple-count, tuple-start}
 use Rattle.logup_column.specs.laws.Powers.{word-zero}
 use Rattle.lists.specs.laws.Joined.{joined-length}
-use Rattle.logup_rows.specs.laws.Lengths.{sum-four}
 use Rattle.logup_rows.specs.inner.Sums.{sum-from, fraction-in, row-sum-in, running, row-in, Quotients, RowWritten, RowsWritten}
 
 pub record SumLoop (p : ℕ) (qs : List ℕ) (at n : ℕ) (sum : Ext) (k : ℕ) : Type 0 where
@@ -142,7 +142,7 @@ fractions-loop-ends {p} {lookups} {qs} {start} {i = i} acc d s h y =
 fractions-in-length : (p : ℕ) (lookups qs : List ℕ) (start n : ℕ) → length (joined (fraction-in p lookups qs start) 0 n) ≡ 4 * n
 unfolding fraction-in sum-from
 fractions-in-length p lookups qs start n =
-    joined-length (fraction-in p lookups qs start) 4 n (λ i. sum-four p (λ k. element qs (start + tuple-start lookups i + k)) (tuple-count lookups i))
+    joined-length (fraction-in p lookups qs start) 4 n (λ i. four-sum4 p (λ k. element qs (start + tuple-start lookups i + k)) (tuple-count lookups i))
 
 -- j rows
 pub record WriteRowsLoop (p : ℕ) (lookups qs : List ℕ) (size k : ℕ) (before : Ext) (wd : ℕ) (d out : List ℕ) (acc : Ext) (start at j : ℕ) : Type 0 where

@@ -10,6 +10,7 @@ use Rattle.lists.specs.Count.{total, every, joined}
 use Rattle.lists.specs.Fold.{fold}
 use Rattle.lists.specs.Tab.{tab}
 use Rattle.field.specs.Modulus.{babybear}
+use Rattle.field.specs.Word.{addM, subM, negM, mulM}
 use Rattle.expression.specs.Words.{all-below, all-within}
 use Rattle.expression.specs.Limits.{cabinet}
 use Rattle.expression.specs.Node.{decode, node}
@@ -132,7 +133,7 @@ pub cases :
     -- "1" before "10" before "2"
     × (text-less 1 10 ≡ true)
     × (text-less 10 2 ≡ true)
-unfolding total every joined fold tab flatMap all-below all-within cabinet decode node row-of window node-value values row-values node-degree
+unfolding addM subM negM mulM total every joined fold tab flatMap all-below all-within cabinet decode node row-of window node-value values row-values node-degree
     degrees traces-within nodes-within traces-fit nodes-fit traces-below constants-below nodes-known degrees-low name-start tuple-start
     multiplicity-start flag-start element-start tuple-width tuple-nodes lookup-at lookups-of lookups-within lookups-fit sizes words-below known
     lengths-agree nodes-present lists-agree has-lookups preprocessed-enough same-list digits in-order add-nonzero add slots full workspace-of

@@ -3,7 +3,7 @@ use mathlib.Core.Path.{_≡_, refl, sym, ap, ap₂, _∙_}
 use mathlib.Core.Bool.{Bool, true, false, cond}
 use mathlib.Core.List.{List, [], _∷_, map}
 use Prim.Native.Nat.{ℕ, _+_, _%_, _<_}
-use native.Mathlib.Nat.{mod-lt, mod-eq-of-lt, mul-one}
+use native.Mathlib.Nat.{mod-eq-of-lt}
 use native.Mathlib.Omega.{arith}
 use lib.ListN.{take, drop}
 use lib.Seq.{getD-take, getD-drop}
@@ -12,7 +12,8 @@ use Rattle.lists.specs.Tab.{tab}
 use Rattle.lists.specs.laws.Tab.{tab-length, tab-at, tab-cong}
 use Rattle.lists.specs.laws.Joined.{joined-singles}
 use Rattle.lists.specs.Same.{same-list}
-use Rattle.field.specs.Word.{mulM}
+use Rattle.field.specs.Word.{addM, mulM}
+use Rattle.field.specs.laws.Word.{addM-below, mulM-one}
 use Rattle.expression.specs.Words.{word}
 use Rattle.expression.specs.Requires.{Below}
 use Rattle.lookup.specs.Lookups.{Lookups, exclusive, tuple-count, multiplicity-count, flag-count, multiplicity-start, flag-start, multiplicity-node, flag-node, tuple-nodes, lookup-at}
@@ -29,7 +30,7 @@ part-word c s k l h = getD-take c (drop s l) k 0 h ∙ getD-drop s l k 0
 -- the flag of a branch, if the lookup is exclusive
 flagged : (p m f g : ℕ) (b : Bool) → m < p → (b ≡ true → f ≡ g) → mulM p m (cond b f 1) ≡ cond b (mulM p m g) m
 flagged p m f g true h e = ap (mulM p m) (e refl)
-flagged p m f g false h e = ap (λ (n : ℕ). n % p) (mul-one m) ∙ mod-eq-of-lt h
+flagged p m f g false h e = mulM-one p m h
 
 -- one entry, by its record and by its words
 module _ (p : ℕ) (l : Lookups) (vals : List ℕ) (b : Below p vals) (i : ℕ) (am : multiplicity-count (l .lookups) i ≡ tuple-count (l .lookups) i)
@@ -58,8 +59,8 @@ unfolding fold logup.post
 fold-below p z [] f l h = h
 fold-below p z (e ∷ es) f l h = fold-below p z es (logup.post p f e) l (one (same-list (e .tuple) l))
   where
-    one : (b : Bool) → cond b ((f l + e .count) % p) (f l) < p
-    one true = mod-lt (f l + e .count) z
+    one : (b : Bool) → cond b (addM p (f l) (e .count)) (f l) < p
+    one true = addM-below p z (f l) (e .count)
     one false = h
 
 -- a net is a word below p

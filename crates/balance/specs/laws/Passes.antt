@@ -5,12 +5,12 @@ use mathlib.Core.Option.{Option, none, some, Option·some-ne-none}
 use mathlib.Core.List.{List, [], _∷_, _++_, List·Memᴰ}
 use mathlib.Core.Logic.{_↔_}
 use Prim.Native.Nat.{ℕ, zero, suc, _+_, _/_, _<_, _≤_}
-use native.Mathlib.Nat.{mod-lt}
 use lib.Dec.{eqb, ltb}
 use lib.ListN.{length}
 use borrow.Author.Tests.{ltb-false, le-ltb, eqb-true, eq-eqb}
 use Rattle.lists.specs.laws.Count.{joined-member}
 use Rattle.lists.specs.Fold.{fold}
+use Rattle.field.specs.laws.Word.{mulM-below}
 use Rattle.expression.specs.declared.sizes.Limits.{Limits}
 use Rattle.expression.specs.declared.refusal.Refusal.{Refusal}
 use Rattle.expression.specs.declared.refusal.Refusal.the-variants.{WorkspaceFull}
@@ -32,7 +32,7 @@ row-counted : (p : ℕ) → 0 < p → (m : Member) (r : ℕ) {e : Entry} → Lis
 unfolding row-entries entry-of count-of
 row-counted p z m r k =
     let c = tab-in (entry-of p (m .lookup) (values-of p (m .table) r)) 0 (length (m .lookup .tuples)) k in
-    rw (ap (λ (x : Entry). x .count) (c .1)) (mod-lt _ z)
+    rw (ap (λ (x : Entry). x .count) (c .1)) (mulM-below p z _ _)
 
 pub counted : (p : ℕ) → 0 < p → (ms : List Member) → Counted p (entries p ms)
 unfolding entries member-entries

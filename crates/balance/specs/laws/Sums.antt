@@ -3,12 +3,14 @@ use mathlib.Core.Path.{_≡_, refl, sym, ap, ap₂, _∙_}
 use mathlib.Core.Bool.{Bool, true, false, cond}
 use mathlib.Core.List.{List, [], _∷_, _++_}
 use Prim.Native.Nat.{ℕ, zero, suc, _+_, _%_}
-use native.Mathlib.Nat.{mod-add-mod, zero-add}
+use native.Mathlib.Nat.{zero-add}
 use native.Mathlib.Omega.{arith}
 use Rattle.lists.specs.Same.{same-list}
 use Rattle.lists.specs.Count.{total, joined}
 use Rattle.lists.specs.Fold.{fold}
 use Rattle.lists.specs.laws.Sums.{total-zero, total-add}
+use Rattle.field.specs.Word.{addM}
+use Rattle.field.specs.laws.Word.{addM-more}
 use Rattle.logup.specs.Ledger.{Entry, post}
 use Rattle.balance_slots.specs.laws.Nets.{net-of}
 
@@ -21,8 +23,8 @@ post-mod : (p : ℕ) (f : List ℕ → ℕ) (e : Entry) (l : List ℕ) (n : ℕ)
 unfolding post
 post-mod p f e l n = go (same-list (e .tuple) l)
   where
-    go : (b : Bool) → (cond b ((f l + e .count) % p) (f l) + n) % p ≡ (f l + (cond b (e .count) 0 + n)) % p
-    go true = mod-add-mod (f l + e .count) p n ∙ ap (λ (k : ℕ). k % p) (let k : f l + e .count + n ≡ f l + (e .count + n) = omega arith in k)
+    go : (b : Bool) → (cond b (addM p (f l) (e .count)) (f l) + n) % p ≡ (f l + (cond b (e .count) 0 + n)) % p
+    go true = addM-more p (f l) (e .count) n ∙ ap (λ (k : ℕ). k % p) (let k : f l + e .count + n ≡ f l + (e .count + n) = omega arith in k)
     go false = ap (λ (k : ℕ). (f l + k) % p) (sym (zero-add n))
 
 fold-tally : (p : ℕ) (es : List Entry) (f : List ℕ → ℕ) (l : List ℕ) → fold (post p) f es l % p ≡ (f l + tally es l) % p

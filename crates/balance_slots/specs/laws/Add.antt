@@ -2,7 +2,7 @@
 use mathlib.Core.Path.{_≡_, refl, sym, ap, ap₂, _∙_}
 use mathlib.Core.Bool.{Bool, true, false, cond, _&&_}
 use mathlib.Core.List.{List, [], _∷_, _++_, append-assoc, append-nil, flatMap, List·Memᴰ, List·Memᴰ·head, List·Memᴰ·tail}
-use Prim.Native.Nat.{ℕ, zero, suc, _+_, _*_, _-_, _/_, _%_, _<_, _≤_, zero-le}
+use Prim.Native.Nat.{ℕ, zero, suc, _+_, _*_, _-_, _/_, _<_, _≤_, zero-le}
 use native.Mathlib.Omega.{arith}
 use lib.Dec.{eqb, leb, ltb}
 use lib.ListN.{length, take, drop, getD, set, replicate, length-append, length-replicate}
@@ -89,8 +89,8 @@ set-add (x ∷ xs) ys n v =
 added-first : (p : ℕ) (s : Slot) (workspace : List ℕ) (c : ℕ) → length (s .tuple) ≤ 8 → added-at p (words-of-slot s ++ workspace) 0 c ≡ words-of-slot (record { tuple = s .tuple; net = addM p (s .net) c }) ++ workspace
 unfolding added-at front
 added-first p s workspace c h =
-    ap (λ (l : List ℕ). set l 9 ((getD l 9 0 + c) % p)) (slot-is s workspace)
-    ∙ ap (λ (n : ℕ). set (front s ++ s .net ∷ workspace) 9 ((n + c) % p)) (getD-at (front s) (s .net) workspace 0 9 (front-long s h))
+    ap (λ (l : List ℕ). set l 9 (addM p (getD l 9 0) c)) (slot-is s workspace)
+    ∙ ap (λ (n : ℕ). set (front s ++ s .net ∷ workspace) 9 (addM p n c)) (getD-at (front s) (s .net) workspace 0 9 (front-long s h))
     ∙ set-at (front s) (s .net) workspace (addM p (s .net) c) 9 (front-long s h)
     ∙ sym (slot-is (record { tuple = s .tuple; net = addM p (s .net) c }) workspace)
 
@@ -98,9 +98,9 @@ added-later : (p : ℕ) (xs workspace : List ℕ) (k c : ℕ) → length xs ≡ 
 unfolding added-at
 added-later p xs workspace k c h =
     let a : slot-words * suc k + net-word ≡ length xs + (slot-words * k + net-word) = omega arith in
-    ap (λ (n : ℕ). set (xs ++ workspace) n ((getD (xs ++ workspace) n 0 + c) % p)) a
-    ∙ ap (λ (v : ℕ). set (xs ++ workspace) (length xs + (slot-words * k + net-word)) ((v + c) % p)) (getD-append-add xs workspace (slot-words * k + net-word) 0)
-    ∙ set-add xs workspace (slot-words * k + net-word) ((getD workspace (slot-words * k + net-word) 0 + c) % p)
+    ap (λ (n : ℕ). set (xs ++ workspace) n (addM p (getD (xs ++ workspace) n 0) c)) a
+    ∙ ap (λ (v : ℕ). set (xs ++ workspace) (length xs + (slot-words * k + net-word)) (addM p v c)) (getD-append-add xs workspace (slot-words * k + net-word) 0)
+    ∙ set-add xs workspace (slot-words * k + net-word) (addM p (getD workspace (slot-words * k + net-word) 0) c)
 
 -- a tuple that has a slot: its net grows, and nothing else changes
 pub entered-found : (p : ℕ) (ss : List Slot) (e : Entry) (rest : List ℕ) → Fit ss → find-slot (flatMap words-of-slot ss ++ rest) (e .tuple) 0 (length ss) < length ss

@@ -2,14 +2,14 @@
 use mathlib.Core.Path.{_≡_, refl, sym, ap, _∙_}
 use mathlib.Core.Bool.{Bool, true, false, cond, _||_, true≢false}
 use mathlib.Core.List.{List, [], _∷_, _++_, map, List·Memᴰ, List·Memᴰ·head, List·Memᴰ·tail}
-use Prim.Native.Nat.{ℕ, zero, _+_, _%_, _<_}
-use native.Mathlib.Nat.{mod-lt, mod-eq-of-lt, add-zero, zero-add}
+use Prim.Native.Nat.{ℕ, zero, _<_}
 use lib.Dec.{eqb}
 use borrow.Author.Tests.{eqb-true}
 use Rattle.lists.specs.Same.{same-list}
 use Rattle.lists.specs.laws.Same.{same-list-eq, same-list-refl}
 use Rattle.lists.specs.Fold.{fold}
 use Rattle.field.specs.Word.{addM}
+use Rattle.field.specs.laws.Word.{addM-below, addM-zero, zero-addM}
 use Rattle.logup.specs.Ledger.{Entry, post}
 use Rattle.balance_slots.specs.Slots.{Slot, add-nonzero, add, slots}
 
@@ -67,8 +67,8 @@ add-nonzero-held : (p : ℕ) (ss : List Slot) (e : Entry) (l : List ℕ) → e .
 unfolding add-nonzero held
 add-nonzero-held p [] e l h = go (same-list (e .tuple) l)
   where
-    go : (b : Bool) → cond b (e .count) 0 ≡ cond b ((0 + e .count) % p) 0
-    go true = sym (ap (λ (n : ℕ). n % p) (zero-add (e .count)) ∙ mod-eq-of-lt h)
+    go : (b : Bool) → cond b (e .count) 0 ≡ cond b (addM p 0 (e .count)) 0
+    go true = sym (zero-addM p (e .count) h)
     go false = refl
 add-nonzero-held p (s ∷ ss) e l h = go (same-list (s .tuple) (e .tuple)) refl (add-nonzero-held p ss e l h)
   where
@@ -97,7 +97,7 @@ unfolding add post
 add-held p z ss e l s h = go (eqb (e .count) 0) refl (same-list (e .tuple) l) (add-nonzero-held p ss e l h)
   where
     skipped : (c : Bool) → e .count ≡ 0 → held ss l ≡ cond c (addM p (held ss l) (e .count)) (held ss l)
-    skipped true q = sym (ap (λ (n : ℕ). (held ss l + n) % p) q ∙ ap (λ (n : ℕ). n % p) (add-zero (held ss l)) ∙ mod-eq-of-lt (held-below p z ss l s))
+    skipped true q = sym (ap (addM p (held ss l)) q ∙ addM-zero p (held ss l) (held-below p z ss l s))
     skipped false q = refl
 
     go : (b : Bool) → eqb (e .count) 0 ≡ b → (c : Bool) → held (add-nonzero p ss e) l ≡ cond c (addM p (held ss l) (e .count)) (held ss l)
@@ -123,7 +123,7 @@ add-nonzero-sound p z [] e h s = (h, refl, tt)
 add-nonzero-sound p z (u ∷ ss) e h s = go (same-list (u .tuple) (e .tuple)) refl (add-nonzero-sound p z ss e h (s .2))
   where
     go : (b : Bool) → same-list (u .tuple) (e .tuple) ≡ b → Sound p (add-nonzero p ss e) → Sound p (cond b (record { tuple = u .tuple; net = addM p (u .net) (e .count) } ∷ ss) (u ∷ add-nonzero p ss e))
-    go true q ih = (mod-lt (u .net + e .count) z, s .1, s .2)
+    go true q ih = (addM-below p z (u .net) (e .count), s .1, s .2)
     go false q ih = (s .0, add-nonzero-absent p (u .tuple) ss e (s .1) (same-list-flip (u .tuple) (e .tuple) q), ih)
 
 add-sound : (p : ℕ) → 0 < p → (ss : List Slot) (e : Entry) → e .count < p → Sound p ss → Sound p (add p ss e)

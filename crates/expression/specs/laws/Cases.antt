@@ -7,6 +7,7 @@ use Rattle.lists.specs.Count.{every}
 use Rattle.lists.specs.Same.{same-list}
 use Rattle.lists.specs.Cases.{Case, hold}
 use Rattle.field.specs.Modulus.{babybear}
+use Rattle.field.specs.Word.{addM, subM, negM, mulM}
 use Rattle.expression.specs.Words.{all-below, all-within}
 use Rattle.expression.specs.Limits.{cabinet}
 use Rattle.expression.specs.Node.{decode, node}
@@ -97,5 +98,5 @@ cases =
     ∷ []
 
 pub cases-hold : T (hold cases)
-unfolding every all-below all-within cabinet decode node row-of window node-value values row-values node-degree degrees traces-within traces-below constants-below nodes-known degrees-low same-list
+unfolding addM subM negM mulM every all-below all-within cabinet decode node row-of window node-value values row-values node-degree degrees traces-within traces-below constants-below nodes-known degrees-low same-list
 cases-hold = tt

@@ -2,15 +2,14 @@
 use mathlib.Core.Path.{_≡_, refl, ap, _∙_}
 use mathlib.Core.Bool.{Bool, true, false, not}
 use mathlib.Core.List.{List, [], _∷_, _++_}
-use Prim.Native.Nat.{ℕ, zero, suc, _+_, _*_, _-_, _<_, _%_}
-use native.Mathlib.Nat.{mod-lt}
+use Prim.Native.Nat.{ℕ, zero, suc, _+_, _<_, _%_}
 use native.Mathlib.Numerals.{add-one}
 use native.Mathlib.Omega.{arith}
 use lib.Dec.{eqb}
 use lib.ListN.{length, take, replicate, length-append}
 use lib.Seq.{take-at}
 use borrow.Author.Tests.{ltb-true}
-use Rattle.field.specs.Word.{negM}
+use Rattle.field.specs.laws.Word.{addM-below, subM-below, negM-below, mulM-below}
 use Rattle.lists.specs.laws.Tests.{every-true}
 use Rattle.expression.specs.Words.{word}
 use Rattle.expression.specs.Node.{node, node-count}
@@ -60,10 +59,10 @@ node-below p v vals (PublicValue a) l m q u b k = u .each a
 node-below p v vals FirstRow l m q u b k = bit-below p (eqb (v .row) 0) l
 node-below p v vals LastRow l m q u b k = bit-below p (eqb (v .row + 1) (v .height)) l
 node-below p v vals Transition l m q u b k = bit-below p (not (eqb (v .row + 1) (v .height))) l
-node-below p v vals (Sum a c) l m q u b k = mod-lt (word vals a + word vals c) (omega arith)
-node-below p v vals (Difference a c) l m q u b k = mod-lt (word vals a + negM p (word vals c)) (omega arith)
-node-below p v vals (Product a c) l m q u b k = mod-lt (word vals a * word vals c) (omega arith)
-node-below p v vals (Negation a) l m q u b k = mod-lt (p - word vals a % p) (omega arith)
+node-below p v vals (Sum a c) l m q u b k = addM-below p (omega arith) (word vals a) (word vals c)
+node-below p v vals (Difference a c) l m q u b k = subM-below p (omega arith) (word vals a) (word vals c)
+node-below p v vals (Product a c) l m q u b k = mulM-below p (omega arith) (word vals a) (word vals c)
+node-below p v vals (Negation a) l m q u b k = negM-below p (omega arith) (word vals a)
 node-below p v vals Unknown l m q u b k = omega arith
 
 pub values-below : (p : ℕ) (v : Window) (nodes : List ℕ) (n : ℕ) → 2 < p → ((o a : ℕ) → word (v .main o) a < p) → ((o a : ℕ) → word (v .preprocessed o) a < p)

@@ -1,13 +1,11 @@
 -- The worked cases of SPECIFICATION, section 12.1, that are about the field alone, as one table with one theorem.
-use mathlib.Core.Bool.{Bool, true, false, cond, _&&_}
 use mathlib.Core.List.{List, [], _∷_}
-use Prim.Native.Nat.{ℕ}
-use lib.Dec.{eqb, T}
+use lib.Dec.{T}
 use Rattle.lists.specs.Same.{same-list}
 use Rattle.lists.specs.Cases.{Case, hold}
 use Rattle.algebra.specs.Power.{powM}
-use Rattle.field.specs.Word.{inverse1}
-use Rattle.field.specs.Element.{lift, is-zero, add4, sub4, mul4, conjugate, conjugate2, norm2, norm, inverse4}
+use Rattle.field.specs.Word.{addM, negM, subM, mulM, inverse1}
+use Rattle.field.specs.Element.{lift, add4, sub4, mul4, conjugate, conjugate2, norm2, norm, inverse4}
 use Rattle.field.specs.Modulus.{babybear, babybear-w}
 
 abbrev pub cases : List Case
@@ -23,5 +21,5 @@ cases =
     ∷ []
 
 pub cases-hold : T (hold cases)
-unfolding powM inverse1 add4 sub4 mul4 conjugate conjugate2 norm2 norm inverse4 same-list
+unfolding powM addM negM subM mulM inverse1 add4 sub4 mul4 conjugate conjugate2 norm2 norm inverse4 same-list
 cases-hold = tt

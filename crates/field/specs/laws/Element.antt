@@ -2,34 +2,68 @@
 use mathlib.Core.Path.{_≡_, refl, sym, ap, ap₂, _∙_}
 use mathlib.Core.List.{List, [], _∷_}
 use Prim.Native.Nat.{ℕ, zero, suc, _+_, _*_, _-_, _<_, _%_}
-use native.Mathlib.Nat.{mod-lt, mod-eq-of-lt, zero-mod, mul-zero}
+use native.Mathlib.Nat.{mod-lt, zero-mod, mul-one}
 use native.Mathlib.Omega.{arith}
-use lib.ListN.{getD}
-use Rattle.algebra.specs.Ring.{CRing, Ops, ops, quartic}
-use Rattle.algebra.specs.Field.{Field}
-use Rattle.algebra.specs.laws.Solve.{E, O, I, X, _⊕_, _⊗_, ⊝_}
+use lib.ListN.{length}
+use Rattle.lists.specs.Count.{total}
+use Rattle.algebra.specs.Ring.{CRing, Ops, quartic}
+use Rattle.algebra.specs.laws.Solve.{O, I, X, _⊗_}
 use Rattle.algebra.specs.laws.Quadratic.{Es}
 use Rattle.algebra.specs.laws.Quartic.{Four, solve4}
-use Rattle.field.specs.Word.{addM, subM, mulM, negM}
+use Rattle.field.specs.Word.{addM, mulM}
 use Rattle.field.specs.Element.{at, Word4, lift, zero4, one4, add4, sub4, neg4, mul4, scale4, power4, sum4, product4}
 use Rattle.field.specs.Modulus.{Certificate}
+use Rattle.field.specs.laws.Word.{addM-below, subM-below, negM-below, mulM-below, addM-zero, addM-sum, mulM-zero, zero-mulM, mulM-mod, mulM-added}
 use Rattle.field.specs.laws.Ring.{El, Fp, mk}
-use Rattle.field.specs.laws.Extension.{K, h, F1}
-use Rattle.field.specs.laws.Homomorphism.{el, el-add, el-mul, el-neg, el-sub, el-same, KEl, four, mk-mul, mk-mod}
+use Rattle.field.specs.laws.Extension.{K, h}
+use Rattle.field.specs.laws.Homomorphism.{el, el-add, el-mul, el-neg, el-sub, el-same, KEl, four, mk-mul, mk-mod, ring4, quadruple, quadruple-mul, quadruple-same}
+use Rattle.field.specs.laws.Slice.{four-words}
 
--- every result is four words below p
+-- every result is four words
+module _ (p : ℕ) where
+  pub four-add4 : (a b : List ℕ) → length (add4 p a b) ≡ 4
+  unfolding add4
+  four-add4 a b = refl
+
+  pub four-sub4 : (a b : List ℕ) → length (sub4 p a b) ≡ 4
+  unfolding sub4
+  four-sub4 a b = refl
+
+  pub four-neg4 : (a : List ℕ) → length (neg4 p a) ≡ 4
+  unfolding neg4
+  four-neg4 a = refl
+
+  pub four-mul4 : (w : ℕ) (a b : List ℕ) → length (mul4 p w a b) ≡ 4
+  unfolding mul4
+  four-mul4 w a b = refl
+
+  pub four-scale4 : (z : ℕ) (a : List ℕ) → length (scale4 p z a) ≡ 4
+  unfolding scale4
+  four-scale4 z a = refl
+
+  pub four-sum4 : (f : ℕ → List ℕ) (n : ℕ) → length (sum4 p f n) ≡ 4
+  unfolding sum4
+  four-sum4 f zero = refl
+  four-sum4 f (suc n) = four-add4 (sum4 p f n) (f n)
+
+  pub four-product4 : (w : ℕ) (f : ℕ → List ℕ) (n : ℕ) → length (product4 p w f n) ≡ 4
+  unfolding product4
+  four-product4 w f zero = refl
+  four-product4 w f (suc n) = four-mul4 w (product4 p w f n) (f n)
+
+-- which are below p
 module _ (p : ℕ) (pos : 0 < p) where
   pub word-add4 : (a b : List ℕ) → Word4 p (add4 p a b)
   unfolding add4
-  word-add4 a b = record { w0 = mod-lt _ pos; w1 = mod-lt _ pos; w2 = mod-lt _ pos; w3 = mod-lt _ pos }
+  word-add4 a b = record { w0 = addM-below p pos _ _; w1 = addM-below p pos _ _; w2 = addM-below p pos _ _; w3 = addM-below p pos _ _ }
 
   pub word-sub4 : (a b : List ℕ) → Word4 p (sub4 p a b)
   unfolding sub4
-  word-sub4 a b = record { w0 = mod-lt _ pos; w1 = mod-lt _ pos; w2 = mod-lt _ pos; w3 = mod-lt _ pos }
+  word-sub4 a b = record { w0 = subM-below p pos _ _; w1 = subM-below p pos _ _; w2 = subM-below p pos _ _; w3 = subM-below p pos _ _ }
 
   pub word-neg4 : (a : List ℕ) → Word4 p (neg4 p a)
   unfolding neg4
-  word-neg4 a = record { w0 = mod-lt _ pos; w1 = mod-lt _ pos; w2 = mod-lt _ pos; w3 = mod-lt _ pos }
+  word-neg4 a = record { w0 = negM-below p pos _; w1 = negM-below p pos _; w2 = negM-below p pos _; w3 = negM-below p pos _ }
 
   pub word-mul4 : (w : ℕ) (a b : List ℕ) → Word4 p (mul4 p w a b)
   unfolding mul4
@@ -37,10 +71,79 @@ module _ (p : ℕ) (pos : 0 < p) where
 
   pub word-scale4 : (z : ℕ) (a : List ℕ) → Word4 p (scale4 p z a)
   unfolding scale4
-  word-scale4 z a = record { w0 = mod-lt _ pos; w1 = mod-lt _ pos; w2 = mod-lt _ pos; w3 = mod-lt _ pos }
+  word-scale4 z a = record { w0 = mulM-below p pos _ _; w1 = mulM-below p pos _ _; w2 = mulM-below p pos _ _; w3 = mulM-below p pos _ _ }
 
   pub word-lift : (a : ℕ) → a < p → Word4 p (lift a)
   word-lift a l = record { w0 = l; w1 = pos; w2 = pos; w3 = pos }
+
+  pub word-sum4 : (f : ℕ → List ℕ) (n : ℕ) → Word4 p (sum4 p f n)
+  unfolding sum4
+  word-sum4 f zero = word-lift 0 pos
+  word-sum4 f (suc n) = word-add4 (sum4 p f n) (f n)
+
+  pub word-product4 : (w : ℕ) (f : ℕ → List ℕ) (n : ℕ) → 1 < p → Word4 p (product4 p w f n)
+  unfolding product4
+  word-product4 w f zero h = word-lift 1 h
+  word-product4 w f (suc n) h = word-mul4 w (product4 p w f n) (f n)
+
+-- a sum is, word by word, the sum of the words modulo p
+pub sum4-words : (p : ℕ) (f : ℕ → List ℕ) (n : ℕ)
+    → sum4 p f n ≡ (total (λ i. at (f i) 0) n % p) ∷ (total (λ i. at (f i) 1) n % p) ∷ (total (λ i. at (f i) 2) n % p) ∷ (total (λ i. at (f i) 3) n % p) ∷ []
+unfolding sum4 total add4
+sum4-words p f zero = ap (λ (n : ℕ). n ∷ n ∷ n ∷ n ∷ []) (sym (zero-mod p))
+sum4-words p f (suc n) = ap (λ (a : List ℕ). add4 p a (f n)) (sum4-words p f n) ∙ (λ k. word 0 k ∷ word 1 k ∷ word 2 k ∷ word 3 k ∷ [])
+  where
+    word : (j : ℕ) → addM p (total (λ i. at (f i) j) n % p) (at (f n) j) ≡ (total (λ i. at (f i) j) n + at (f n) j) % p
+    word j = addM-sum p (total (λ i. at (f i) j) n) (at (f n) j)
+
+-- a word times an element, where either is 0 or the element is 1, and where the word is reduced first
+module _ (p : ℕ) where
+  pub scale4-zero : (z : ℕ) → scale4 p z zero4 ≡ zero4
+  unfolding scale4
+  scale4-zero z = ap (λ (n : ℕ). n ∷ n ∷ n ∷ n ∷ []) (mulM-zero p z)
+
+  pub zero-scale4 : (a : List ℕ) → scale4 p 0 a ≡ zero4
+  unfolding scale4
+  zero-scale4 a = λ j. zero-mulM p (at a 0) j ∷ zero-mulM p (at a 1) j ∷ zero-mulM p (at a 2) j ∷ zero-mulM p (at a 3) j ∷ []
+
+  pub scale4-one : (z : ℕ) → scale4 p z one4 ≡ lift (z % p)
+  unfolding scale4 mulM
+  scale4-one z = λ j. (mul-one z j) % p ∷ mulM-zero p z j ∷ mulM-zero p z j ∷ mulM-zero p z j ∷ []
+
+  pub scale4-mod : (z : ℕ) (a : List ℕ) → scale4 p (z % p) a ≡ scale4 p z a
+  unfolding scale4
+  scale4-mod z a = λ j. mulM-mod p z (at a 0) j ∷ mulM-mod p z (at a 1) j ∷ mulM-mod p z (at a 2) j ∷ mulM-mod p z (at a 3) j ∷ []
+
+  -- four numbers modulo p, to which a word times an element is added: they may be reduced after it
+  pub scale4-added : (s0 s1 s2 s3 z : ℕ) (a : List ℕ) {m0 m1 m2 m3 : ℕ} → m0 ≡ z * at a 0 → m1 ≡ z * at a 1 → m2 ≡ z * at a 2 → m3 ≡ z * at a 3
+      → (s0 + m0) % p ∷ (s1 + m1) % p ∷ (s2 + m2) % p ∷ (s3 + m3) % p ∷ [] ≡ add4 p ((s0 % p) ∷ (s1 % p) ∷ (s2 % p) ∷ (s3 % p) ∷ []) (scale4 p z a)
+  unfolding add4 scale4
+  scale4-added s0 s1 s2 s3 z a e0 e1 e2 e3 =
+      (λ j. (s0 + e0 j) % p ∷ (s1 + e1 j) % p ∷ (s2 + e2 j) % p ∷ (s3 + e3 j) % p ∷ [])
+      ∙ (λ j. mulM-added p s0 z (at a 0) j ∷ mulM-added p s1 z (at a 1) j ∷ mulM-added p s2 z (at a 2) j ∷ mulM-added p s3 z (at a 3) j ∷ [])
+
+-- Quadruples with X⁴ = w are a ring for every w.
+module _ (p w : ℕ) (pos : 0 < p) where
+  pub product-comm : (a b : List ℕ) → mul4 p w a b ≡ mul4 p w b a
+  unfolding mul4
+  product-comm a b =
+      quadruple-same p w pos (mul4 p w a b) (mul4 p w b a) (word-mul4 p pos w a b) (word-mul4 p pos w b a)
+      (quadruple-mul p w pos a b ∙ ring4 p w pos .mul-comm (quadruple p w pos a) (quadruple p w pos b) ∙ sym (quadruple-mul p w pos b a))
+
+  pub product-assoc : (a b c : List ℕ) → mul4 p w (mul4 p w a b) c ≡ mul4 p w a (mul4 p w b c)
+  unfolding mul4
+  product-assoc a b c =
+      let q : List ℕ → ring4 p w pos .El = quadruple p w pos in
+      quadruple-same p w pos (mul4 p w (mul4 p w a b) c) (mul4 p w a (mul4 p w b c)) (word-mul4 p pos w (mul4 p w a b) c) (word-mul4 p pos w a (mul4 p w b c))
+      (quadruple-mul p w pos (mul4 p w a b) c ∙ ap (λ (x : ring4 p w pos .El). ring4 p w pos .mul x (q c)) (quadruple-mul p w pos a b)
+      ∙ ring4 p w pos .mul-assoc (q a) (q b) (q c) ∙ ap (ring4 p w pos .mul (q a)) (sym (quadruple-mul p w pos b c)) ∙ sym (quadruple-mul p w pos a (mul4 p w b c)))
+
+  -- an element of four words below p, times one
+  pub product-one : (a : List ℕ) → length a ≡ 4 → Word4 p a → mul4 p w a one4 ≡ a
+  unfolding mul4
+  product-one a l k =
+      quadruple-same p w pos (mul4 p w a one4) a (word-mul4 p pos w a one4) k (quadruple-mul p w pos a one4 ∙ ring4 p w pos .mul-u (quadruple p w pos a))
+      ∙ four-words a l
 
 -- sums and products that agree term by term
 pub sum4-cong : (p : ℕ) (f g : ℕ → List ℕ) (n : ℕ) → ((i : ℕ) → i < n → f i ≡ g i) → sum4 p f n ≡ sum4 p g n
@@ -84,17 +187,10 @@ module _ (p w : ℕ) (C : Certificate p w) where
       ∙ R .add-assoc (el p w C a) (el p w C b) (el p w C c) ∙ ap (R .add (el p w C a)) (sym (el-add p w C b c)) ∙ sym (el-add p w C a (add4 p b c)))
 
   pub mul4-comm : (a b : List ℕ) → mul4 p w a b ≡ mul4 p w b a
-  unfolding mul4
-  mul4-comm a b =
-      el-same p w C (mul4 p w a b) (mul4 p w b a) (word-mul4 p pos w a b) (word-mul4 p pos w b a)
-      (el-mul p w C a b ∙ R .mul-comm (el p w C a) (el p w C b) ∙ sym (el-mul p w C b a))
+  mul4-comm a b = product-comm p w pos a b
 
   pub mul4-assoc : (a b c : List ℕ) → mul4 p w (mul4 p w a b) c ≡ mul4 p w a (mul4 p w b c)
-  unfolding mul4
-  mul4-assoc a b c =
-      el-same p w C (mul4 p w (mul4 p w a b) c) (mul4 p w a (mul4 p w b c)) (word-mul4 p pos w (mul4 p w a b) c) (word-mul4 p pos w a (mul4 p w b c))
-      (el-mul p w C (mul4 p w a b) c ∙ ap (λ (x : KEl p w C). R .mul x (el p w C c)) (el-mul p w C a b)
-      ∙ R .mul-assoc (el p w C a) (el p w C b) (el p w C c) ∙ ap (R .mul (el p w C a)) (sym (el-mul p w C b c)) ∙ sym (el-mul p w C a (mul4 p w b c)))
+  mul4-assoc a b c = product-assoc p w pos a b c
 
   pub mul4-add : (a b c : List ℕ) → mul4 p w a (add4 p b c) ≡ add4 p (mul4 p w a b) (mul4 p w a c)
   unfolding mul4 add4
@@ -117,19 +213,16 @@ module _ (p w : ℕ) (C : Certificate p w) where
       (el-sub p w C a b ∙ ap (R .add (el p w C a)) (sym (el-neg p w C b)) ∙ sym (el-add p w C a (neg4 p b)))
 
   -- of four words below p
-  module _ (c0 c1 c2 c3 : ℕ) (k : Word4 p (c0 ∷ c1 ∷ c2 ∷ c3 ∷ [])) where
-    abbrev pub c : List ℕ
-    c = c0 ∷ c1 ∷ c2 ∷ c3 ∷ []
+  pub add4-zero : (a : List ℕ) → length a ≡ 4 → Word4 p a → add4 p a zero4 ≡ a
+  unfolding add4
+  add4-zero a l k =
+      el-same p w C (add4 p a zero4) a (word-add4 p pos a zero4) k (el-add p w C a zero4 ∙ R .add-z (el p w C a)) ∙ four-words a l
 
-    pub add4-zero : add4 p c zero4 ≡ c
-    unfolding add4
-    add4-zero =
-        el-same p w C (add4 p c zero4) c (word-add4 p pos c zero4) k (el-add p w C c zero4 ∙ R .add-z (el p w C c))
+  pub zero-add4 : (a : List ℕ) → length a ≡ 4 → Word4 p a → add4 p zero4 a ≡ a
+  zero-add4 a l k = add4-comm zero4 a ∙ add4-zero a l k
 
-    pub mul4-one : mul4 p w c one4 ≡ c
-    unfolding mul4
-    mul4-one =
-        el-same p w C (mul4 p w c one4) c (word-mul4 p pos w c one4) k (el-mul p w C c one4 ∙ R .mul-u (el p w C c))
+  pub mul4-one : (a : List ℕ) → length a ≡ 4 → Word4 p a → mul4 p w a one4 ≡ a
+  mul4-one a l k = product-one p w pos a l k
 
   -- a word times an element is the product with the word as an element
   pub scale4-is : (z : ℕ) (a : List ℕ) → scale4 p z a ≡ mul4 p w (lift z) a
@@ -142,14 +235,17 @@ module _ (p w : ℕ) (C : Certificate p w) where
       (X 1 ⊗ X 2, X 1 ⊗ X 3, X 1 ⊗ X 4, X 1 ⊗ X 5) (quartic Es (X 0) .mul (X 1, O, O, O) (X 2, X 3, X 4, X 5)) tt tt tt tt
       ∙ sym (el-mul p w C (lift z) a))
 
+  pub zero-mul4 : (a : List ℕ) → mul4 p w zero4 a ≡ zero4
+  zero-mul4 a = sym (scale4-is 0 a) ∙ zero-scale4 p a
+
   -- words are embedded: sums and products of words are those of the elements
   pub lift-add : (a b : ℕ) → lift (addM p a b) ≡ add4 p (lift a) (lift b)
   unfolding add4
-  lift-add a b = ap (λ (n : ℕ). addM p a b ∷ n ∷ n ∷ n ∷ []) (sym (zero-mod p))
+  lift-add a b = ap (λ (n : ℕ). addM p a b ∷ n ∷ n ∷ n ∷ []) (sym (addM-zero p 0 pos))
 
   pub lift-mul : (a b : ℕ) → lift (mulM p a b) ≡ mul4 p w (lift a) (lift b)
   unfolding scale4
-  lift-mul a b = ap (λ (n : ℕ). mulM p a b ∷ n ∷ n ∷ n ∷ []) (sym (zero-mod p) ∙ ap (λ (n : ℕ). n % p) (sym (mul-zero a))) ∙ scale4-is a (lift b)
+  lift-mul a b = ap (λ (n : ℕ). mulM p a b ∷ n ∷ n ∷ n ∷ []) (sym (mulM-zero p a)) ∙ scale4-is a (lift b)
 
   -- el takes powers to powers
   abbrev pub powerK : KEl p w C → ℕ → KEl p w C

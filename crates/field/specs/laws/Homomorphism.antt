@@ -4,15 +4,14 @@ use mathlib.Core.List.{List, [], _∷_}
 use Prim.Native.Nat.{ℕ, zero, suc, _+_, _*_, _-_, _<_, _%_}
 use native.Mathlib.Nat.{add-mod, mod-mod, mod-eq-of-lt}
 use lib.Dec.{T}
-use lib.ListN.{getD, length}
-use Rattle.algebra.specs.Ring.{CRing, Ops, ops, quartic}
-use Rattle.algebra.specs.Field.{Field}
+use lib.ListN.{getD}
+use Rattle.algebra.specs.Ring.{CRing, Ops, quartic}
 use Rattle.algebra.specs.laws.Remainder.{mul-mod-mod, mod-mul-mod}
 use Rattle.algebra.specs.laws.Solve.{E, O, I, X, _⊕_, _⊗_, ⊝_, solve, eval, same}
 use Rattle.algebra.specs.laws.Quadratic.{Es}
-use Rattle.algebra.specs.laws.Quartic.{Four, eval4}
+use Rattle.algebra.specs.laws.Quartic.{Four, Quartic}
 use Rattle.field.specs.Word.{addM, subM, mulM, negM}
-use Rattle.field.specs.Element.{at, Word4, lift, add4, sub4, neg4, mul4, scale4, conjugate, conjugate2}
+use Rattle.field.specs.Element.{at, Word4, add4, sub4, neg4, mul4}
 use Rattle.field.specs.Modulus.{Certificate}
 use Rattle.field.specs.laws.Ring.{El, Fp, mk, eq}
 use Rattle.field.specs.laws.Extension.{K, h}
@@ -67,12 +66,15 @@ module _ (p : ℕ) (h : 0 < p) where
   evalM ρ (⊝ a) = negM p (evalM ρ a)
 
   pub mk-add : (a b : ℕ) → mk p h (addM p a b) ≡ Fp p h .add (mk p h a) (mk p h b)
+  unfolding addM
   mk-add a b = mk-mod p h (a + b) ∙ eq p h (add-mod a b p)
 
   pub mk-mul : (a b : ℕ) → mk p h (mulM p a b) ≡ Fp p h .mul (mk p h a) (mk p h b)
+  unfolding mulM
   mk-mul a b = mk-mod p h (a * b) ∙ eq p h (sym (mul-mod-mod (a % p) b p ∙ mod-mul-mod a b p))
 
   pub mk-neg : (a : ℕ) → mk p h (negM p a) ≡ Fp p h .neg (mk p h a)
+  unfolding negM
   mk-neg a = mk-mod p h (p - a % p)
 
   pub homM : (ρ : List ℕ) (e : E) → mk p h (evalM ρ e) ≡ eval (Fp p h) (mks p h ρ) e
@@ -81,7 +83,7 @@ module _ (p : ℕ) (h : 0 < p) where
   homM ρ (X i) = get p h ρ i
   homM ρ (a ⊕ b) = mk-add (evalM ρ a) (evalM ρ b) ∙ ap₂ (Fp p h .add) (homM ρ a) (homM ρ b)
   homM ρ (a ⊗ b) = mk-mul (evalM ρ a) (evalM ρ b) ∙ ap₂ (Fp p h .mul) (homM ρ a) (homM ρ b)
-  homM ρ (⊝ a) = mk-mod p h (p - evalM ρ a % p) ∙ ap (Fp p h .neg) (homM ρ a)
+  homM ρ (⊝ a) = mk-neg (evalM ρ a) ∙ ap (Fp p h .neg) (homM ρ a)
 
 -- expressions for two elements, X 0 to X 3 and X 4 to X 7, with X 8 for w
 abbrev pub A : Four
@@ -90,27 +92,54 @@ A = (X 0, X 1, X 2, X 3)
 abbrev pub B : Four
 B = (X 4, X 5, X 6, X 7)
 
+-- Four words stand for a quadruple over the words. Quadruples with X⁴ = w are a ring for every p above 0 and every w.
+module _ (p w : ℕ) (h : 0 < p) where
+  abbrev pub ring4 : CRing
+  ring4 = Quartic (Fp p h) (mk p h w)
+
+  abbrev pub quadruple : List ℕ → ring4 .El
+  quadruple l = (mk p h (at l 0), mk p h (at l 1), mk p h (at l 2), mk p h (at l 3))
+
+  abbrev pub both : List ℕ → List ℕ → List ℕ
+  both a b = at a 0 ∷ at a 1 ∷ at a 2 ∷ at a 3 ∷ at b 0 ∷ at b 1 ∷ at b 2 ∷ at b 3 ∷ w ∷ []
+
+  pub four-paths : {a b c d a′ b′ c′ d′ : El p} → a ≡ a′ → b ≡ b′ → c ≡ c′ → d ≡ d′ → _≡_ {A = ring4 .El} (a, b, c, d) (a′, b′, c′, d′)
+  four-paths e f g k = λ i. (e i, f i, g i, k i)
+
+  -- each coefficient of the product, as it is computed, is that of the ring's product
+  pub quadruple-mul : (a b : List ℕ) → quadruple (mul4 p w a b) ≡ ring4 .mul (quadruple a) (quadruple b)
+  unfolding mul4
+  quadruple-mul a b =
+      let M : Four = quartic Es (X 8) .mul A B in
+      four-paths (by-poly p h (both a b) (M .0) (M .0) tt) (by-poly p h (both a b) (M .1) (M .1) tt)
+      (by-poly p h (both a b) (M .2) (M .2) tt) (by-poly p h (both a b) (M .3) (M .3) tt)
+
+  pub number-same : (m n : ℕ) → m < p → n < p → mk p h m ≡ mk p h n → m ≡ n
+  number-same m n k l e = sym (mod-eq-of-lt k) ∙ ap (λ (x : El p). x .0) e ∙ mod-eq-of-lt l
+
+  pub quadruple-same : (a b : List ℕ) → Word4 p a → Word4 p b → quadruple a ≡ quadruple b
+      → at a 0 ∷ at a 1 ∷ at a 2 ∷ at a 3 ∷ [] ≡ at b 0 ∷ at b 1 ∷ at b 2 ∷ at b 3 ∷ []
+  quadruple-same a b k l e =
+      λ j.
+      number-same (at a 0) (at b 0) (k .w0) (l .w0) (ap (λ (x : ring4 .El). x .0) e) j
+      ∷ number-same (at a 1) (at b 1) (k .w1) (l .w1) (ap (λ (x : ring4 .El). x .1) e) j
+      ∷ number-same (at a 2) (at b 2) (k .w2) (l .w2) (ap (λ (x : ring4 .El). x .2) e) j
+      ∷ number-same (at a 3) (at b 3) (k .w3) (l .w3) (ap (λ (x : ring4 .El). x .3) e) j
+      ∷ []
+
 module _ (p w : ℕ) (C : Certificate p w) where
   abbrev pub KEl : Type 0
   KEl = K p w C .ring .El
 
   -- the element that four words stand for
   abbrev pub el : List ℕ → KEl
-  el l = (mk p (h p w C) (at l 0), mk p (h p w C) (at l 1), mk p (h p w C) (at l 2), mk p (h p w C) (at l 3))
-
-  abbrev pub both : List ℕ → List ℕ → List ℕ
-  both a b = at a 0 ∷ at a 1 ∷ at a 2 ∷ at a 3 ∷ at b 0 ∷ at b 1 ∷ at b 2 ∷ at b 3 ∷ w ∷ []
+  el l = quadruple p w (h p w C) l
 
   pub four : {a b c d a′ b′ c′ d′ : El p} → a ≡ a′ → b ≡ b′ → c ≡ c′ → d ≡ d′ → _≡_ {A = KEl} (a, b, c, d) (a′, b′, c′, d′)
-  four e f g k = λ i. (e i, f i, g i, k i)
+  four e f g k = four-paths p w (h p w C) e f g k
 
-  -- each coefficient of the product, as it is computed, is that of the field's product
   pub el-mul : (a b : List ℕ) → el (mul4 p w a b) ≡ K p w C .ring .mul (el a) (el b)
-  unfolding mul4
-  el-mul a b =
-      let M : Four = quartic Es (X 8) .mul A B in
-      four (by-poly p (h p w C) (both a b) (M .0) (M .0) tt) (by-poly p (h p w C) (both a b) (M .1) (M .1) tt)
-      (by-poly p (h p w C) (both a b) (M .2) (M .2) tt) (by-poly p (h p w C) (both a b) (M .3) (M .3) tt)
+  el-mul a b = quadruple-mul p w (h p w C) a b
 
   pub el-add : (a b : List ℕ) → el (add4 p a b) ≡ K p w C .ring .add (el a) (el b)
   unfolding add4
@@ -121,21 +150,15 @@ module _ (p w : ℕ) (C : Certificate p w) where
   el-neg a = four (mk-neg p (h p w C) _) (mk-neg p (h p w C) _) (mk-neg p (h p w C) _) (mk-neg p (h p w C) _)
 
   pub el-sub : (a b : List ℕ) → el (sub4 p a b) ≡ K p w C .ring .add (el a) (K p w C .ring .neg (el b))
-  unfolding sub4
+  unfolding sub4 subM
   el-sub a b =
-      four (homM p (h p w C) (both a b) (X 0 ⊕ ⊝ X 4)) (homM p (h p w C) (both a b) (X 1 ⊕ ⊝ X 5)) (homM p (h p w C) (both a b) (X 2 ⊕ ⊝ X 6))
-      (homM p (h p w C) (both a b) (X 3 ⊕ ⊝ X 7))
+      four (homM p (h p w C) (both p w (h p w C) a b) (X 0 ⊕ ⊝ X 4)) (homM p (h p w C) (both p w (h p w C) a b) (X 1 ⊕ ⊝ X 5)) (homM p (h p w C) (both p w (h p w C) a b) (X 2 ⊕ ⊝ X 6))
+      (homM p (h p w C) (both p w (h p w C) a b) (X 3 ⊕ ⊝ X 7))
 
   -- four words below p are told by the element that they stand for
   pub word-same : (m n : ℕ) → m < p → n < p → mk p (h p w C) m ≡ mk p (h p w C) n → m ≡ n
-  word-same m n k l e = sym (mod-eq-of-lt k) ∙ ap (λ (x : El p). x .0) e ∙ mod-eq-of-lt l
+  word-same m n k l e = number-same p w (h p w C) m n k l e
 
   pub el-same : (a b : List ℕ) → Word4 p a → Word4 p b → el a ≡ el b
       → at a 0 ∷ at a 1 ∷ at a 2 ∷ at a 3 ∷ [] ≡ at b 0 ∷ at b 1 ∷ at b 2 ∷ at b 3 ∷ []
-  el-same a b k l e =
-      λ j.
-      word-same (at a 0) (at b 0) (k .w0) (l .w0) (ap (λ (x : KEl). x .0) e) j
-      ∷ word-same (at a 1) (at b 1) (k .w1) (l .w1) (ap (λ (x : KEl). x .1) e) j
-      ∷ word-same (at a 2) (at b 2) (k .w2) (l .w2) (ap (λ (x : KEl). x .2) e) j
-      ∷ word-same (at a 3) (at b 3) (k .w3) (l .w3) (ap (λ (x : KEl). x .3) e) j
-      ∷ []
+  el-same a b k l e = quadruple-same p w (h p w C) a b k l e

@@ -1,15 +1,10 @@
 -- The inverse of a word and of an element is the only one whose product with it is one; that of zero is zero.
-use mathlib.Core.Path.{_≡_, refl, sym, ap, ap₂, _∙_, subst}
-use mathlib.Core.Logic.{_≢_, ⊎-elim}
-use mathlib.Core.List.{List, [], _∷_}
-use Prim.Native.Nat.{ℕ, zero, suc, pred, _+_, _*_, _-_, _^_, _<_, _≤_, _%_}
+use mathlib.Core.Path.{_≡_, sym, ap, _∙_, subst}
+use Prim.Native.Nat.{ℕ, suc, pred, _*_, _-_, _^_, _<_, _%_}
 use native.Mathlib.Omega.{arith}
 use native.Mathlib.Nat.{mod-lt, mod-eq-of-lt, mul-comm, mul-assoc, one-mul, pow-suc, zero-mod, mul-zero, lt-of-le-of-lt}
 use lib.Dec.{lit<}
-use Rattle.algebra.specs.Ring.{CRing}
-use Rattle.algebra.specs.Field.{Field}
 use Rattle.algebra.specs.Prime.{Prime}
-use Rattle.algebra.specs.Power.{powM}
 use Rattle.algebra.specs.laws.Remainder.{mul-mod-mod, mod-mul-mod}
 use Rattle.algebra.specs.laws.Fermat.{fermat}
 use Rattle.algebra.specs.laws.Power.{powM-ok}
@@ -34,6 +29,7 @@ module _ (p : ℕ) (m : Modulus p) where
       inverse1-is 0 ∙ ap (λ (n : ℕ). 0 ^ n % p) e ∙ ap (λ (n : ℕ). n % p) (pow-suc 0 (p - 3) ∙ mul-zero (0 ^ (p - 3))) ∙ zero-mod p
 
   pub inverse1-ok : Prime p → (a : ℕ) → 0 < a → a < p → mulM p a (inverse1 p a) ≡ 1
+  unfolding mulM
   inverse1-ok P a h l =
       let e : suc (p - 2) ≡ pred p = omega (arith, m .big) in
       ap (λ (n : ℕ). (a * n) % p) (inverse1-is a) ∙ mul-mod-mod a (a ^ (p - 2)) p
@@ -41,6 +37,7 @@ module _ (p : ℕ) (m : Modulus p) where
 
   -- r = r·(a·b) = (r·a)·b = b
   pub inverse-unique : (a b r : ℕ) → b < p → r < p → mulM p a b ≡ 1 → mulM p a r ≡ 1 → r ≡ b
+  unfolding mulM
   inverse-unique a b r k l e f =
       sym (mod-eq-of-lt l) ∙ ap (λ (n : ℕ). n % p) (omega arith) ∙ ap (λ (n : ℕ). (r * n) % p) (sym e) ∙ mul-mod-mod r (a * b) p
       ∙ ap (λ (n : ℕ). n % p) (sym (mul-assoc r a b) ∙ ap (λ (n : ℕ). n * b) (mul-comm r a)) ∙ sym (mod-mul-mod (a * r) b p)

@@ -9,14 +9,15 @@ use Rattle.algebra.specs.laws.Solve.{E, O, X, _⊕_, _⊗_, ⊝_, solve}
 use Rattle.algebra.specs.laws.Quadratic.{Es}
 use Rattle.algebra.specs.laws.Quartic.{Four, solve4, eval4}
 use Rattle.algebra.specs.laws.Extension.{no-zero-div}
-use Rattle.field.specs.Word.{addM, mulM, negM, inverse1}
+use Rattle.field.specs.Word.{addM, mulM, negM, dot, inverse1}
 use Rattle.field.specs.Element.{at, Word4, lift, zero4, one4, mul4, scale4, conjugate, conjugate2, norm2, norm, cofactor, inverse4}
 use Rattle.field.specs.Modulus.{Modulus, Certificate}
+use Rattle.field.specs.laws.Word.{addM-below}
 use Rattle.field.specs.laws.Ring.{El, Fp, mk}
 use Rattle.field.specs.laws.Extension.{K, h}
 use Rattle.field.specs.laws.Homomorphism.{KEl, el, el-mul, el-same, word-same, four, mk-neg, mk-mul, evalM, homM, mks}
 use Rattle.field.specs.laws.Element.{word-mul4, word-lift, mul4-assoc, mul4-comm, mul4-one, scale4-is, lift-mul}
-use Rattle.field.specs.laws.Reduction.{dot, dot-sums}
+use Rattle.field.specs.laws.Reduction.{dot-sums}
 use Rattle.field.specs.laws.Inverse.{inverse1-ok}
 
 -- expressions: X 0 for w
@@ -135,6 +136,10 @@ module _ (p w : ℕ) (C : Certificate p w) where
   unfolding norm mul4
   norm-below a = mod-lt _ (h p w C)
 
+  pub word-norm2 : (a : List ℕ) → Word4 p (norm2 p w a)
+  unfolding norm2
+  word-norm2 a = word-mul4 p (h p w C) w a (conjugate p a)
+
   pub word-inverse4 : (a : List ℕ) → Word4 p (inverse4 p w a)
   unfolding inverse4
   word-inverse4 a = word-mul4 p (h p w C) w (mul4 p w (conjugate p a) (conjugate2 p (norm2 p w a))) (lift (inverse1 p (norm p w a)))
@@ -157,14 +162,14 @@ module _ (p w : ℕ) (C : Certificate p w) where
 
   times-one : (b : List ℕ) → mul4 p w (inverse4 p w b) one4 ≡ inverse4 p w b
   unfolding inverse4 mul4
-  times-one b = mul4-one p w C _ _ _ _ (word-inverse4 b)
+  times-one b = mul4-one p w C (inverse4 p w b) refl (word-inverse4 b)
 
   -- r = r·(a·i) = (a·r)·i = i
   pub inverse4-unique : Modulus p → (a : List ℕ) (r0 r1 r2 r3 : ℕ) → Word4 p (r0 ∷ r1 ∷ r2 ∷ r3 ∷ []) → NonZero4 a
       → mul4 p w a (r0 ∷ r1 ∷ r2 ∷ r3 ∷ []) ≡ one4 → r0 ∷ r1 ∷ r2 ∷ r3 ∷ [] ≡ inverse4 p w a
   inverse4-unique m a r0 r1 r2 r3 k nz e =
       let r : List ℕ = r0 ∷ r1 ∷ r2 ∷ r3 ∷ [] in
-      sym (mul4-one p w C r0 r1 r2 r3 k) ∙ ap (mul4 p w r) (sym (inverse4-ok m a nz)) ∙ sym (mul4-assoc p w C r a (inverse4 p w a))
+      sym (mul4-one p w C r refl k) ∙ ap (mul4 p w r) (sym (inverse4-ok m a nz)) ∙ sym (mul4-assoc p w C r a (inverse4 p w a))
       ∙ ap (λ (x : List ℕ). mul4 p w x (inverse4 p w a)) (mul4-comm p w C r a ∙ e) ∙ mul4-comm p w C one4 (inverse4 p w a) ∙ times-one a
 
   -- the cofactor of zero is zero
@@ -195,16 +200,12 @@ module _ (p w : ℕ) (C : Certificate p w) where
     abbrev pub hi : ℕ
     hi = at (norm2 p w a) 2
 
-    norm2-word : Word4 p (norm2 p w a)
-    unfolding norm2
-    norm2-word = word-mul4 p (h p w C) w a (conjugate p a)
-
     -- what the code computes of a coefficient of n0 + n1·X² is that coefficient
     pub norm2-lo : (v1 v2 m3 n : ℕ) → v1 ≡ mulM p w (at a 1) → v2 ≡ mulM p w (at a 2) → m3 ≡ negM p (at a 3)
         → n ≡ dot p (at a 0) (at a 0) v2 (at a 2) v1 m3 v1 m3 → n ≡ lo
     norm2-lo v1 v2 m3 n f1 f2 f3 f4 =
         f4 ∙ dot-sums p (at a 0) (at a 0) v2 (at a 2) v1 m3 v1 m3 ∙ (cc)
-        ∙ word-same p w C (evalM p (h p w C) (env a) E0) lo (mod-lt _ (h p w C)) (norm2-word .w0)
+        ∙ word-same p w C (evalM p (h p w C) (env a) E0) lo (addM-below p (h p w C) _ _) (word-norm2 a .w0)
         (homM p (h p w C) (env a) E0 ∙ solve R (ρ a) E0 (norm2E A .0) tt ∙ sym (ap (λ (x : KEl p w C). x .0) (el-norm2 a)))
       where
         E0 : E
@@ -214,7 +215,7 @@ module _ (p w : ℕ) (C : Certificate p w) where
         → n ≡ dot p (at a 0) (at a 2) (at a 0) (at a 2) (at a 1) m1 v3 m3 → n ≡ hi
     norm2-hi v3 m1 m3 n f1 f2 f3 f4 =
         f4 ∙ dot-sums p (at a 0) (at a 2) (at a 0) (at a 2) (at a 1) m1 v3 m3 ∙ (cc)
-        ∙ word-same p w C (evalM p (h p w C) (env a) E2) hi (mod-lt _ (h p w C)) (norm2-word .w2)
+        ∙ word-same p w C (evalM p (h p w C) (env a) E2) hi (addM-below p (h p w C) _ _) (word-norm2 a .w2)
         (homM p (h p w C) (env a) E2 ∙ solve R (ρ a) E2 (norm2E A .2) tt ∙ sym (ap (λ (x : KEl p w C). x .2) (el-norm2 a)))
       where
         E2 : E
@@ -241,7 +242,7 @@ module _ (p w : ℕ) (C : Certificate p w) where
     pub norm-by : (x y m : ℕ) → x ≡ lo → y ≡ hi → m ≡ addM p (mulM p x x) (mulM p (mulM p w y) (negM p y)) → m ≡ norm p w a
     norm-by x y m f1 f2 f3 =
         (cc)
-        ∙ word-same p w C (evalM p (h p w C) (env2 0) EN) (norm p w a) (mod-lt _ (h p w C)) (norm-below a)
+        ∙ word-same p w C (evalM p (h p w C) (env2 0) EN) (norm p w a) (addM-below p (h p w C) _ _) (norm-below a)
         (homM p (h p w C) (env2 0) EN ∙ solve R (ρ2 0) EN (normE N .0) tt
         ∙ sym
         (ap (λ (t : KEl p w C). t .0)
@@ -267,7 +268,7 @@ module _ (p w : ℕ) (C : Certificate p w) where
     cofactor-by x y i e0 e1 f0 f1 v2 v3 r0 r1 r2 r3 g1 g2 g4 g5 g6 g7 g8 g9 k0 k1 k2 k3 =
         (cc)
         ∙ el-same p w C (ev (R4 .0) ∷ ev (R4 .1) ∷ ev (R4 .2) ∷ ev (R4 .3) ∷ []) (mul4 p w (cofactor p w a) (lift i))
-        (record { w0 = mod-lt _ (h p w C); w1 = mod-lt _ (h p w C); w2 = mod-lt _ (h p w C); w3 = mod-lt _ (h p w C) }) (word-mul4 p (h p w C) w (cofactor p w a) (lift i))
+        (record { w0 = addM-below p (h p w C) _ _; w1 = addM-below p (h p w C) _ _; w2 = addM-below p (h p w C) _ _; w3 = addM-below p (h p w C) _ _ }) (word-mul4 p (h p w C) w (cofactor p w a) (lift i))
         (four p w C (homM p (h p w C) (env2 i) (R4 .0)) (homM p (h p w C) (env2 i) (R4 .1)) (homM p (h p w C) (env2 i) (R4 .2)) (homM p (h p w C) (env2 i) (R4 .3))
         ∙ solve4 R (ρ2 i) R4 (inverseE A N (X 7)) tt tt tt tt ∙ sym (el-cofactor2 i))
       where

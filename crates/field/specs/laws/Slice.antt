@@ -20,12 +20,15 @@ pub word-element : {p : ℕ} (l : List ℕ) (i : ℕ) → ((k : ℕ) → at l k 
 unfolding element
 word-element l i b = record { w0 = b (4 * i); w1 = b (4 * i + 1); w2 = b (4 * i + 2); w3 = b (4 * i + 3) }
 
--- an element is the four words that it has
+-- a list of four words is these four
+pub four-words : (l : List ℕ) → length l ≡ 4 → at l 0 ∷ at l 1 ∷ at l 2 ∷ at l 3 ∷ [] ≡ l
+four-words [] e = absurd (omega arith)
+four-words (w ∷ []) e = absurd (omega arith)
+four-words (w ∷ x ∷ []) e = absurd (omega arith)
+four-words (w ∷ x ∷ y ∷ []) e = absurd (omega arith)
+four-words (w ∷ x ∷ y ∷ z ∷ []) e = refl
+four-words (w ∷ x ∷ y ∷ z ∷ v ∷ l) e = absurd (omega arith)
+
 pub element-whole : (l : List ℕ) → length l ≡ 4 → element l 0 ≡ l
 unfolding element
-element-whole [] e = absurd (omega arith)
-element-whole (w ∷ []) e = absurd (omega arith)
-element-whole (w ∷ x ∷ []) e = absurd (omega arith)
-element-whole (w ∷ x ∷ y ∷ []) e = absurd (omega arith)
-element-whole (w ∷ x ∷ y ∷ z ∷ []) e = refl
-element-whole (w ∷ x ∷ y ∷ z ∷ v ∷ l) e = absurd (omega arith)
+element-whole l e = four-words l e

@@ -10,6 +10,7 @@ use Rattle.lists.specs.Count.{total, joined}
 use Rattle.lists.specs.laws.Count.{last-or-below, total-in}
 use Rattle.lists.specs.laws.Filled.{Filled}
 use Rattle.field.specs.Element.{at, element}
+use Rattle.field.specs.laws.Slice.{element-whole}
 
 pub joined-size : (f : ℕ → List ℕ) (len : ℕ → ℕ) (n : ℕ) → ((i : ℕ) → length (f i) ≡ len i) → length (joined f 0 n) ≡ total len n
 unfolding joined total
@@ -51,21 +52,11 @@ joined-element f len n i k h l t = λ j. word0 j ∷ word 1 (omega arith) j ∷ 
         let e : 4 * (total len i + k) ≡ total (λ i. 4 * len i) i + 4 * k = omega (arith, total-times 4 len i) in
         ap (at (joined f 0 n)) e ∙ joined-word f (λ i. 4 * len i) n i (4 * k) h l (omega arith)
 
--- an element is the four words that it has
-pub whole-element : (l : List ℕ) → length l ≡ 4 → element l 0 ≡ l
-unfolding element
-whole-element [] e = absurd (omega arith)
-whole-element (a ∷ []) e = absurd (omega arith)
-whole-element (a ∷ b ∷ []) e = absurd (omega arith)
-whole-element (a ∷ b ∷ c ∷ []) e = absurd (omega arith)
-whole-element (a ∷ b ∷ c ∷ d ∷ []) e = refl
-whole-element (a ∷ b ∷ c ∷ d ∷ x ∷ l) e = absurd (omega arith)
-
 -- element i of a list of elements
 pub element-of : (f : ℕ → List ℕ) (n i : ℕ) → ((i : ℕ) → length (f i) ≡ 4) → i < n → element (joined f 0 n) i ≡ f i
 element-of f n i h l =
     let e : i ≡ total (λ _. 1) i + 0 = omega (arith, total-same 1 i) in
-    ap (element (joined f 0 n)) e ∙ joined-element f (λ _. 1) n i 0 h l (omega arith) ∙ whole-element (f i) (h i)
+    ap (element (joined f 0 n)) e ∙ joined-element f (λ _. 1) n i 0 h l (omega arith) ∙ element-whole (f i) (h i)
 
 -- an element past what is written is as it was
 pub element-past : {d p b : List ℕ} (i : ℕ) → Filled d p (4 * i) b → element b i ≡ element d i

@@ -4,72 +4,42 @@ use mathlib.Core.Path.{_≡_, refl, sym, ap, ap₂, _∙_}
 use mathlib.Core.Logic.{_≢_}
 use mathlib.Core.Bool.{Bool, true, false, cond, true≢false}
 use mathlib.Core.List.{List, [], _∷_}
-use Prim.Native.Nat.{ℕ, zero, suc, _*_, _-_, _%_, _<_}
-use native.Mathlib.Nat.{mod-lt, mod-eq-of-lt, zero-mod, mul-zero, zero-mul, pos-of-ne-zero}
+use Prim.Native.Nat.{ℕ, zero, suc, _-_, _<_}
+use native.Mathlib.Nat.{pos-of-ne-zero}
 use native.Mathlib.Omega.{arith}
-use lib.Dec.{T, eqb, eqb→eq}
+use lib.Dec.{eqb}
 use lib.ListN.{length}
-use Rattle.algebra.specs.laws.Remainder.{mul-mod-mod, mod-mul-mod}
-use Rattle.lists.specs.laws.Count.{and-left, and-right, of-true, eqb-true, eqb-false, eq-of-eqb, ne-of-eqb}
+use Rattle.lists.specs.laws.Count.{of-true, eqb-true, eqb-false, eq-of-eqb, ne-of-eqb}
 use Rattle.field.specs.Modulus.{Modulus, Certificate}
 use Rattle.field.specs.Word.{mulM, inverse1}
-use Rattle.field.specs.Element.{at, Word4, lift, zero4, mul4, scale4, conjugate, norm2, norm, cofactor, inverse4, is-zero, element}
+use Rattle.field.specs.Element.{at, Word4, lift, zero4, mul4, scale4, norm2, norm, cofactor, inverse4, is-zero, element}
+use Rattle.field.specs.laws.Word.{mulM-below, mulM-comm, mulM-assoc, mulM-one, one-mulM, zero-mulM}
 use Rattle.field.specs.laws.Ring.{one≢zero}
 use Rattle.field.specs.laws.Extension.{h}
 use Rattle.field.specs.laws.Homomorphism.{el-same}
-use Rattle.field.specs.laws.Element.{word-lift, word-mul4}
+use Rattle.field.specs.laws.Zero.{zero-is-zero, zero-words}
+use Rattle.field.specs.laws.Element.{word-lift, scale4-zero, zero-scale4}
 use Rattle.field.specs.laws.Inverse.{inverse1-ok, inverse1-unique}
-use Rattle.field.specs.laws.Norm.{NonZero4, norm-nonzero, norm-below, cofactor-zero, inverse4-zero, quotient-by}
+use Rattle.field.specs.laws.Norm.{NonZero4, norm-nonzero, norm-below, word-norm2, cofactor-zero, inverse4-zero, quotient-by}
 use Rattle.field_batch.specs.inner.Quotients.{quotient, nonzero, factor, productM, kept, factor-from-last}
-
--- products modulo p, in another order
-triple : (a b c p : ℕ) → mulM p (mulM p a b) c ≡ (a * b * c) % p
-triple a b c p = mod-mul-mod (a * b) c p
-
-triple-right : (a b c p : ℕ) → mulM p a (mulM p b c) ≡ (a * (b * c)) % p
-triple-right a b c p = mul-mod-mod a (b * c) p
 
 -- v inverts the product of q and f: then v·q inverts f
 inverts-own : (q f v p : ℕ) → mulM p (mulM p q f) v ≡ 1 → mulM p f (mulM p v q) ≡ 1
-inverts-own q f v p e = triple-right f v q p ∙ ap (λ (n : ℕ). n % p) (omega arith) ∙ sym (triple q f v p) ∙ e
+inverts-own q f v p e =
+    mulM-comm p f (mulM p v q) ∙ mulM-assoc p v q f ∙ mulM-comm p v (mulM p q f) ∙ e
 
 -- and v·f inverts q
 pub inverts-rest : (q f v p : ℕ) → mulM p (mulM p q f) v ≡ 1 → mulM p q (mulM p v f) ≡ 1
-inverts-rest q f v p e = triple-right q v f p ∙ ap (λ (n : ℕ). n % p) (omega arith) ∙ sym (triple q f v p) ∙ e
+inverts-rest q f v p e = ap (mulM p q) (mulM-comm p v f) ∙ sym (mulM-assoc p q f v) ∙ e
 
 -- a factor of 1 changes nothing
-pub inverts-same : (q v p : ℕ) → mulM p (mulM p q 1) v ≡ 1 → mulM p q v ≡ 1
-inverts-same q v p e = ap (λ (n : ℕ). n % p) (omega arith) ∙ sym (triple q 1 v p) ∙ e
-
-is-zero-zero : is-zero zero4 ≡ true
-unfolding is-zero
-is-zero-zero = refl
-
--- four words that are tested to be 0
-zeros : (a0 a1 a2 a3 : ℕ) → T (is-zero (a0 ∷ a1 ∷ a2 ∷ a3 ∷ [])) → a0 ∷ a1 ∷ a2 ∷ a3 ∷ [] ≡ zero4
-unfolding is-zero
-zeros a0 a1 a2 a3 t =
-    let e0 : a0 ≡ 0 = eqb→eq a0 0 (search (and-left, and-right)) in
-    let e1 : a1 ≡ 0 = eqb→eq a1 0 (search (and-left, and-right)) in
-    let e2 : a2 ≡ 0 = eqb→eq a2 0 (search (and-left, and-right)) in
-    let e3 : a3 ≡ 0 = eqb→eq a3 0 (search (and-left, and-right)) in
-    λ j. e0 j ∷ e1 j ∷ e2 j ∷ e3 j ∷ []
-
-scale-zero : (p z : ℕ) → scale4 p z zero4 ≡ zero4
-unfolding scale4
-scale-zero p z = ap (λ (n : ℕ). n ∷ n ∷ n ∷ n ∷ []) (ap (λ (n : ℕ). n % p) (mul-zero z) ∙ zero-mod p)
-
-zero-scale : (p : ℕ) (a : List ℕ) → scale4 p 0 a ≡ zero4
-unfolding scale4
-zero-scale p a = λ j. nil (at a 0) j ∷ nil (at a 1) j ∷ nil (at a 2) j ∷ nil (at a 3) j ∷ []
-  where
-    nil : (n : ℕ) → (0 * n) % p ≡ 0
-    nil n = ap (λ (k : ℕ). k % p) (zero-mul n) ∙ zero-mod p
+pub inverts-same : (q v p : ℕ) → v < p → mulM p (mulM p q 1) v ≡ 1 → mulM p q v ≡ 1
+inverts-same q v p l e = ap (mulM p q) (sym (one-mulM p v l)) ∙ sym (mulM-assoc p q 1 v) ∙ e
 
 -- a quotient of 0 is 0
 pub quotient-none : (p w m : ℕ) (d : List ℕ) → m ≡ 0 → zero4 ≡ quotient p w m d
 unfolding quotient
-quotient-none p w m d e = sym (zero-scale p (inverse4 p w d)) ∙ ap (λ (n : ℕ). scale4 p n (inverse4 p w d)) (sym e)
+quotient-none p w m d e = sym (zero-scale4 p (inverse4 p w d)) ∙ ap (λ (n : ℕ). scale4 p n (inverse4 p w d)) (sym e)
 
 -- what is kept of a denominator that is needed
 pub kept-in : (p w m : ℕ) (d : List ℕ) (q : ℕ) → m ≢ 0 → kept p w m d q ≡ at (norm2 p w d) 0 ∷ at (norm2 p w d) 2 ∷ nonzero (norm p w d) ∷ q ∷ []
@@ -102,20 +72,20 @@ module _ (p w : ℕ) (C : Certificate p w) where
   factor-below m d = cond-below (eqb m 0) one-below (cond-below (eqb (norm p w d) 0) one-below (norm-below p w C d))
 
   pub kept-word : (m : ℕ) (d : List ℕ) (q : ℕ) → q < p → Word4 p (kept p w m d q)
-  unfolding kept norm2
+  unfolding kept
   kept-word m d q l =
-      let n : Word4 p (norm2 p w d) = word-mul4 p (h p w C) w d (conjugate p d) in
+      let n : Word4 p (norm2 p w d) = word-norm2 p w C d in
       record { w0 = cond-below (eqb m 0) (h p w C) (n .w0); w1 = cond-below (eqb m 0) (h p w C) (n .w2); w2 = factor-below m d; w3 = l }
 
   pub product-below : (f : ℕ → ℕ) (n : ℕ) → productM p f n < p
   unfolding productM
   product-below f zero = one-below
-  product-below f (suc n) = mod-lt _ (h p w C)
+  product-below f (suc n) = mulM-below p (h p w C) (productM p f n) (f n)
 
   -- four words that are not all 0
   some-word : (a0 a1 a2 a3 : ℕ) → Word4 p (a0 ∷ a1 ∷ a2 ∷ a3 ∷ []) → is-zero (a0 ∷ a1 ∷ a2 ∷ a3 ∷ []) ≡ false → NonZero4 p w C (a0 ∷ a1 ∷ a2 ∷ a3 ∷ [])
   some-word a0 a1 a2 a3 k e n =
-      true≢false (sym (ap is-zero (el-same p w C (a0 ∷ a1 ∷ a2 ∷ a3 ∷ []) zero4 k (word-lift p (h p w C) 0 (h p w C)) n) ∙ is-zero-zero) ∙ e)
+      true≢false (sym (ap is-zero (el-same p w C (a0 ∷ a1 ∷ a2 ∷ a3 ∷ []) zero4 k (word-lift p (h p w C) 0 (h p w C)) n) ∙ zero-is-zero) ∙ e)
 
   -- an element whose norm is 0 is 0
   norm-zero : (a0 a1 a2 a3 : ℕ) → Word4 p (a0 ∷ a1 ∷ a2 ∷ a3 ∷ []) → norm p w (a0 ∷ a1 ∷ a2 ∷ a3 ∷ []) ≡ 0 → a0 ∷ a1 ∷ a2 ∷ a3 ∷ [] ≡ zero4
@@ -125,7 +95,7 @@ module _ (p w : ℕ) (C : Certificate p w) where
       a = a0 ∷ a1 ∷ a2 ∷ a3 ∷ []
 
       go : (b : Bool) → is-zero a ≡ b → a ≡ zero4
-      go true t = zeros a0 a1 a2 a3 (of-true t)
+      go true t = let (e0, e1, e2, e3) = zero-words a (of-true t) in λ j. e0 j ∷ e1 j ∷ e2 j ∷ e3 j ∷ []
       go false t = absurd (norm-nonzero p w C a (some-word a0 a1 a2 a3 k t) e)
 
   -- v inverts the product of q and the factor of d: then m·v·q is m ÷ norm, and the cofactor times it is m ÷ d
@@ -144,18 +114,18 @@ module _ (p w : ℕ) (C : Certificate p w) where
       go true e =
           let z : d ≡ zero4 = norm-zero d0 d1 d2 d3 k (eq-of-eqb n 0 e) in
           ap (λ (x : List ℕ). mul4 p w (cofactor p w x) (lift t)) z ∙ cofactor-zero p w C t
-          ∙ sym (ap (λ (x : List ℕ). scale4 p m (inverse4 p w x)) z ∙ ap (scale4 p m) (inverse4-zero p w C) ∙ scale-zero p m)
+          ∙ sym (ap (λ (x : List ℕ). scale4 p m (inverse4 p w x)) z ∙ ap (scale4 p m) (inverse4-zero p w C) ∙ scale4-zero p m)
       go false e =
           let is : f ≡ n = ef ∙ ap (λ (b : Bool). cond b 1 n) e in
           let own : mulM p v q ≡ inverse1 p n =
-          inverse1-unique p o (C .prime) n (mulM p v q) (pos-of-ne-zero (ne-of-eqb n 0 e)) (norm-below p w C d) (mod-lt _ (h p w C))
+          inverse1-unique p o (C .prime) n (mulM p v q) (pos-of-ne-zero (ne-of-eqb n 0 e)) (norm-below p w C d) (mulM-below p (h p w C) v q)
           (inverts-own q n v p (ap (λ (x : ℕ). mulM p (mulM p q x) v) (sym is) ∙ ev)) in
           quotient-by p w C d m t (et ∙ ap (mulM p m) own)
 
   -- words that are not 0 have a product that is not 0
   module _ (o : Modulus p) where
     one-product : mulM p 1 1 ≡ 1
-    one-product = mod-eq-of-lt one-below
+    one-product = mulM-one p 1 one-below
 
     product-pos : (a b : ℕ) → (0 < a) × (a < p) → (0 < b) × (b < p) → 0 < mulM p a b
     product-pos a b (a0, al) (b0, bl) =
@@ -164,7 +134,7 @@ module _ (p w : ℕ) (C : Certificate p w) where
         one≢zero
         (sym
         (swap ∙ ap₂ (mulM p) (inverse1-ok p o (C .prime) a a0 al) (inverse1-ok p o (C .prime) b b0 bl) ∙ one-product)
-        ∙ ap (λ (n : ℕ). mulM p n (mulM p x y)) z ∙ ap (λ (n : ℕ). n % p) (zero-mul (mulM p x y)) ∙ zero-mod p))
+        ∙ ap (λ (n : ℕ). mulM p n (mulM p x y)) z ∙ zero-mulM p (mulM p x y)))
       where
         x : ℕ
         x = inverse1 p a
@@ -174,8 +144,8 @@ module _ (p w : ℕ) (C : Certificate p w) where
 
         swap : mulM p (mulM p a b) (mulM p x y) ≡ mulM p (mulM p a x) (mulM p b y)
         swap =
-            triple a b (mulM p x y) p ∙ mul-mod-mod (a * b) (x * y) p ∙ ap (λ (n : ℕ). n % p) (omega arith)
-            ∙ sym (triple a x (mulM p b y) p ∙ mul-mod-mod (a * x) (b * y) p)
+            mulM-assoc p a b (mulM p x y) ∙ ap (mulM p a) (sym (mulM-assoc p b x y) ∙ ap (λ (n : ℕ). mulM p n y) (mulM-comm p b x) ∙ mulM-assoc p x b y)
+            ∙ sym (mulM-assoc p a x (mulM p b y))
 
     factor-pos : (m : ℕ) (d : List ℕ) → 0 < factor p w m d
     unfolding factor

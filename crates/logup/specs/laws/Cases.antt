@@ -12,7 +12,7 @@ use Rattle.lists.specs.Count.{total, every, some-of, first, joined}
 use Rattle.lists.specs.Fold.{fold}
 use Rattle.lists.specs.Tab.{tab}
 use Rattle.lists.specs.Cases.{Case, hold}
-use Rattle.field.specs.Word.{inverse1}
+use Rattle.field.specs.Word.{addM, negM, subM, mulM, inverse1}
 use Rattle.field.specs.Element.{lift, add4, sub4, mul4, scale4, power4, sum4, product4, conjugate, conjugate2, norm2, norm, inverse4, is-zero, element}
 use Rattle.field.specs.Modulus.{babybear, babybear-w}
 use Rattle.expression.specs.Words.{word, all-below, all-within}
@@ -230,7 +230,7 @@ cases =
     ∷ []
 
 pub cases-hold : T (hold cases)
-unfolding powM inverse1 add4 sub4 mul4 scale4 power4 sum4 product4 conjugate conjugate2 norm2 norm inverse4 is-zero element fold tab total every
+unfolding powM addM negM subM mulM inverse1 add4 sub4 mul4 scale4 power4 sum4 product4 conjugate conjugate2 norm2 norm inverse4 is-zero element fold tab total every
     some-of first joined cabinet all-below all-within node decode row-of window node-value values row-values node-degree degrees traces-within
     nodes-within traces-fit nodes-fit traces-below constants-below nodes-known degrees-low name-start tuple-start multiplicity-start flag-start
     element-start tuple-width multiplicity-node flag-node tuple-nodes lookups-within lookups-fit sizes words-below known lengths-agree nodes-present

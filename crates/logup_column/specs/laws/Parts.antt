@@ -13,7 +13,8 @@ use Rattle.lists.specs.Count.{total, some-of}
 use Rattle.lists.specs.laws.Count.{total-le, total-in, total-one}
 use Rattle.lists.specs.laws.Parts.{part-length}
 use Rattle.lists.specs.laws.Sums.{total-cong}
-use Rattle.field.specs.Element.{add4, sum4, is-zero}
+use Rattle.field.specs.Element.{sum4, is-zero}
+use Rattle.field.specs.laws.Element.{sum4-cong}
 use Rattle.expression.specs.Words.{word}
 use Rattle.expression.specs.Values.{bit}
 use Rattle.lookup.specs.Lookups.{lookup-words, Lookups, lookup-count, lookup-word, exclusive, tuple-count, multiplicity-count, flag-count, tuple-start, multiplicity-start, flag-start, element-start, tuple-width, multiplicity-node, flag-node, tuple-nodes}
@@ -23,12 +24,7 @@ use Rattle.logup.specs.Tuple.{tuple, denominator, quotient4}
 use Rattle.logup.specs.Column.{Place, branches, multiplicity, flag, chosen, denom, used-denom, branch-fraction, branch-fault, additive-fraction, additive-fault, exclusive-fraction, exclusive-fault, fraction, fault}
 use Rattle.logup_column.specs.inner.Own.{Fits, slice, own-words, own-widths, own-multiplicities, own-flags, own-nodes, parted}
 
--- sums, tests and choices that agree term by term
-pub sum4-same : (p : ℕ) (f g : ℕ → List ℕ) (n : ℕ) → ((k : ℕ) → k < n → f k ≡ g k) → sum4 p f n ≡ sum4 p g n
-unfolding sum4
-sum4-same p f g zero e = refl
-sum4-same p f g (suc n) e = ap₂ (add4 p) (sum4-same p f g n (λ k h. e k (omega arith))) (e n (omega arith))
-
+-- tests and choices that agree term by term
 some-of-same : (f g : ℕ → Bool) (n : ℕ) → ((k : ℕ) → k < n → f k ≡ g k) → some-of f n ≡ some-of g n
 unfolding some-of
 some-of-same f g zero e = refl
@@ -56,7 +52,7 @@ module _ {p w : ℕ} {c d : Place} (s : Same p w c d) where
   unfolding additive-fraction
   additive-same =
       ap (sum4 p (λ k. quotient4 p w (multiplicity c k) (used-denom p w c k))) (s .counts)
-      ∙ sum4-same p (λ k. quotient4 p w (multiplicity c k) (used-denom p w c k)) (λ k. quotient4 p w (multiplicity d k) (used-denom p w d k)) (branches d)
+      ∙ sum4-cong p (λ k. quotient4 p w (multiplicity c k) (used-denom p w c k)) (λ k. quotient4 p w (multiplicity d k) (used-denom p w d k)) (branches d)
       (λ k h. ap₂ (quotient4 p w) (s .mults k h) (used-same k h))
 
   additive-fault-same : additive-fault p w c ≡ additive-fault p w d

@@ -3,9 +3,9 @@ use mathlib.Core.Path.{_≡_, refl, sym, ap, ap₂, _∙_}
 use mathlib.Core.Logic.{_≢_}
 use mathlib.Core.Bool.{Bool, true, false, cond, _||_, not, or-false}
 use mathlib.Core.Option.{Option, none, some, Option·some-ne-none, Option·some-injective}
-use mathlib.Core.List.{List, [], _∷_, _++_}
-use Prim.Native.Nat.{ℕ, zero, suc, _+_, _*_, _<_, _%_}
-use native.Mathlib.Nat.{zero-add, zero-mod, zero-mul}
+use mathlib.Core.List.{List, _++_}
+use Prim.Native.Nat.{ℕ, zero, suc, _+_, _<_}
+use native.Mathlib.Nat.{zero-add}
 use native.Mathlib.Omega.{arith}
 use lib.Dec.{eqb, ltb}
 use Rattle.lists.specs.Count.{total, some-of, joined}
@@ -13,25 +13,20 @@ use Rattle.lists.specs.Tab.{tab}
 use Rattle.lists.specs.laws.Tab.{tab-cong}
 use Rattle.lists.specs.laws.Count.{last-or-below, some-of-none, eqb-true, eqb-false, eq-of-eqb}
 use Rattle.field.specs.Modulus.{Certificate}
-use Rattle.field.specs.Element.{at, zero4, one4, add4, scale4, sum4, inverse4, is-zero}
-use Rattle.field.specs.laws.Element.{word-scale4, word-lift, add4-comm, add4-zero}
+use Rattle.field.specs.Element.{zero4, one4, add4, sum4, inverse4, is-zero}
+use Rattle.field.specs.laws.Zero.{one-not-zero}
+use Rattle.field.specs.laws.Element.{four-scale4, word-scale4, word-lift, zero-scale4, sum4-cong, add4-comm, add4-zero}
 use Rattle.field.specs.laws.Extension.{h}
 use Rattle.expression.specs.Values.{bit}
 use Rattle.logup.specs.Tuple.{quotient4}
 use Rattle.logup.specs.Column.{Place, branches, multiplicity, flag, chosen, denom, used-denom, branch-fraction, branch-fault, additive-fraction, additive-fault, exclusive-fraction, exclusive-fault, fraction, fault}
 use Rattle.logup_column.specs.inner.Own.{branch-code, faults}
 use Rattle.logup_column.specs.inner.Terms.{contributes-nothing, exclusive-lookup, multiplicity-by, denominator-by, branch-taken, term-multiplicity, term-denominator, term}
-use Rattle.logup_column.specs.laws.Parts.{Same, sum4-same, choice}
+use Rattle.logup_column.specs.laws.Parts.{Same, choice}
 
 quotient-zero : (p w : ℕ) (d : List ℕ) → quotient4 p w 0 d ≡ zero4
-unfolding quotient4 scale4
-quotient-zero p w d = λ j. nil (at i 0) j ∷ nil (at i 1) j ∷ nil (at i 2) j ∷ nil (at i 3) j ∷ []
-  where
-    i : List ℕ
-    i = inverse4 p w d
-
-    nil : (n : ℕ) → (0 * n) % p ≡ 0
-    nil n = ap (λ (k : ℕ). k % p) (zero-mul n) ∙ zero-mod p
+unfolding quotient4
+quotient-zero p w d = zero-scale4 p (inverse4 p w d)
 
 -- a number below n + 1 that is not n
 below-last : (P : ℕ → Type 0) (n j : ℕ) → j < suc n → (j ≡ n → P j) → (j < n → P j) → P j
@@ -43,13 +38,13 @@ module _ (p w : ℕ) (C : Certificate p w) (m : ℕ → ℕ) (d : ℕ → List �
   q k = quotient4 p w (m k) (d k)
 
   plus-zero : (k : ℕ) → add4 p (q k) zero4 ≡ q k
-  unfolding quotient4 scale4
-  plus-zero k = add4-zero p w C _ _ _ _ (word-scale4 p (h p w C) (m k) (inverse4 p w (d k)))
+  unfolding quotient4
+  plus-zero k = add4-zero p w C (q k) (four-scale4 p (m k) (inverse4 p w (d k))) (word-scale4 p (h p w C) (m k) (inverse4 p w (d k)))
 
   sum-none : (n : ℕ) → ((k : ℕ) → k < n → q k ≡ zero4) → sum4 p q n ≡ zero4
   unfolding sum4
   sum-none zero e = refl
-  sum-none (suc n) e = ap₂ (add4 p) (sum-none n (λ k l. e k (omega arith))) (e n (omega arith)) ∙ add4-zero p w C 0 0 0 0 (word-lift p (h p w C) 0 (h p w C))
+  sum-none (suc n) e = ap₂ (add4 p) (sum-none n (λ k l. e k (omega arith))) (e n (omega arith)) ∙ add4-zero p w C zero4 refl (word-lift p (h p w C) 0 (h p w C))
 
   sum-only : (j n : ℕ) → j < n → ((k : ℕ) → k < n → k ≢ j → q k ≡ zero4) → sum4 p q n ≡ q j
   unfolding sum4
@@ -77,10 +72,6 @@ chosen-below f (suc n) k e = go (eqb (f n) 1) e (λ q. chosen-below f n k q)
     go true q next = let e : n ≡ k = Option·some-injective n k q in omega arith
     go false q next = omega (arith, next q)
 
-is-zero-one : is-zero one4 ≡ false
-unfolding is-zero
-is-zero-one = refl
-
 module _ (p w : ℕ) (c : Place) where
   abbrev by : Bool → ℕ → ℕ → List ℕ
   by ex branch k = quotient4 p w (multiplicity-by c ex branch k) (denominator-by p w c ex branch k)
@@ -99,7 +90,7 @@ module _ (p w : ℕ) (c : Place) where
   other-nothing branch k n =
       let e : eqb branch (k + 1) ≡ false = eqb-false n in (
         ap (λ (b : Bool). quotient4 p w (cond (not b) 0 (multiplicity c k)) (cond (not b) one4 (denom p w c k))) e ∙ quotient-zero p w one4,
-        ap (λ (b : Bool). is-zero (cond (not b) one4 (denom p w c k))) e ∙ is-zero-one,
+        ap (λ (b : Bool). is-zero (cond (not b) one4 (denom p w c k))) e ∙ one-not-zero,
       )
 
   -- the branch chosen
@@ -131,7 +122,7 @@ module _ (p w : ℕ) (c : Place) where
 
       go : (b : Bool) → sum4 p (by b (cond b (branch-code o) 0)) (branches c) ≡ cond b (branch-fraction p w c o) (sum4 p (λ k. quotient4 p w (multiplicity c k) (used-denom p w c k)) (branches c))
       go true = branch-sum C o (branches c) (chosen-below (flag c) (branches c))
-      go false = sum4-same p (by false 0) (λ k. quotient4 p w (multiplicity c k) (used-denom p w c k)) (branches c) (λ k l. additive-by 0 k)
+      go false = sum4-cong p (by false 0) (λ k. quotient4 p w (multiplicity c k) (used-denom p w c k)) (branches c) (λ k l. additive-by 0 k)
 
   -- what the code finds of the flags and the denominators gives the fault
   pub terms-fault : (over : Bool) (ones : ℕ) → over ≡ cond (exclusive-lookup c) (some-of (λ k. ltb 1 (flag c k)) (branches c)) false

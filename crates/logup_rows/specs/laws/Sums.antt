@@ -7,12 +7,12 @@ use native.Mathlib.Omega.{arith}
 use Rattle.lists.specs.Count.{joined}
 use Rattle.field.specs.Modulus.{Certificate}
 use Rattle.field.specs.Element.{add4, sum4, element}
+use Rattle.field.specs.laws.Element.{sum4-cong}
 use Rattle.field_batch.specs.inner.Quotients.{quotient-at}
 use Rattle.lookup.specs.Lookups.{Lookups, lookup-count, tuple-count, tuple-start}
 use Rattle.logup.specs.Column.{branches}
 use Rattle.logup.specs.Rows.{place, fraction-at, row-sum, accumulator, row-words}
 use Rattle.logup_column.specs.inner.Terms.{term}
-use Rattle.logup_column.specs.laws.Parts.{sum4-same}
 use Rattle.logup_column.specs.laws.Terms.{terms-sum, joined-same}
 use Rattle.logup_rows.specs.inner.Terms.{row-multiplicities, row-denominators}
 use Rattle.logup_rows.specs.inner.Sums.{sum-from, fraction-in, row-sum-in, running, row-in}
@@ -28,13 +28,13 @@ module _ (p w : ℕ) (C : Certificate p w) (l : Lookups) (cs : List ℕ) (values
   fraction-is : (j i : ℕ) → j < k → i < lookup-count (l .lookups) → fraction-in p (l .lookups) qs (j * size) i ≡ fraction-at p w l cs values (from + j) i
   unfolding fraction-in sum-from fraction-at branches place
   fraction-is j i hj hi =
-      sum4-same p (λ c. element qs (j * size + tuple-start (l .lookups) i + c)) (term p w (place p w l cs values (from + j) i)) (tuple-count (l .lookups) i)
+      sum4-cong p (λ c. element qs (j * size + tuple-start (l .lookups) i + c)) (term p w (place p w l cs values (from + j) i)) (tuple-count (l .lookups) i)
       (λ c hc. ap (element qs) (add-assoc (j * size) (tuple-start (l .lookups) i) c) ∙ quotient-is p w l cs values from k j i c hj hi hc)
       ∙ terms-sum p w (place p w l cs values (from + j) i) C
 
   sum-is : (j : ℕ) → j < k → row-sum-in p (l .lookups) qs (j * size) ≡ row-sum p w l cs values (from + j)
   unfolding row-sum-in row-sum
-  sum-is j hj = sum4-same p (fraction-in p (l .lookups) qs (j * size)) (fraction-at p w l cs values (from + j)) (lookup-count (l .lookups)) (λ i hi. fraction-is j i hj hi)
+  sum-is j hj = sum4-cong p (fraction-in p (l .lookups) qs (j * size)) (fraction-at p w l cs values (from + j)) (lookup-count (l .lookups)) (λ i hi. fraction-is j i hj hi)
 
   module _ {before : List ℕ} (e : before ≡ accumulator p w l cs values from) where
     running-is : (j : ℕ) → j ≤ k → running p (l .lookups) qs size before j ≡ accumulator p w l cs values (from + j)

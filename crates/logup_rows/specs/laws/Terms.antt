@@ -1,5 +1,5 @@
 -- The terms of a run of rows, one row after the other: how many words they have, that the words are below p, and what stands where.
-use mathlib.Core.Path.{_≡_, refl, sym, ap, ap₂, _∙_}
+use mathlib.Core.Path.{_≡_, refl, sym, ap, ap₂, _∙_, subst}
 use mathlib.Core.Bool.{Bool, true, false, cond}
 use mathlib.Core.List.{List, [], _∷_, _++_}
 use Prim.Native.Nat.{ℕ, zero, suc, _+_, _*_, _<_}
@@ -12,7 +12,8 @@ use Rattle.lists.specs.laws.Count.{total-in}
 use Rattle.lists.specs.laws.Tab.{tab-get}
 use Rattle.field.specs.Modulus.{Certificate}
 use Rattle.field.specs.Element.{at, Word4, one4, sub4, scale4, inverse4, element}
-use Rattle.field.specs.laws.Element.{word-sub4, word-scale4, word-lift}
+use Rattle.field.specs.laws.Slice.{four-words}
+use Rattle.field.specs.laws.Element.{four-sub4, four-scale4, word-sub4, word-scale4, word-lift}
 use Rattle.field.specs.laws.Extension.{h}
 use Rattle.field_batch.specs.inner.Quotients.{quotient, quotient-at}
 use Rattle.field_batch.specs.laws.Joined.{joined-size, joined-word, joined-element, element-of, total-times, total-same}
@@ -48,25 +49,29 @@ tab-below p f a (suc n) h e k = append-below p (tab f a n) (f (a + n) ∷ []) (t
     one x l zero = l
     one x l (suc k) = h
 
-four-below : (p a b c d : ℕ) → 0 < p → Word4 p (a ∷ b ∷ c ∷ d ∷ []) → Words p (a ∷ b ∷ c ∷ d ∷ [])
-four-below p a b c d h q zero = q .w0
-four-below p a b c d h q (suc zero) = q .w1
-four-below p a b c d h q (suc (suc zero)) = q .w2
-four-below p a b c d h q (suc (suc (suc zero))) = q .w3
-four-below p a b c d h q (suc (suc (suc (suc k)))) = h
+four-below : (p : ℕ) (l : List ℕ) → 0 < p → length l ≡ 4 → Word4 p l → Words p l
+four-below p l h e q = subst (Words p) (four-words l e) go
+  where
+    go : Words p (at l 0 ∷ at l 1 ∷ at l 2 ∷ at l 3 ∷ [])
+    go zero = q .w0
+    go (suc zero) = q .w1
+    go (suc (suc zero)) = q .w2
+    go (suc (suc (suc zero))) = q .w3
+    go (suc (suc (suc (suc k)))) = h
 
 cond-below : (p : ℕ) (b : Bool) (l m : List ℕ) → Words p l → Words p m → Words p (cond b l m)
 cond-below p true l m a c = a
 cond-below p false l m a c = c
 
 quotient-four : (p w : ℕ) (ms ds : List ℕ) (i : ℕ) → length (quotient-at p w ms ds i) ≡ 4
-unfolding quotient-at quotient scale4
-quotient-four p w ms ds i = refl
+unfolding quotient-at quotient
+quotient-four p w ms ds i = four-scale4 p (at ms i) (inverse4 p w (element ds i))
 
 pub quotients-below : (p w : ℕ) (ms ds : List ℕ) (n : ℕ) → 0 < p → (k : ℕ) → at (joined (quotient-at p w ms ds) 0 n) k < p
-unfolding quotient-at quotient scale4
+unfolding quotient-at quotient
 quotients-below p w ms ds n h =
-    joined-below p (quotient-at p w ms ds) 0 n h (λ i. four-below p _ _ _ _ h (word-scale4 p h (at ms i) (inverse4 p w (element ds i))))
+    joined-below p (quotient-at p w ms ds) 0 n h
+    (λ i. four-below p (quotient-at p w ms ds i) h (quotient-four p w ms ds i) (word-scale4 p h (at ms i) (inverse4 p w (element ds i))))
 
 pub quotients-length : (p w : ℕ) (ms ds : List ℕ) (n : ℕ) → length (joined (quotient-at p w ms ds) 0 n) ≡ 4 * n
 quotients-length p w ms ds n = joined-size (quotient-at p w ms ds) (λ _. 4) n (quotient-four p w ms ds) ∙ total-same 4 n ∙ omega arith
@@ -105,13 +110,16 @@ module _ (p w : ℕ) (l : Lookups) (cs : List ℕ) (values : ℕ → List ℕ) w
         go false = vals r .each _
 
     term-denominator-below : (r i k : ℕ) → Words p (term-denominator p w (place p w l cs values r i) k)
-    unfolding term-denominator denominator-by denom denominator sub4
+    unfolding term-denominator denominator-by denom denominator
     term-denominator-below r i k =
-        cond-below p (contributes-nothing (exclusive-lookup c) (branch-taken c) k (multiplicity c k)) one4 (denominator p w (c .alpha) (c .beta) (tuple (c .lookups) (c .vals) (c .lookup) k)) (four-below p 1 0 0 0 (h p w C) (word-lift p (h p w C) 1 (C .prime .big)))
-        (four-below p _ _ _ _ (h p w C) (word-sub4 p (h p w C) (c .alpha) (combine p w (c .beta) (tuple (c .lookups) (c .vals) (c .lookup) k))))
+        cond-below p (contributes-nothing (exclusive-lookup c) (branch-taken c) k (multiplicity c k)) one4 (denominator p w (c .alpha) (c .beta) (tuple (c .lookups) (c .vals) (c .lookup) k)) (four-below p one4 (h p w C) refl (word-lift p (h p w C) 1 (C .prime .big)))
+        (four-below p (sub4 p (c .alpha) t) (h p w C) (four-sub4 p (c .alpha) t) (word-sub4 p (h p w C) (c .alpha) t))
       where
         c : Place
         c = place p w l cs values r i
+
+        t : List ℕ
+        t = combine p w (c .beta) (tuple (c .lookups) (c .vals) (c .lookup) k)
 
     pub run-ms-below : (from k : ℕ) → Words p (joined (row-multiplicities p w l cs values) from k)
     unfolding row-multiplicities lookup-multiplicities

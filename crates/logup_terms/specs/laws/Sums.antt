@@ -1,36 +1,24 @@
 -- Sums and products over the tuples of a lookup: N ÷ D + m ÷ d = (N·d + m·D) ÷ (D·d), tuple by tuple.
 use mathlib.Core.Path.{_≡_, refl, sym, ap, ap₂, _∙_}
 use mathlib.Core.Bool.{Bool, cond}
-use mathlib.Core.List.{List, [], _∷_}
-use Prim.Native.Nat.{ℕ, zero, suc, _<_, _*_, _%_}
+use mathlib.Core.List.{List}
+use Prim.Native.Nat.{ℕ, zero, suc, _<_}
 use native.Mathlib.Omega.{arith}
-use native.Mathlib.Nat.{zero-mul, zero-mod}
 use lib.Dec.{eqb}
 use Rattle.lists.specs.laws.Count.{eqb-true, eqb-false}
 use Rattle.field.specs.Modulus.{Certificate}
-use Rattle.field.specs.Element.{at, zero4, one4, lift, add4, mul4, scale4, sum4, product4}
+use Rattle.field.specs.Element.{one4, lift, add4, mul4, scale4, sum4, product4}
 use Rattle.field.specs.laws.Extension.{h}
-use Rattle.field.specs.laws.Element.{word-mul4, word-lift, mul4-comm, mul4-assoc, mul4-add, mul4-one, scale4-is, sum4-cong, product4-cong}
+use Rattle.field.specs.laws.Element.{four-product4, word-product4, mul4-comm, mul4-assoc, mul4-add, mul4-one, zero-mul4, scale4-is, sum4-cong, product4-cong}
 
 module _ (p w : ℕ) (C : Certificate p w) where
   product4-one : (f : ℕ → List ℕ) (n : ℕ) → mul4 p w (product4 p w f n) one4 ≡ product4 p w f n
-  unfolding product4 mul4
-  product4-one f zero = mul4-one p w C 1 0 0 0 (word-lift p (h p w C) 1 (C .prime .big))
-  product4-one f (suc n) = mul4-one p w C _ _ _ _ (word-mul4 p (h p w C) w (product4 p w f n) (f n))
-
-  zero-times : (d : List ℕ) → mul4 p w zero4 d ≡ zero4
-  unfolding scale4
-  zero-times d =
-      sym (scale4-is p w C 0 d)
-      ∙ (λ j. none (at d 0) j ∷ none (at d 1) j ∷ none (at d 2) j ∷ none (at d 3) j ∷ [])
-    where
-      none : (a : ℕ) → (0 * a) % p ≡ 0
-      none a = ap (λ (n : ℕ). n % p) (zero-mul a) ∙ zero-mod p
+  product4-one f n = mul4-one p w C (product4 p w f n) (four-product4 p w f n) (word-product4 p (h p w C) w f n (C .prime .big))
 
   -- a factor goes into a sum
   sum4-times : (f : ℕ → List ℕ) (d : List ℕ) (n : ℕ) → mul4 p w (sum4 p f n) d ≡ sum4 p (λ i. mul4 p w (f i) d) n
   unfolding sum4
-  sum4-times f d zero = zero-times d
+  sum4-times f d zero = zero-mul4 p w C d
   sum4-times f d (suc n) =
       mul4-comm p w C (add4 p (sum4 p f n) (f n)) d ∙ mul4-add p w C d (sum4 p f n) (f n)
       ∙ ap₂ (add4 p) (mul4-comm p w C d (sum4 p f n) ∙ sum4-times f d n) (mul4-comm p w C d (f n))

@@ -6,6 +6,7 @@ use Prim.Native.Nat.{ℕ}
 use lib.Dec.{T}
 use Rattle.lists.specs.Count.{every, joined}
 use Rattle.field.specs.Modulus.{babybear, babybear-w}
+use Rattle.field.specs.Word.{addM, mulM}
 use Rattle.field.specs.Element.{add4, mul4, scale4, power4}
 use Rattle.expression.specs.Limits.{cabinet}
 use Rattle.expression.specs.Words.{all-below}
@@ -43,5 +44,5 @@ cases =
 
 -- each case computes to what SPECIFICATION says
 pub cases-hold : T (hold cases)
-unfolding cases cabinet every joined all-below add4 mul4 scale4 power4 prefix-by prefixes-fit prefixes-refusal same-list
+unfolding cases cabinet every joined all-below addM mulM add4 mul4 scale4 power4 prefix-by prefixes-fit prefixes-refusal same-list
 cases-hold = tt

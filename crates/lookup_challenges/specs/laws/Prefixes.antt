@@ -1,17 +1,16 @@
--- What the prefixes' code relies on: a factor may be reduced before it is used, one element is its list, and what the tests leave.
+-- What the prefixes' code relies on: one element is its list, and what the tests leave.
 use mathlib.Core.Path.{_≡_, sym, ap, _∙_}
 use mathlib.Core.Bool.{Bool, true, false, not, _&&_}
 use mathlib.Core.Option.{Option}
 use mathlib.Core.List.{List, [], _∷_}
-use Prim.Native.Nat.{ℕ, _*_, _/_, _%_, _<_, _≤_}
+use Prim.Native.Nat.{ℕ, _*_, _/_, _<_, _≤_}
 use native.Mathlib.Omega.{arith}
 use lib.Dec.{eqb, leb}
 use lib.ListN.{length}
 use borrow.Author.Tests.{eqb-true, leb-true, not-false}
 use Rattle.lists.specs.laws.Tests.{passed}
-use Rattle.algebra.specs.laws.Remainder.{mod-mul-mod}
 use Rattle.field.specs.Modulus.{Modulus}
-use Rattle.field.specs.Element.{at, Word4, scale4, element}
+use Rattle.field.specs.Element.{Word4, element}
 use Rattle.field.specs.laws.Slice.{word-element}
 use Rattle.expression.specs.Words.{all-below}
 use Rattle.expression.specs.Requires.{Below}
@@ -20,10 +19,6 @@ use Rattle.expression.specs.declared.refusal.Refusal.{Refusal}
 use Rattle.expression.specs.laws.Below.{below-tested}
 use Rattle.lookup_challenges.specs.Prefixes.{prefixes-fit, prefixes-refusal, prefixes-after, outcome, prefixes}
 use Rattle.lookup_challenges.specs.inner.Requires.{Writable}
-
-pub scale-reduced : (p z : ℕ) (a : List ℕ) → scale4 p (z % p) a ≡ scale4 p z a
-unfolding scale4
-scale-reduced p z a = rw (mod-mul-mod z (at a 0) p, mod-mul-mod z (at a 1) p, mod-mul-mod z (at a 2) p, mod-mul-mod z (at a 3) p)
 
 pub loaded : {p : ℕ} {l e : List ℕ} → Below p l → e ≡ element l 0 → Word4 p e
 loaded {p} {l} {e} b q = rw q (word-element l 0 (b .each))

@@ -6,6 +6,7 @@ use Prim.Native.Nat.{ℕ}
 use lib.Dec.{T}
 use lib.IntN.{ℤ, pos, negsuc}
 use Rattle.field.specs.Modulus.{babybear}
+use Rattle.field.specs.Word.{negM}
 use Rattle.expression.specs.Limits.{cabinet}
 use Rattle.expression.specs.Refusal.{answer-number, answer-details}
 use Rattle.lists.specs.Same.{same-list}
@@ -36,5 +37,5 @@ cases =
 
 -- each case computes to what is expected
 pub cases-hold : T (hold cases)
-unfolding cases cabinet count-refusal negation-refusal same-list
+unfolding cases cabinet negM count-refusal negation-refusal same-list
 cases-hold = tt

@@ -6,6 +6,7 @@ use Prim.Native.Nat.{ℕ}
 use lib.Dec.{T}
 use Rattle.lists.specs.Count.{total, every}
 use Rattle.field.specs.Modulus.{babybear}
+use Rattle.field.specs.Word.{addM}
 use Rattle.field.specs.Element.{add4, is-zero}
 use Rattle.expression.specs.Limits.{cabinet}
 use Rattle.expression.specs.Words.{all-below, all-within}
@@ -49,5 +50,5 @@ cases =
 
 -- each case computes to what SPECIFICATION says
 pub cases-hold : T (hold cases)
-unfolding cases cabinet total every all-below all-within add4 is-zero present terminal terminal-below with-terminal terminal-sum terminals-refusal tuple-start size-start table-part table-lookups weight-sum table-weight height-sum lookups-small tables-within tables-fit height-refusal same-list
+unfolding cases cabinet total every all-below all-within addM add4 is-zero present terminal terminal-below with-terminal terminal-sum terminals-refusal tuple-start size-start table-part table-lookups weight-sum table-weight height-sum lookups-small tables-within tables-fit height-refusal same-list
 cases-hold = tt

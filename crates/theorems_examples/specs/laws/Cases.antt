@@ -14,7 +14,7 @@ use Rattle.expression.specs.Values.{node-value, values, row-values}
 use Rattle.expression.specs.Window.{row-of, window}
 use Rattle.expression.specs.Words.{all-below, all-within}
 use Rattle.field.specs.Element.{add4, sub4, mul4, scale4, power4, sum4, product4, conjugate, conjugate2, norm2, norm, inverse4, is-zero, element}
-use Rattle.field.specs.Word.{inverse1}
+use Rattle.field.specs.Word.{addM, negM, subM, mulM, inverse1}
 use Rattle.lists.specs.Same.{same-list}
 use Rattle.lists.specs.Count.{total, every, some-of, first, joined}
 use Rattle.lists.specs.Fold.{fold}
@@ -44,7 +44,7 @@ use Rattle.lookup_buses.specs.Widths.{width-in-lookup, width-in-table, expected
 use Rattle.theorems_examples.specs.Table.{cases}
 
 pub cases-hold : T (hold cases)
-unfolding powM inverse1 add4 sub4 mul4 scale4 power4 sum4 product4 conjugate conjugate2 norm2 norm inverse4 is-zero element fold tab total every
+unfolding powM addM negM subM mulM inverse1 add4 sub4 mul4 scale4 power4 sum4 product4 conjugate conjugate2 norm2 norm inverse4 is-zero element fold tab total every
     some-of first joined cabinet all-below all-within node decode row-of window node-value values row-values node-degree degrees traces-within
     nodes-within traces-fit nodes-fit traces-below constants-below nodes-known degrees-low name-start tuple-start multiplicity-start flag-start
     element-start tuple-width multiplicity-node flag-node tuple-nodes lookups-within lookups-fit sizes words-below known lengths-agree nodes-present

@@ -3,12 +3,13 @@ use mathlib.Core.Path.{_≡_, refl, sym, ap, ap₂, _∙_}
 use mathlib.Core.Bool.{Bool, true, false, cond}
 use mathlib.Core.List.{List, [], _∷_, _++_}
 use Prim.Native.Nat.{ℕ, zero, suc, _+_, _%_}
-use native.Mathlib.Nat.{mod-add-mod, add-assoc, zero-add, zero-mod}
+use native.Mathlib.Nat.{add-assoc, zero-add, zero-mod}
 use native.Mathlib.Omega.{arith}
 use Rattle.lists.specs.Same.{same-list}
 use Rattle.lists.specs.Count.{total, joined}
 use Rattle.lists.specs.Fold.{fold}
 use Rattle.field.specs.Word.{addM}
+use Rattle.field.specs.laws.Word.{addM-sum}
 use Rattle.expression.specs.Values.{row-values}
 use Rattle.expression.specs.declared.sizes.Limits.{Limits}
 use Rattle.lookup.specs.Lookups.{Lookups}
@@ -34,7 +35,7 @@ posted p l (x ∷ es) words n e =
     ∙ ap (λ (m : ℕ). m % p) (add-assoc n (adds l x) (sum-of (adds l) es))
   where
     turn : (b : Bool) → cond b (addM p (words l) (x .count)) (words l) ≡ (n + cond b (x .count) 0) % p
-    turn true = ap (λ (m : ℕ). addM p m (x .count)) e ∙ mod-add-mod n p (x .count)
+    turn true = ap (λ (m : ℕ). addM p m (x .count)) e ∙ addM-sum p n (x .count)
     turn false = e ∙ ap (λ (m : ℕ). m % p) (let q : n ≡ n + 0 = omega arith in q)
 
     step : (b : Bool) → same-list (x .tuple) l ≡ b → post p words x l ≡ (n + adds l x) % p

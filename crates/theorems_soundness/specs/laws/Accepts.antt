@@ -29,7 +29,8 @@ use Rattle.logup.specs.Ledger.{has-ledger, Entry, Element, entry, lookup-entrie
 use Rattle.theorems_soundness.specs.Lawful.{LawfulFlags}
 use Rattle.theorems_soundness.specs.laws.Joined.{length-joined}
 use Rattle.theorems_soundness.specs.laws.Setting.{same-of-el}
-use Rattle.theorems_soundness.specs.laws.Elements.{element-sum, one-nonzero, sub-zero-iff}
+use Rattle.field.specs.laws.Zero.{one-not-zero}
+use Rattle.theorems_soundness.specs.laws.Elements.{element-sum, sub-zero-iff}
 use Rattle.theorems_soundness.specs.laws.Columns.{ones, Lawful}
 use Rattle.theorems_soundness.specs.laws.Terminals.{place-at-pair}
 use Rattle.theorems_soundness.specs.laws.Entered.{Passed, entered}
@@ -71,7 +72,7 @@ module _ (p w : ℕ) (c : Place) (nonzero : (k : ℕ) → k < branches c → is-
   additive-fine = ap (λ (b : Bool). cond b 15 0) (some-of-none (λ k. is-zero (used-denom p w c k)) (branches c) (λ k l. go k l (eqb (multiplicity c k) 0)))
     where
       go : (k : ℕ) → k < branches c → (b : Bool) → is-zero (cond b one4 (denom p w c k)) ≡ false
-      go k l true = one-nonzero
+      go k l true = one-not-zero
       go k l false = nonzero k l
 
   exclusive-fine : Lawful c → exclusive-fault p w c ≡ 0

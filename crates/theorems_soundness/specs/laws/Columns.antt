@@ -4,14 +4,15 @@ use mathlib.Core.Logic.{_≢_}
 use mathlib.Core.Bool.{Bool, true, false, cond}
 use mathlib.Core.Option.{Option, none, some}
 use mathlib.Core.List.{List, [], _∷_}
-use Prim.Native.Nat.{ℕ, zero, suc, _+_, _%_, _<_, _≤_}
+use Prim.Native.Nat.{ℕ, zero, suc, _+_, _<_, _≤_}
 use native.Mathlib.Omega.{arith}
-use native.Mathlib.Nat.{le-refl, mod-eq-of-lt, mul-one, mul-zero, zero-mod}
+use native.Mathlib.Nat.{le-refl}
 use lib.Dec.{eqb, ltb, nltb→le, not-T}
 use Rattle.algebra.specs.laws.Solve.{z-add, z-mul}
 use Rattle.lists.specs.Count.{total, some-of, joined}
 use Rattle.lists.specs.laws.Count.{last-or-below, some-of-false, not-of-false, eqb-true, eqb-false, eq-of-eqb, ne-of-eqb}
 use Rattle.field.specs.Word.{mulM}
+use Rattle.field.specs.laws.Word.{mulM-one, mulM-zero}
 use Rattle.field.specs.Element.{one4, is-zero}
 use Rattle.field.specs.Modulus.{Modulus, Certificate}
 use Rattle.field.specs.laws.Extension.{K, h}
@@ -183,13 +184,13 @@ module _ (p w : ℕ) (M : Modulus p) (C : Certificate p w) (c : Place) (below : 
     count-exclusive k = rw ex refl
 
     count-none : (k : ℕ) → flag c k ≡ 0 → en k .count ≡ 0
-    count-none k z = count-exclusive k ∙ ap (λ (f : ℕ). mulM p (multiplicity c k) f) z ∙ ap (λ (n : ℕ). n % p) (mul-zero (multiplicity c k)) ∙ zero-mod p
+    count-none k z = count-exclusive k ∙ ap (λ (f : ℕ). mulM p (multiplicity c k) f) z ∙ mulM-zero p (multiplicity c k)
 
     count-full : (k : ℕ) → flag c k ≡ 1 → en k .count ≡ multiplicity c k
     unfolding multiplicity
     count-full k e =
-        count-exclusive k ∙ ap (λ (f : ℕ). mulM p (multiplicity c k) f) e ∙ ap (λ (n : ℕ). n % p) (mul-one (multiplicity c k))
-        ∙ mod-eq-of-lt (below .each (multiplicity-node (c .lookups) (c .lookup) k))
+        count-exclusive k ∙ ap (λ (f : ℕ). mulM p (multiplicity c k) f) e
+        ∙ mulM-one p (multiplicity c k) (below .each (multiplicity-node (c .lookups) (c .lookup) k))
 
     module _ (f : Lawful c) where
       abbrev upto : ℕ → KEl p w C

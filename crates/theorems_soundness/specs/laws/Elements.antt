@@ -4,14 +4,14 @@ use mathlib.Core.Logic.{_≢_, _↔_}
 use mathlib.Core.Bool.{true, false, true≢false}
 use mathlib.Core.List.{List}
 use Prim.Native.Nat.{ℕ, zero, suc, _<_}
-use lib.Dec.{T, eqb→eq}
-use Rattle.lists.specs.laws.Count.{and-left, and-right, of-true, true-of}
-use Rattle.field.specs.Element.{at, lift, zero4, one4, add4, sub4, scale4, sum4, product4, inverse4, is-zero}
+use Rattle.lists.specs.laws.Count.{of-true}
+use Rattle.field.specs.Element.{lift, zero4, add4, sub4, scale4, sum4, product4, inverse4, is-zero}
 use Rattle.field.specs.Modulus.{Modulus, Certificate}
 use Rattle.field.specs.laws.Ring.{mk}
 use Rattle.field.specs.laws.Extension.{K, h}
 use Rattle.field.specs.laws.Homomorphism.{KEl, el, four, el-add, el-sub, el-mul}
-use Rattle.field.specs.laws.Element.{word-add4, word-sub4, word-scale4, word-lift, scale4-is}
+use Rattle.field.specs.laws.Zero.{zero-is-zero, zero-words}
+use Rattle.field.specs.laws.Element.{four-add4, four-sub4, four-scale4, four-sum4, word-add4, word-sub4, word-scale4, word-lift, word-sum4, scale4-is}
 use Rattle.field.specs.laws.Norm.{inverse4-ok, inverse4-zero}
 use Rattle.theorems_logup.specs.Inverse.{inverse}
 use Rattle.theorems_logup.specs.Sums.{sum-to}
@@ -21,24 +21,6 @@ use Rattle.logup.specs.Tuple.{quotient4}
 use Rattle.logup.specs.Ledger.{Element}
 use Rattle.theorems_soundness.specs.laws.Setting.{into, same-of-el}
 
--- the four words that are tested
-zeros : (a : List ℕ) → T (is-zero a) → (at a 0 ≡ 0) × (at a 1 ≡ 0) × (at a 2 ≡ 0) × (at a 3 ≡ 0)
-unfolding is-zero
-zeros a t = (
-  eqb→eq (at a 0) 0 (search (and-left, and-right)),
-  eqb→eq (at a 1) 0 (search (and-left, and-right)),
-  eqb→eq (at a 2) 0 (search (and-left, and-right)),
-  eqb→eq (at a 3) 0 (search (and-left, and-right)),
-)
-
-zero-is : T (is-zero zero4)
-unfolding is-zero
-zero-is = tt
-
-pub one-nonzero : is-zero one4 ≡ false
-unfolding is-zero
-one-nonzero = refl
-
 module _ (p w : ℕ) (C : Certificate p w) where
   abbrev ⟦_⟧ : List ℕ → KEl p w C
   ⟦ a ⟧ = el p w C a
@@ -47,29 +29,25 @@ module _ (p w : ℕ) (C : Certificate p w) where
   element-lift a l = record { four = refl; below = word-lift p (h p w C) a l }
 
   pub element-add : (a b : List ℕ) → Element p (add4 p a b)
-  unfolding add4
-  element-add a b = record { four = refl; below = word-add4 p (h p w C) a b }
+  element-add a b = record { four = four-add4 p a b; below = word-add4 p (h p w C) a b }
 
   pub element-sub : (a b : List ℕ) → Element p (sub4 p a b)
-  unfolding sub4
-  element-sub a b = record { four = refl; below = word-sub4 p (h p w C) a b }
+  element-sub a b = record { four = four-sub4 p a b; below = word-sub4 p (h p w C) a b }
 
   pub element-quotient : (m : ℕ) (d : List ℕ) → Element p (quotient4 p w m d)
-  unfolding quotient4 scale4
-  element-quotient m d = record { four = refl; below = word-scale4 p (h p w C) m (inverse4 p w d) }
+  unfolding quotient4
+  element-quotient m d = record { four = four-scale4 p m (inverse4 p w d); below = word-scale4 p (h p w C) m (inverse4 p w d) }
 
   pub element-sum : (f : ℕ → List ℕ) (n : ℕ) → Element p (sum4 p f n)
-  unfolding sum4
-  element-sum f zero = element-lift 0 (h p w C)
-  element-sum f (suc n) = element-add (sum4 p f n) (f n)
+  element-sum f n = record { four = four-sum4 p f n; below = word-sum4 p (h p w C) f n }
 
   -- an element is zero where it is zero in the field
   pub zero-iff : (a : List ℕ) → Element p a → (is-zero a ≡ true) ↔ (⟦ a ⟧ ≡ K p w C .ring .z)
   zero-iff a ea = (
     λ e.
-        let (e0, e1, e2, e3) = zeros a (of-true e) in
+        let (e0, e1, e2, e3) = zero-words a (of-true e) in
         four p w C (ap (mk p (h p w C)) e0) (ap (mk p (h p w C)) e1) (ap (mk p (h p w C)) e2) (ap (mk p (h p w C)) e3),
-    λ e. ap is-zero (same-of-el p w C a zero4 ea (element-lift 0 (h p w C)) e) ∙ true-of (is-zero zero4) zero-is,
+    λ e. ap is-zero (same-of-el p w C a zero4 ea (element-lift 0 (h p w C)) e) ∙ zero-is-zero,
   )
 
   pub nonzero : (a : List ℕ) → Element p a → is-zero a ≡ false → ⟦ a ⟧ ≢ K p w C .ring .z

@@ -12,7 +12,7 @@ use Rattle.lists.specs.laws.Same.{same-list-eq}
 use Rattle.lists.specs.Count.{total, every, some-of, first, joined}
 use Rattle.lists.specs.laws.Count.{of-true, true-of, eq-of-eqb}
 use Rattle.lists.specs.laws.Tests.{chain, Passed, passed}
-use Rattle.field.specs.Word.{inverse1}
+use Rattle.field.specs.Word.{addM, negM, subM, mulM, inverse1}
 use Rattle.field.specs.Element.{at, lift, add4, sub4, mul4, scale4, power4, sum4, conjugate, conjugate2, norm2, norm, inverse4, is-zero, element}
 use Rattle.field.specs.Modulus.{babybear, babybear-w}
 use Rattle.field.specs.laws.Extension.{babybear-certificate, babybear-modulus}
@@ -61,7 +61,7 @@ computed =
     ∷ []
 
 computes : T (chain (eqb (tuples-met babybear entered no-lookup) 1) computed)
-unfolding powM inverse1 add4 sub4 mul4 scale4 power4 sum4 conjugate conjugate2 norm2 norm inverse4 is-zero element total every some-of first joined
+unfolding powM addM negM subM mulM inverse1 add4 sub4 mul4 scale4 power4 sum4 conjugate conjugate2 norm2 norm inverse4 is-zero element total every some-of first joined
     cabinet all-below all-within node decode row-of window node-value values row-values node-degree degrees traces-within nodes-within traces-fit
     nodes-fit traces-below constants-below nodes-known degrees-low name-start tuple-start multiplicity-start flag-start element-start tuple-width
     multiplicity-node flag-node tuple-nodes lookups-within lookups-fit sizes words-below known lengths-agree nodes-present lists-agree in-position

@@ -3,9 +3,8 @@ use mathlib.Core.Path.{_≡_, refl, sym, ap, _∙_, subst}
 use mathlib.Core.Logic.{_≢_, ite}
 use mathlib.Core.Bool.{Bool, true, false, cond, _||_}
 use mathlib.Core.List.{List, [], _∷_, List-discrete, List·Memᴰ, List·Memᴰ·head, List·Memᴰ·tail, List·Memᴰ·eq-of-singleton}
-use Prim.Native.Nat.{ℕ, _+_, _%_, _<_}
+use Prim.Native.Nat.{ℕ, _<_}
 use native.Mathlib.Decide.{ℕ-discrete}
-use native.Mathlib.Nat.{mod-lt, mod-eq-of-lt, mod-add-mod, add-mod-mod, add-assoc, add-zero, zero-add}
 use lib.Dec.{T, eqb}
 use lib.ListN.{length}
 use Rattle.lists.specs.Same.{same-list}
@@ -13,6 +12,7 @@ use Rattle.lists.specs.laws.Same.{same-list-eq, same-list-refl}
 use Rattle.lists.specs.Fold.{fold}
 use Rattle.lists.specs.laws.Count.{joined-member, true-of, false-of, eqb-true, eqb-false}
 use Rattle.field.specs.Word.{addM}
+use Rattle.field.specs.laws.Word.{addM-below, addM-assoc, addM-zero, zero-addM}
 use Rattle.field.specs.Modulus.{Modulus, Certificate}
 use Rattle.field.specs.laws.Extension.{K, h}
 use Rattle.theorems_logup.specs.Tables as Tables
@@ -64,24 +64,22 @@ module _ (p w : ℕ) (C : Certificate p w) where
   ledger-below (e ∷ es) l = pick (List-discrete ℕ-discrete (e .tuple) l) (ledger-below es l)
     where
       pick : (d : Dec (e .tuple ≡ l)) → L es l < p → ite d (addM p (e .count) (L es l)) (L es l) < p
-      pick (yes _) k = mod-lt (e .count + L es l) (h p w C)
+      pick (yes _) k = addM-below p (h p w C) (e .count) (L es l)
       pick (no _) k = k
 
   -- what stands before, and what is added
   posted : (es : List Entry) (led : List ℕ → ℕ) (l : List ℕ) → led l < p → fold (post p) led es l ≡ addM p (led l) (L es l)
   unfolding fold post
-  posted [] led l k = sym (ap (λ (n : ℕ). n % p) (add-zero (led l)) ∙ mod-eq-of-lt k)
+  posted [] led l k = sym (addM-zero p (led l) k)
   posted (e ∷ es) led l k = pick (List-discrete ℕ-discrete (e .tuple) l) (posted es (post p led e) l)
     where
       pick : (d : Dec (e .tuple ≡ l)) → (post p led e l < p → fold (post p) (post p led e) es l ≡ addM p (post p led e l) (L es l))
           → fold (post p) (post p led e) es l ≡ addM p (led l) (ite d (addM p (e .count) (L es l)) (L es l))
       pick (yes q) ih =
           let at : post p led e l ≡ addM p (led l) (e .count) = rw (same-true q) refl in
-          ih (subst (λ (n : ℕ). n < p) (sym at) (mod-lt (led l + e .count) (h p w C)))
+          ih (subst (λ (n : ℕ). n < p) (sym at) (addM-below p (h p w C) (led l) (e .count)))
           ∙ ap (λ (n : ℕ). addM p n (L es l)) at
-          ∙ mod-add-mod (led l + e .count) p (L es l)
-          ∙ ap (λ (n : ℕ). n % p) (add-assoc (led l) (e .count) (L es l))
-          ∙ sym (add-mod-mod (led l) (e .count + L es l) p)
+          ∙ addM-assoc p (led l) (e .count) (L es l)
       pick (no q) ih =
           let at : post p led e l ≡ led l = rw (same-false q) refl in
           ih (subst (λ (n : ℕ). n < p) (sym at) k) ∙ ap (λ (n : ℕ). addM p n (L es l)) at
@@ -89,7 +87,7 @@ module _ (p w : ℕ) (C : Certificate p w) where
   pub ledger-is : (t : Table) (l : List ℕ) → ledger p t l ≡ L (entries p t) l
   unfolding ledger
   ledger-is t l =
-      posted (entries p t) (λ l. 0) l (h p w C) ∙ ap (λ (n : ℕ). n % p) (zero-add (L (entries p t) l)) ∙ mod-eq-of-lt (ledger-below (entries p t) l)
+      posted (entries p t) (λ l. 0) l (h p w C) ∙ zero-addM p (L (entries p t) l) (ledger-below (entries p t) l)
 
   pub met-is : (es : List Entry) → met es ≡ support (K p w C) (N p w C) es
   unfolding met

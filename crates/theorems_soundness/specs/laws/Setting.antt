@@ -1,28 +1,23 @@
 -- The field of four words and the entries of a table, as the balance theorem takes them.
 use mathlib.Core.Path.{_≡_, refl, sym, ap, _∙_}
 use mathlib.Core.List.{List, [], _∷_}
-use Prim.Native.Nat.{ℕ, _+_, _<_}
-use native.Mathlib.Omega.{arith}
+use Prim.Native.Nat.{ℕ, _<_}
 use native.Mathlib.Decide.{ℕ-discrete}
-use native.Mathlib.Nat.{mod-lt}
 use lib.Dec.{lit<, lit≤}
 use lib.ListN.{length}
 use Rattle.field.specs.Word.{addM}
+use Rattle.field.specs.laws.Word.{addM-below}
 use Rattle.field.specs.Element.{at, lift}
 use Rattle.field.specs.Modulus.{Modulus, Certificate}
 use Rattle.field.specs.laws.Extension.{K, h}
+use Rattle.field.specs.laws.Slice.{four-words}
 use Rattle.field.specs.laws.Homomorphism.{KEl, el, el-add, el-same, word-same}
 use Rattle.field.specs.laws.Element.{lift-add}
 use Rattle.theorems_logup.specs.Tables.{Entries}
 use Rattle.logup.specs.Ledger.{Entry, Element}
 
 pub as-four : (l : List ℕ) → length l ≡ 4 → l ≡ at l 0 ∷ at l 1 ∷ at l 2 ∷ at l 3 ∷ []
-as-four [] e = absurd (omega arith)
-as-four (a ∷ []) e = absurd (omega arith)
-as-four (a ∷ b ∷ []) e = absurd (omega arith)
-as-four (a ∷ b ∷ c ∷ []) e = absurd (omega arith)
-as-four (a ∷ b ∷ c ∷ d ∷ []) e = refl
-as-four (a ∷ b ∷ c ∷ d ∷ x ∷ l) e = absurd (omega arith)
+as-four l e = sym (four-words l e)
 
 module _ (p w : ℕ) (C : Certificate p w) where
   -- a word as an element
@@ -39,7 +34,7 @@ module _ (p w : ℕ) (C : Certificate p w) where
         add = addM p;
         Good = λ a. a < p;
         good-zero = h p w C;
-        good-add = λ a b l k. mod-lt (a + b) (h p w C);
+        good-add = λ a b l k. addM-below p (h p w C) a b;
         into = into;
         into-zero = refl;
         into-add = λ a b l k. ap (el p w C) (lift-add p w C a b) ∙ el-add p w C (lift a) (lift b);

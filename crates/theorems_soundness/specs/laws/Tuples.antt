@@ -11,6 +11,7 @@ use Rattle.algebra.specs.laws.Solve.{X, _⊕_, _⊗_, solve, mul-z, u-mul}
 use Rattle.field.specs.Element.{scale4, sum4, power4}
 use Rattle.field.specs.Modulus.{Certificate}
 use Rattle.field.specs.laws.Extension.{K}
+use Rattle.field.specs.laws.Powers.{power4-zero, power4-suc}
 use Rattle.field.specs.laws.Homomorphism.{KEl, el, el-add, el-sub, el-mul}
 use Rattle.theorems_logup.specs.Inverse.{minus}
 use Rattle.theorems_logup.specs.Polynomial.{horner}
@@ -38,7 +39,7 @@ module _ (p w : ℕ) (C : Certificate p w) (beta : List ℕ) where
 
   -- the first n of the m elements, with m - n powers of beta still to come
   partly : (es : List ℕ) (n : ℕ) → n ≤ length es → ⟦ sum4 p (term es) n ⟧ ≡ mul ⟦ power4 p w beta (length es - n) ⟧ (value (take n es))
-  unfolding sum4 power4
+  unfolding sum4
   partly es zero l = sym (mul-z (K p w C .ring) ⟦ power4 p w beta (length es - 0) ⟧)
   partly es (suc n) l =
       let k : ℕ = length es - suc n in
@@ -47,7 +48,7 @@ module _ (p w : ℕ) (C : Certificate p w) (beta : List ℕ) where
       el-add p w C (sum4 p (term es) n) (term es n)
       ∙ ap₂ add
       (partly es n (omega arith) ∙ ap (λ (i : ℕ). mul ⟦ power4 p w beta i ⟧ (value (take n es))) e₁
-      ∙ ap (λ (x : KEl p w C). mul x (value (take n es))) (el-mul p w C (power4 p w beta k) beta))
+      ∙ ap (λ (x : KEl p w C). mul x (value (take n es))) (ap (el p w C) (power4-suc p w beta k) ∙ el-mul p w C (power4 p w beta k) beta))
       (scale-is p w C (word es n) (power4 p w beta (exponent (length es) n))
       ∙ ap (λ (i : ℕ). mul (into p w C (word es n)) ⟦ power4 p w beta i ⟧) e₂)
       ∙ step ⟦ power4 p w beta k ⟧ ⟦ beta ⟧ (value (take n es)) (into p w C (word es n))
@@ -56,12 +57,12 @@ module _ (p w : ℕ) (C : Certificate p w) (beta : List ℕ) where
       ∙ ap (horner (K p w C) ⟦ beta ⟧ z) (sym (map-append (into p w C) (take n es) (word es n ∷ [])) ∙ ap (map (into p w C)) (sym (take-suc es n 0 l))))
 
   pub combine-is : (es : List ℕ) → ⟦ combine p w beta es ⟧ ≡ Tables.combine (K p w C) (N p w C) ⟦ beta ⟧ es
-  unfolding combine power4
+  unfolding combine
   combine-is es =
       let none-left : length es - length es ≡ 0 = omega arith in
       partly es (length es) (le-refl (length es))
       ∙ ap₂ (λ (i : ℕ) (l : List ℕ). mul ⟦ power4 p w beta i ⟧ (value l)) none-left (take-length es)
-      ∙ u-mul (K p w C .ring) (value es)
+      ∙ ap (λ (l : List ℕ). mul ⟦ l ⟧ (value es)) (power4-zero p w beta) ∙ u-mul (K p w C .ring) (value es)
 
   pub denominator-is : (alpha es : List ℕ)
       → ⟦ denominator p w alpha beta es ⟧ ≡ minus (K p w C) ⟦ alpha ⟧ (Tables.combine (K p w C) (N p w C) ⟦ beta ⟧ es)

@@ -4,12 +4,12 @@ use mathlib.Core.Bool.{Bool, true, false, cond, _&&_}
 use mathlib.Core.List.{List, [], _∷_, List·Memᴰ, Memᴰ·of-map}
 use Prim.Native.Nat.{ℕ, _+_, _%_, _<_}
 use native.Mathlib.Omega.{arith}
-use native.Mathlib.Nat.{mod-lt}
 use lib.Dec.{T}
 use lib.ListN.{length, length-take, length-drop, length-map}
 use Rattle.lists.specs.laws.Count.{true-of}
 use Rattle.lists.specs.laws.Tests.{both-right, passed, every-true}
 use Rattle.field.specs.Word.{mulM}
+use Rattle.field.specs.laws.Word.{mulM-below}
 use Rattle.field.specs.Modulus.{Modulus}
 use Rattle.expression.specs.Words.{word, all-below}
 use Rattle.expression.specs.Node.{node, node-count}
@@ -65,7 +65,7 @@ module _ (p : ℕ) (l : Lookups) (vals : List ℕ) (b : Below p vals) where
   count-below pos i k = go (exclusive (l .lookups) i)
     where
       go : (x : Bool) → cond x (mulM p (word vals (multiplicity-node l i k)) (word vals (flag-node l i k))) (word vals (multiplicity-node l i k)) < p
-      go true = mod-lt _ pos
+      go true = mulM-below p pos (word vals (multiplicity-node l i k)) (word vals (flag-node l i k))
       go false = b .each (multiplicity-node l i k)
 
   pub tuple-below : (i k a : ℕ) → List·Memᴰ a (tuple l vals i k) → a < p

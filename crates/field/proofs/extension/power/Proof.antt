@@ -1,42 +1,41 @@
-use Rattle.field.specs.Ext.{ext-words}
-use Rattle.field.specs.Element.{Word4, mul4, power4}
+use mathlib.Core.Path.{refl, ap}
+use mathlib.Core.Logic.{⊎-elim}
+use Prim.Native.Nat.{_/_}
 use native.Mathlib.Omega.{arith}
-use native.Mathlib.Numerals.{add-one}
-use Prim.Native.Nat.{ℕ, _≤_, _-_}
-use mathlib.Core.List.{List}
-use mathlib.Core.Path.{_≡_, refl, _∙_, ap}
+use Rattle.field.specs.Ext.{ext-words}
+use Rattle.field.specs.laws.Powers.{Squaring, squaring-begins, squaring-even, squaring-odd, squaring-ends}
 use borrow.Author.Needs.{needs}
 use Rattle.field.proofs.extension.power.Statement.{statement}
 use Rattle.field.proofs.extension.power.Tie as tie
 
 abbrev Inv-loop : tie.InvT-loop
-Inv-loop p w b n r₀ i₀ r i = (i ≤ n) × Word4 p (ext-words r) × (ext-words r ≡ power4 p w (ext-words b) i)
+Inv-loop p w n r₀ x₀ k₀ r x k = Squaring p w (ext-words x₀) n (ext-words r) (ext-words x) k
 
 abbrev μ-loop : tie.MeasureT-loop
-μ-loop p w b n r₀ i₀ r i = n - i
+μ-loop p w n r₀ x₀ k₀ r x k = k
 
 loop-holds : tie.Need-loop-holds Inv-loop μ-loop
-unfolding power4
-loop-holds c = (omega arith, record { w0 = omega arith; w1 = omega arith; w2 = omega arith; w3 = omega arith }, refl)
+loop-holds c = squaring-begins (c .args .n) (omega arith) (c .pre .2)
 
 mul-requires : tie.Need-mul-requires Inv-loop μ-loop
 mul-requires c κs = search needs
 
-add-i : tie.Need-add-i Inv-loop μ-loop
-add-i c = search needs
+mul-requires-2 : tie.Need-mul-requires-2 Inv-loop μ-loop
+mul-requires-2 c κs = search needs
 
 loop-less : tie.Need-loop-less Inv-loop μ-loop
 loop-less c = search needs
 
 loop-again : tie.Need-loop-again Inv-loop μ-loop
-unfolding power4
-loop-again c = (omega arith, c .mul .ensures .0, rw (add-one (c .before .before .loop .i)) (cc))
+loop-again c =
+    let at-3 = c .before .before .before in
+    ⊎-elim
+    (λ o. squaring-odd (at-3 .loop .inv) (omega arith) (at-3 .loop .k / 2) (c .mul2 .ensures) (omega (arith, o .0 .taken)) (ap ext-words (o .2)) (o .1 .ensures))
+    (λ o. squaring-even (at-3 .loop .inv) (omega arith) (at-3 .loop .k / 2) (c .mul2 .ensures) (omega (arith, o .0 .left)) (ap ext-words (o .1)))
+    (c .before .if1 .came)
 
 returns : tie.Need-returns Inv-loop μ-loop
-returns c =
-    let e : c .before .loop .i ≡ c .before .before .args .n = omega arith in
-    (c .before .loop .inv .1, rw (← e) (c .before .loop .inv .2))
+returns c = (c .before .loop .inv .word-r, squaring-ends (c .before .loop .inv) (omega arith) refl (omega arith))
 
 pub power-spec : {M : Type 1} → statement M
-power-spec =
-    tie.close (tie.spec Inv-loop μ-loop loop-holds mul-requires add-i loop-less loop-again returns)
+power-spec = tie.close (tie.spec Inv-loop μ-loop loop-holds mul-requires mul-requires-2 loop-less loop-again returns)

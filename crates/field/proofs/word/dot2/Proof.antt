@@ -1,5 +1,7 @@
-use Prim.Native.Nat.{_*_}
+use mathlib.Core.Path.{_∙_}
+use Prim.Native.Nat.{_+_, _*_, _%_}
 use native.Mathlib.Nat.{add-mod}
+use Rattle.field.specs.Word.{addM, mulM}
 use borrow.Author.Needs.{needs}
 use Rattle.field.proofs.word.dot2.Statement.{statement}
 use Rattle.field.proofs.word.dot2.Tie as tie
@@ -17,11 +19,13 @@ reduce-requires : tie.Need-reduce-requires
 reduce-requires c κs = search needs
 
 returns : tie.Need-returns
-returns c = (
-  c .reduce .ensures .0,
-  cc (add-mod (c .before .before .before .args .a * c .before .before .before .args .b) (c .before .before .before .args .c
-      * c .before .before .before .args .d) (c .before .before .before .args .p)),
-)
+unfolding addM mulM
+returns c =
+    let s = c .before .before .before .args in (
+      c .reduce .ensures .0,
+      c .reduce .ensures .1 ∙ (λ i. ((c .before .before .product .ensures .0) i + (c .before .product2 .ensures .0) i) % s .p)
+          ∙ add-mod (s .a * s .b) (s .c * s .d) (s .p),
+    )
 
 pub dot2-spec : {M : Type 1} → statement M
 dot2-spec =

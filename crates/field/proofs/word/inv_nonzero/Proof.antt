@@ -1,20 +1,22 @@
+use Rattle.field.specs.Word.{mulM}
+use Rattle.field.specs.laws.Word.{mulM-one}
 use Rattle.field.specs.laws.Reduction.{turn}
-use native.Mathlib.Nat.{mod-lt, mul-one, lt-trans, mod-eq-of-lt, pos-of-ne-zero, div-le-self, le-div-iff-mul-le}
+use native.Mathlib.Nat.{mod-lt, lt-trans, pos-of-ne-zero, div-le-self, le-div-iff-mul-le}
 use native.Mathlib.Omega.{arith}
-use Prim.Native.Nat.{ℕ, _<_, _*_, _%_}
+use Prim.Native.Nat.{ℕ, _<_}
 use mathlib.Core.Path.{_≡_, _∙_, ap}
 use borrow.Author.Needs.{needs}
 use Rattle.field.proofs.word.inv_nonzero.Statement.{statement}
 use Rattle.field.proofs.word.inv_nonzero.Tie as tie
 
 abbrev Inv-loop : tie.InvT-loop
-Inv-loop p a x₀ t₀ x t = (0 < x) × (x < p) × (t < p) × ((a * t) % p ≡ x)
+Inv-loop p a x₀ t₀ x t = (0 < x) × (x < p) × (t < p) × (mulM p a t ≡ x)
 
 abbrev μ-loop : tie.MeasureT-loop
 μ-loop p a x₀ t₀ x t = x
 
 loop-holds : tie.Need-loop-holds Inv-loop μ-loop
-loop-holds c = (omega arith, omega arith, omega arith, ap (λ (n : ℕ). n % c .args .p) (mul-one (c .args .a)) ∙ mod-eq-of-lt (c .pre .3))
+loop-holds c = (omega arith, omega arith, omega arith, mulM-one (c .args .p) (c .args .a) (c .pre .3))
 
 div-mul : tie.Need-div-mul Inv-loop μ-loop
 div-mul c = search needs
@@ -48,7 +50,7 @@ loop-again c =
       pos-of-ne-zero (c .before .before .before .pre .1 .only x (omega arith) less),
       lt-trans (mod-lt p pos) less,
       c .mul .ensures .0,
-      ap (λ (n : ℕ). (a * n) % p) (c .mul .ensures .1) ∙ turn p a t x pos less (c .before .before .loop .inv .3),
+      ap (mulM p a) (c .mul .ensures .1) ∙ turn p a t x pos less (c .before .before .loop .inv .3),
     )
 
 returns : tie.Need-returns Inv-loop μ-loop

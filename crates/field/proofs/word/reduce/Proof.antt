@@ -1,6 +1,7 @@
 use native.Mathlib.Omega.{arith}
 use native.Mathlib.Nat.{mod-lt}
-use mathlib.Core.Path.{refl}
+use mathlib.Core.Path.{refl, sym, ap}
+use Prim.Native.Nat.{ℕ, _%_}
 use borrow.Author.Needs.{needs}
 use Rattle.field.proofs.word.reduce.Statement.{statement}
 use Rattle.field.proofs.word.reduce.Tie as tie
@@ -9,7 +10,7 @@ cast-result : tie.Need-cast-result
 cast-result c = search needs
 
 returns : tie.Need-returns
-returns c = (omega arith, cc)
+returns c = (omega arith, ap (λ (q : ℕ). c .before .args .n % q) (sym (c .if1 .taken)))
 
 rem-result : tie.Need-rem-result
 rem-result c = search needs

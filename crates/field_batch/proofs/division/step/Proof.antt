@@ -4,7 +4,7 @@ use Rattle.field_batch.proofs.division.step.Statement.{statement}
 use Rattle.field_batch.proofs.division.step.Tie as tie
 
 returns : tie.Need-returns
-returns c = let s = c .before in let e = step-out (s .args .p) (s .args .w) (s .args .m) (s .args .inverse) (s .args .d) (s .args .k) (c .if1 .taken) (s .pre .7) (s .pre .8) in (s .pre .6, e .0, e .1)
+returns c = let s = c .before in let e = step-out (s .args .p) (s .args .w) (s .args .m) (s .args .inverse) (s .args .d) (s .args .k) (s .pre .6) (c .if1 .taken) (s .pre .7) (s .pre .8) in (s .pre .6, e .0, e .1)
 
 mul-requires : tie.Need-mul-requires
 mul-requires c κs = search needs

@@ -1,6 +1,5 @@
-use mathlib.Core.List.{[], _∷_}
-use Rattle.field.specs.Element.{add4, scale4}
-use Rattle.field_batch.specs.laws.Dot.{later}
+use Rattle.field.specs.Ext.{ext-words}
+use Rattle.field.specs.laws.Element.{scale4-added}
 use borrow.Author.Needs.{needs}
 use Rattle.field_batch.proofs.dot.more.Statement.{statement}
 use Rattle.field_batch.proofs.dot.more.Tie as tie
@@ -30,16 +29,13 @@ add-t12 : tie.Need-add-t12
 add-t12 c = search needs
 
 returns : tie.Need-returns
-unfolding add4 scale4
 returns c =
     let at-5 = c .before .before .before .before .before in
     let at-7 = at-5 .before .before in
-    let at-8 = at-7 .before in (
+    let s = at-7 .before .args in (
       search needs,
-      λ i. later (at-8 .args .p) (at-8 .args .s .s0) (at-8 .args .z) (at-8 .args .a .c0) (at-7 .product .ensures .0) i ∷ later (at-8
-          .args .p) (at-8 .args .s .s1) (at-8 .args .z) (at-8 .args .a .c1) (at-5 .product2 .ensures .0) i ∷ later (at-8 .args .p) (at-8 .args .s .s2)
-          (at-8 .args .z) (at-8 .args .a .c2) (c .before .before .before .product3 .ensures .0) i ∷ later (at-8 .args .p) (at-8 .args .s .s3) (at-8 .args
-          .z) (at-8 .args .a .c3) (c .before .product4 .ensures .0) i ∷ [],
+      scale4-added (s .p) (s .s .s0) (s .s .s1) (s .s .s2) (s .s .s3) (s .z) (ext-words (s .a)) (at-7 .product .ensures .0) (at-5 .product2 .ensures .0)
+          (c .before .before .before .product3 .ensures .0) (c .before .product4 .ensures .0),
     )
 
 pub more-spec : {M : Type 1} → statement M

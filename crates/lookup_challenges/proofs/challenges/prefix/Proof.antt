@@ -1,6 +1,6 @@
 use Rattle.field.specs.Ext.{ext-words}
 use Prim.Native.Nat.{_+_}
-use Rattle.lookup_challenges.specs.laws.Prefixes.{scale-reduced}
+use Rattle.field.specs.laws.Element.{scale4-mod}
 use Rattle.lookup_challenges.specs.Prefixes.{prefix-by}
 use borrow.Author.Needs.{needs}
 use Rattle.lookup_challenges.proofs.challenges.prefix.Statement.{statement}
@@ -25,7 +25,7 @@ returns c =
       c .add .ensures .1,
       c .before .scale .ensures .1,
       c .before .before .reduce .ensures .1,
-      scale-reduced (c .before .before .before .args .p) (c
+      scale4-mod (c .before .before .before .args .p) (c
           .before .before .before .args .i + 1) (ext-words (c .before .before .before .args .gamma)),
     )
 

@@ -1,5 +1,5 @@
 use mathlib.Core.Path.{_∙_}
-use Rattle.lookup_count.specs.laws.Count.{neg-reduced}
+use Rattle.field.specs.laws.Word.{negM-mod}
 use borrow.Author.Needs.{needs}
 use Rattle.lookup_count.proofs.count.residue.Statement.{statement}
 use Rattle.lookup_count.proofs.count.residue.Tie as tie
@@ -16,7 +16,7 @@ neg-requires c κs = search needs
 returns : tie.Need-returns
 returns c =
     let at-4 = c .before .before .before .before in
-    rw (c .before .if1 .taken, c .neg .ensures .1, c .before .before .reduce .ensures .1, c .before .before .before .to-u64 .ensures .0) (neg-reduced
+    rw (c .before .if1 .taken, c .neg .ensures .1, c .before .before .reduce .ensures .1, c .before .before .before .to-u64 .ensures .0) (negM-mod
     (at-4 .args .p) (at-4 .args .magnitude))
 
 returns-2 : tie.Need-returns-2
