@@ -1,25 +1,23 @@
 -- Generation's answer as numbers: number and details, and the terminal's words (SPECIFICATION, section 14.1).
 use Prim.Native.Nat.{ℕ}
+use mathlib.Core.Option.{Option, none, some}
 use mathlib.Core.List.{List, [], _∷_}
-use Rattle.expression.specs.Refusal.{number, details}
 use Rattle.expression.specs.declared.sizes.Shape.{Shape}
-use Rattle.logup.specs.Generation.{Answer, refused, absent, terminal}
+use Rattle.logup.specs.Generation.{Answer}
 
 abbrev pub generation-number : Answer → ℕ
-generation-number (refused f) = number f
-generation-number absent = 0
-generation-number (terminal e) = 0
+generation-number a = a .number
 
 abbrev pub generation-details : Answer → List ℕ
-generation-details (refused f) = details f
-generation-details absent = 0 ∷ 0 ∷ 0 ∷ []
-generation-details (terminal e) = 0 ∷ 0 ∷ 0 ∷ []
+generation-details a = a .details
 
--- 1 and the terminal's four words, or five zeros
+-- 1 and the four words of a terminal, or five zeros where there is none
+abbrev pub five-words : Option (List ℕ) → List ℕ
+five-words none = 0 ∷ 0 ∷ 0 ∷ 0 ∷ 0 ∷ []
+five-words (some e) = 1 ∷ e
+
 abbrev pub generation-terminal : Answer → List ℕ
-generation-terminal (refused f) = 0 ∷ 0 ∷ 0 ∷ 0 ∷ 0 ∷ []
-generation-terminal absent = 0 ∷ 0 ∷ 0 ∷ 0 ∷ 0 ∷ []
-generation-terminal (terminal e) = 1 ∷ e
+generation-terminal a = five-words (a .terminal)
 
 abbrev pub shape-of : ℕ → ℕ → ℕ → ℕ → Shape
 shape-of main-width height pre-width pre-height =

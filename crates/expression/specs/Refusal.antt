@@ -72,6 +72,18 @@ abbrev pub answer-details : Option Refusal → List ℕ
 answer-details none = 0 ∷ 0 ∷ 0 ∷ []
 answer-details (some f) = details f
 
+-- "An answer is a number and three 64-bit details"
+pub record Numbers : Type 0 where
+  pub number : ℕ
+  pub details : List ℕ
+
+abbrev pub numbers : Option Refusal → Numbers
+numbers r = record { number = answer-number r; details = answer-details r }
+
+abbrev pub nothing-refused : Option Refusal → Bool
+nothing-refused none = true
+nothing-refused (some f) = false
+
 -- the refusal f unless the test holds, and then what comes after it
 abbrev pub unless : Bool → Refusal → Option Refusal → Option Refusal
 unless true f later = later

@@ -10,17 +10,16 @@ use Rattle.lists.specs.Count.{first, or-else}
 use Rattle.field.specs.Element.{lift, one4, add4, sub4, mul4, scale4, element, is-zero, sum4, product4}
 use Rattle.expression.specs.Words.{all-below}
 use Rattle.expression.specs.Refusal.{unless}
-use Rattle.expression.specs.Node.{node-count}
 use Rattle.expression.specs.Values.{row-values}
-use Rattle.expression.specs.Tests.{degrees-low}
 use Rattle.expression.specs.declared.sizes.Limits.{Limits}
 use Rattle.expression.specs.declared.refusal.Refusal.{Refusal}
-use Rattle.expression.specs.declared.refusal.Refusal.the-variants.{SizeAtOdds, WordTooLarge, NodeInvalid, DegreeTooHigh, LookupInvalid, ChallengesMissing, RowsMissing, TraceTooSmall, TerminalMisplaced, ConstraintNotZero}
+use Rattle.expression.specs.declared.refusal.Refusal.the-variants.{TraceTooSmall, TerminalMisplaced, ConstraintNotZero}
 use Rattle.lookup.specs.Lookups.{Lookups, lookup-count, exclusive}
 use Rattle.lookup.specs.Table.{Table}
-use Rattle.lookup.specs.Tests.{sizes, words-below, known, lists-agree, in-position, has-lookups, rows-enough}
+use Rattle.lookup.specs.Tests.{has-lookups}
 use Rattle.logup.specs.Column.{Place, branches, multiplicity, flag, denom, fault}
 use Rattle.logup.specs.Rows.{place, fraction-at, accumulator}
+use Rattle.logup.specs.Refusals.{logup-refusal}
 
 module _ (p w : ℕ) (c : Place) where
   -- the product of all denominators but that of tuple k
@@ -93,23 +92,38 @@ abbrev pub present-below : ℕ → Option (List ℕ) → Bool
 present-below p none = true
 present-below p (some e) = all-below p e
 
+-- refusal 1 besides the table: whole challenges, and a trace of as many words as its width and its rows say
+abbrev pub trace-sizes : List ℕ → ℕ → ℕ → List ℕ → Bool
+trace-sizes challenges height width words = eqb (length challenges % 4) 0 && eqb (length words) (width * height * 4)
+
+-- refusal 2 besides the table: the challenges, the trace, the terminal
+abbrev pub trace-words : ℕ → List ℕ → List ℕ → Option (List ℕ) → Bool
+trace-words p challenges words terminal = all-below p challenges && (all-below p words && present-below p terminal)
+
+-- refusal 8: with lookups "fewer than 2n (constraints)", for so many challenge words
+abbrev pub challenges-enough : List ℕ → ℕ → Bool
+challenges-enough lookups words = not (has-lookups lookups) || leb (2 * lookup-count lookups) (words / 4)
+
+-- refusal 10: with lookups "a trace narrower than n + 1 (constraints)"; 11: "a terminal without lookups, or none with lookups"
+abbrev pub trace-refusal : List ℕ → ℕ → Bool → Option Refusal
+trace-refusal lookups width present =
+    unless (not (has-lookups lookups) || leb (lookup-count lookups + 1) width) TraceTooSmall
+    (unless (cond (has-lookups lookups) present (not present)) TerminalMisplaced none)
+
 module _ (m : Limits) (p w : ℕ) (t : Table) (challenges : List ℕ) (width : ℕ) (words : List ℕ) (terminal : Option (List ℕ)) where
   abbrev pub lists : List ℕ
   lists = t .lookups .lookups
 
-  -- refusals 1 to 11, as generation's, with the trace and the terminal; 8 "fewer than 2n (constraints)"; 10 "a trace narrower than n + 1
-  -- (constraints)"; 11 "a terminal without lookups, or none with lookups"
+  -- refusals 1 to 5, 8 and 9 as generation's, then 10 and 11
   unfoldable pub constraints-refusal : Option Refusal
   constraints-refusal =
-      unless (sizes m t && eqb (length challenges % 4) 0 && eqb (length words) (width * t .traces .shape .height * 4)) SizeAtOdds
-      (unless (words-below p t && all-below p challenges && all-below p words && present-below p terminal) WordTooLarge
-      (unless (known t) NodeInvalid
-      (unless (degrees-low m (t .nodes)) DegreeTooHigh
-      (unless (lists-agree (node-count (t .nodes)) (t .lookups) && in-position lists) LookupInvalid
-      (unless (not (has-lookups lists) || leb (2 * lookup-count lists) (length challenges / 4)) ChallengesMissing
-      (unless (rows-enough (t .traces .shape) lists) RowsMissing
-      (unless (not (has-lookups lists) || leb (lookup-count lists + 1) width) TraceTooSmall
-      (unless (cond (has-lookups lists) (is-present terminal) (not (is-present terminal))) TerminalMisplaced none))))))))
+      logup-refusal m p t
+      (record {
+        sizes = trace-sizes challenges (t .traces .shape .height) width words;
+        words = trace-words p challenges words terminal;
+        challenges = challenges-enough lists (length challenges);
+      })
+      (trace-refusal lists width (is-present terminal))
 
   abbrev pub terminal-verdict : Option (List ℕ) → Option Refusal
   terminal-verdict none = none

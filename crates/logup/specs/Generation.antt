@@ -1,34 +1,47 @@
 -- Generation (`LogUpGadget::generate_permutation`): its answer and the words of the buffer afterwards, for every input. SPECIFICATION,
 -- section 4.1.
 use Prim.Native.Nat.{ℕ, _*_, _/_, _%_}
-use mathlib.Core.Bool.{Bool, true, false, cond, _&&_, _||_, not}
-use mathlib.Core.Option.{Option, none, some}
-use mathlib.Core.List.{List, _++_}
+use mathlib.Core.Bool.{Bool, cond, _||_, not}
+use mathlib.Core.Option.{Option, none, some, Option·getD}
+use mathlib.Core.List.{List, [], _∷_, _++_}
 use lib.Dec.{eqb, leb}
 use lib.ListN.{length, drop, replicate}
 use Rattle.field.specs.Element.{zero4}
 use Rattle.field.specs.Ext.{ext-words}
 use Rattle.expression.specs.Words.{all-below}
-use Rattle.expression.specs.Refusal.{unless}
-use Rattle.expression.specs.Node.{node-count}
+use Rattle.expression.specs.Refusal.{number, details, unless}
 use Rattle.expression.specs.Values.{row-values}
-use Rattle.expression.specs.Tests.{degrees-low}
 use Rattle.expression.specs.declared.sizes.Limits.{Limits}
 use Rattle.expression.specs.declared.refusal.Refusal.{Refusal}
-use Rattle.expression.specs.declared.refusal.Refusal.the-variants.{SizeAtOdds, WordTooLarge, NodeInvalid, DegreeTooHigh, LookupInvalid, ChallengesMissing, RowsMissing, TraceTooSmall}
+use Rattle.expression.specs.declared.refusal.Refusal.the-variants.{TraceTooSmall}
 use Rattle.lookup.specs.Lookups.{lookup-count}
 use Rattle.lookup.specs.Table.{Table}
-use Rattle.lookup.specs.Tests.{sizes, words-below, known, lists-agree, in-position, has-lookups, rows-enough}
+use Rattle.lookup.specs.Tests.{has-lookups}
 use Rattle.logup.specs.Rows.{trace, used, accumulator, first-fault}
+use Rattle.logup.specs.Refusals.{logup-refusal}
 use Rattle.logup.specs.declared.logup.Generated.{Generated}
 use Rattle.logup.specs.declared.logup.Generated.the-variants.{Terminal, Absent, Refused}
 
-pub data Answer : Type 0 where
-  refused : Refusal → Answer
-  absent : Answer
-  terminal : List ℕ → Answer
+-- SPECIFICATION, section 1.4: "An answer is a number and three 64-bit details", and "a terminal" beside it: its four words, none where it is absent
+pub record Answer : Type 0 where
+  pub number : ℕ
+  pub details : List ℕ
+  pub terminal : Option (List ℕ)
 
--- the answer that the code's enum gives: its refusal, or its terminal's four words
+abbrev pub refused : Refusal → Answer
+refused f = record { number = number f; details = details f; terminal = none }
+
+-- "Number 0 with zero details means that nothing is refused"
+abbrev pub accepted : Option (List ℕ) → Answer
+accepted e = record { number = 0; details = 0 ∷ 0 ∷ 0 ∷ []; terminal = e }
+
+abbrev pub absent : Answer
+absent = accepted none
+
+abbrev pub terminal : List ℕ → Answer
+terminal e = accepted (some e)
+
+-- the answer that each case of the code's enum stands for
 abbrev pub answer-of : Generated → Answer
 answer-of (Terminal t) = terminal (ext-words (t .0))
 answer-of Absent = absent
@@ -38,9 +51,17 @@ pub record Outcome : Type 0 where
   pub answer : Answer
   pub buffer : List ℕ
 
--- the words `ext-words` at the front of a lent buffer: "words past it are untouched"
+-- n words at the front of a lent buffer: "words past it are untouched"
 abbrev pub written : List ℕ → ℕ → List ℕ → List ℕ
 written words n buffer = words ++ drop n buffer
+
+-- refusal 8: with lookups "not exactly 2n challenges (generation)", for so many challenge words
+abbrev pub challenges-match : List ℕ → ℕ → Bool
+challenges-match lookups words = not (has-lookups lookups) || eqb (words / 4) (2 * lookup-count lookups)
+
+-- refusal 10: with lookups "a buffer of fewer than height × (n + 1) × 4 words (generation)", for a buffer of `room` words
+abbrev pub buffer-refusal : List ℕ → ℕ → ℕ → Option Refusal
+buffer-refusal lookups height room = unless (not (has-lookups lookups) || leb (used lookups height) room) TraceTooSmall none
 
 module _ (m : Limits) (p w : ℕ) (t : Table) (challenges buffer : List ℕ) where
   abbrev pub lists : List ℕ
@@ -49,14 +70,13 @@ module _ (m : Limits) (p w : ℕ) (t : Table) (challenges buffer : List ℕ) whe
   -- SPECIFICATION, section 10.2: "tested in the order of their numbers, as far as they apply to the entry point"
   unfoldable pub entry-refusal : Option Refusal
   entry-refusal =
-      unless (sizes m t && eqb (length challenges % 4) 0) SizeAtOdds
-      (unless (words-below p t && all-below p challenges) WordTooLarge
-      (unless (known t) NodeInvalid
-      (unless (degrees-low m (t .nodes)) DegreeTooHigh
-      (unless (lists-agree (node-count (t .nodes)) (t .lookups) && in-position lists) LookupInvalid
-      (unless (not (has-lookups lists) || eqb (length challenges / 4) (2 * lookup-count lists)) ChallengesMissing
-      (unless (rows-enough (t .traces .shape) lists) RowsMissing
-      (unless (not (has-lookups lists) || leb (used lists (t .traces .shape .height)) (length buffer)) TraceTooSmall none)))))))
+      logup-refusal m p t
+      (record {
+        sizes = eqb (length challenges % 4) 0;
+        words = all-below p challenges;
+        challenges = challenges-match lists (length challenges);
+      })
+      (buffer-refusal lists (t .traces .shape .height) (length buffer))
 
   abbrev pub values : ℕ → List ℕ
   values = row-values p (t .nodes) (t .traces)
@@ -84,12 +104,8 @@ module _ (m : Limits) (p w : ℕ) (t : Table) (challenges buffer : List ℕ) whe
 
 -- SPECIFICATION, section 9.2: it accepts "where it refuses nothing"
 abbrev pub accepts : Answer → Bool
-accepts (refused f) = false
-accepts absent = true
-accepts (terminal e) = true
+accepts a = eqb (a .number) 0
 
 -- SPECIFICATION, section 9.2: terminals agree "where their four words are equal; an absent one counts as four zeros"
 abbrev pub terminal-words : Answer → List ℕ
-terminal-words (refused f) = zero4
-terminal-words absent = zero4
-terminal-words (terminal e) = e
+terminal-words a = Option·getD (a .terminal) zero4

@@ -1,7 +1,8 @@
 -- The ledger of a table, and the sets of challenges at which two tables are compared. SPECIFICATION, sections 9.1 and 9.2.
 use Prim.Native.Nat.{ℕ, _<_}
 use mathlib.Core.Path.{_≡_}
-use mathlib.Core.Bool.{Bool, false, cond, _&&_, _||_}
+use mathlib.Core.Bool.{Bool, false, cond, _||_}
+use mathlib.Core.Option.{none}
 use mathlib.Core.List.{List, [], _∷_, _++_, List·Memᴰ}
 use lib.Dec.{eqb}
 use lib.ListN.{length}
@@ -11,21 +12,17 @@ use Rattle.lists.specs.Fold.{fold}
 use Rattle.field.specs.Word.{addM, mulM}
 use Rattle.field.specs.Element.{Word4}
 use Rattle.expression.specs.Words.{word}
-use Rattle.expression.specs.Node.{node-count}
+use Rattle.expression.specs.Refusal.{nothing-refused}
 use Rattle.expression.specs.Values.{row-values}
-use Rattle.expression.specs.Tests.{degrees-low}
 use Rattle.expression.specs.declared.sizes.Limits.{Limits}
 use Rattle.lookup.specs.Lookups.{Lookups, lookup-count, exclusive, tuple-count, multiplicity-node, flag-node}
 use Rattle.lookup.specs.Table.{Table}
-use Rattle.lookup.specs.Tests.{sizes, words-below, known, lists-agree, in-position, rows-enough}
 use Rattle.logup.specs.Tuple.{tuple}
+use Rattle.logup.specs.Refusals.{table-alone, logup-refusal}
 
--- "where generation finds none of refusals 1 to 5 and 9 in it"
+-- "where generation finds none of refusals 1 to 5 and 9 in it": its own chain of tests, with nothing besides the table and nothing later
 unfoldable pub has-ledger : Limits → ℕ → Table → Bool
-has-ledger m p t =
-    sizes m t && words-below p t && known t && degrees-low m (t .nodes)
-    && (lists-agree (node-count (t .nodes)) (t .lookups) && in-position (t .lookups .lookups))
-    && rows-enough (t .traces .shape) (t .lookups .lookups)
+has-ledger m p t = nothing-refused (logup-refusal m p t table-alone none)
 
 -- a tuple, and how often it is counted
 pub record Entry : Type 0 where

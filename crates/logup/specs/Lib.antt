@@ -1,6 +1,7 @@
 pub mod Tuple
 pub mod Column
 pub mod Rows
+pub mod Refusals
 pub mod Generation
 pub mod Reader
 pub mod Constraints

@@ -41,7 +41,7 @@ module _ (m : Limits) (p : ℕ) (t : Table) (fit low : Bool) where
     pub table-rest : {o : Option Refusal} (x y : Option Refusal) → not (b && low) ≡ false
         → ((later : Option Refusal) → or-else x later ≡ nodes-refusal m (t .traces .shape) (length (t .traces .public-values)) (t .nodes) later)
         → y ≡ position-refusal (node-count (t .nodes)) (t .lookups) none → o ≡ or-else x y → o ≡ table-tests m p t fit low none
-    unfolding table-tests nodes-refusal known
+    unfolding table-tests position-refusal nodes-refusal known
     table-rest x y yb en ep eo =
         passes (sizes m t && fit) SizeAtOdds _ (sized m t fit ea ya)
         (passes (words-below p t && low) WordTooLarge _ (ap (λ (x : Bool). x && low) (sym eb) ∙ not-false (b && low) yb)

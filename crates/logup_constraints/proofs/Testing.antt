@@ -1,6 +1,6 @@
 -- The tests of the entry point: what they answer, and what they leave of a trace that passed them.
 use mathlib.Core.Path.{_≡_, refl, sym, ap, ap₂, _∙_, subst}
-use mathlib.Core.Bool.{Bool, true, false, cond, _&&_, _||_, not, true≢false, and-assoc}
+use mathlib.Core.Bool.{Bool, true, false, cond, _&&_, _||_, not, true≢false}
 use mathlib.Core.Option.{Option, none, some}
 use mathlib.Core.List.{List, [], _∷_}
 use Prim.Native.Nat.{ℕ, _+_, _*_, _/_, _%_, _<_, _≤_}
@@ -15,26 +15,24 @@ use Rattle.field.specs.Element.{Word4}
 use Rattle.expression.specs.Words.{all-below}
 use Rattle.expression.specs.Refusal.{unless}
 use Rattle.expression.specs.Limits.{Sane}
-use Rattle.expression.specs.Node.{node-count}
-use Rattle.expression.specs.Tests.{degrees-low}
 use Rattle.expression.specs.Requires.{Below, Evaluable}
 use Rattle.expression.specs.laws.Below.{below-tested}
 use Rattle.expression.specs.declared.sizes.Shape.{Shape}
 use Rattle.expression.specs.declared.sizes.Limits.{Limits}
 use Rattle.expression.specs.declared.refusal.Refusal.{Refusal}
-use Rattle.expression.specs.declared.refusal.Refusal.the-variants.{SizeAtOdds, WordTooLarge, NodeInvalid, DegreeTooHigh, ChallengesMissing, RowsMissing, TraceTooSmall, TerminalMisplaced}
+use Rattle.expression.specs.declared.refusal.Refusal.the-variants.{ChallengesMissing, RowsMissing, TraceTooSmall, TerminalMisplaced}
 use Rattle.lookup.specs.Lookups.{lookup-count}
 use Rattle.lookup.specs.Table.{Table}
-use Rattle.lookup.specs.Tests.{sizes, words-below, known, has-lookups, rows-enough}
-use Rattle.logup.specs.Constraints.{is-present, present-below, constraints-refusal}
-use Rattle.logup_column.specs.inner.Refusals.{position-refusal, table-tests}
+use Rattle.lookup.specs.Tests.{has-lookups, rows-enough}
+use Rattle.logup.specs.Constraints.{is-present, present-below, trace-sizes, trace-words, constraints-refusal}
+use Rattle.logup_column.specs.inner.Refusals.{table-tests}
 use Rattle.logup_column.specs.inner.Requires.{LookupLists, Field}
 use Rattle.logup_column.specs.inner.Tested.{Tested}
 use Rattle.logup_column.specs.laws.Refusals.{stops, passes}
 use Rattle.expression.specs.laws.Refusal.{unless-none}
 use Rattle.logup_column.specs.laws.Tested.{tested-lookups, tested-lists, tested-traces}
 use Rattle.logup_terms.specs.inner.ConstraintRow.{TraceInputs}
-use Rattle.logup_constraints.specs.inner.Refusals.{trace-sizes, trace-words, trace-tests}
+use Rattle.logup_constraints.specs.inner.Refusals.{trace-tests}
 
 -- the trace's size without a product
 pub fits-none : (h w n : ℕ) → h ≡ 0 → eqb n 0 ≡ eqb n (w * h * 4)
@@ -70,16 +68,8 @@ fits-is h w n pos = same-tests (eqb (n % 4) 0 && eqb (n / 4 % h) 0 && eqb (n / 4
 pub entry-is : (m : Limits) (p w : ℕ) (t : Table) (cs : List ℕ) (width : ℕ) (words : List ℕ) (o : Option (List ℕ))
     → table-tests m p t (trace-sizes cs (t .traces .shape .height) width words) (trace-words p cs words o) (trace-tests (t .traces .shape) (t .lookups .lookups) (length cs) width (is-present o))
     ≡ constraints-refusal m p w t cs width words o
-unfolding table-tests position-refusal trace-tests constraints-refusal
-entry-is m p w t cs width words o =
-    ap₂
-    (λ (a b : Bool).
-    unless a SizeAtOdds
-    (unless b WordTooLarge
-    (unless (known t) NodeInvalid
-    (unless (degrees-low m (t .nodes)) DegreeTooHigh (position-refusal (node-count (t .nodes)) (t .lookups) (trace-tests (t .traces .shape) (t .lookups .lookups) (length cs) width (is-present o)))))))
-    (sym (and-assoc (sizes m t) (eqb (length cs % 4) 0) (eqb (length words) (width * t .traces .shape .height * 4))))
-    (sym (and-assoc (words-below p t && all-below p cs) (all-below p words) (present-below p o) ∙ and-assoc (words-below p t) (all-below p cs) (all-below p words && present-below p o)))
+unfolding table-tests trace-tests constraints-refusal
+entry-is m p w t cs width words o = refl
 
 placed-is : (h b : Bool) → ((h && b) || (not h && not b)) ≡ cond h b (not b)
 placed-is true true = refl

@@ -10,7 +10,7 @@ ghost use Rattle.field.specs.Ext.{ext-words};
 ghost use Rattle.field.specs.Modulus.{babybear, babybear-w};
 ghost use Rattle.expression.specs.Limits as Sizes;
 ghost use Rattle.expression.specs.Limits.{Sane};
-ghost use Rattle.expression.specs.Refusal.{refusal};
+ghost use Rattle.expression.specs.Refusal.{refusal, numbers};
 ghost use Rattle.expression.specs.Requires.{Below, Evaluable};
 ghost use Rattle.lookup.specs.Lookups.{lent-lookups, lookup-count};
 ghost use Rattle.lookup.specs.Table.{Table, lent-table};
@@ -26,7 +26,6 @@ use expression::sizes;
 use expression::sizes::Limits;
 use expression::sizes::Shape;
 use expression::words::all_below;
-use field::extension::Ext;
 use field::modulus::BABYBEAR;
 use field::modulus::BABYBEAR_W;
 use logup_column::powers;
@@ -175,14 +174,14 @@ fn rows_verdict(
     challenges: &[u32],
     width: usize,
     words: &[u32],
-    terminal: Ext,
+    terminal: LookupTerminal,
 ) -> Verdict
     ghost { Source }
     requires { λ s. ⌜ lent-source shape (now main) (now preprocessed) (now «public_values») (now nodes) (now lookups) (now tuples) (now multiplicities) (now flags) (now elements) (now challenges) ≡ s ⌝ }
     requires { λ s. ⌜ Field p w × Listed (s .lookups)
         × Evaluable p (s .traces) (s .nodes) × Below p (s .challenges) × (8 * lookup-count (s .lookups .lookups) ≤ length (s .challenges)) × (lookup-count (s .lookups .lookups) ≤ 64)
-        × TraceInputs p (shape .height) width (lookup-count (s .lookups .lookups)) (now words) × Word4 p (ext-words terminal) ⌝ }
-    ensures { λ s v. ⌜ ((names : List ℕ) → refusal v ≡ rows-verdict p w (named (s .lookups) names) (s .challenges) (node-values p s) width (now (words .entry)) (ext-words terminal) (shape .height)) ⌝ }
+        × TraceInputs p (shape .height) width (lookup-count (s .lookups .lookups)) (now words) × Word4 p (ext-words (terminal .0)) ⌝ }
+    ensures { λ s v. ⌜ ((names : List ℕ) → refusal v ≡ rows-verdict p w (named (s .lookups) names) (s .challenges) (node-values p s) width (now (words .entry)) (ext-words (terminal .0)) (shape .height)) ⌝ }
 {
     let n = lookups.len() / LOOKUP_WORDS;
     // The powers of 64 betas.
@@ -258,27 +257,24 @@ pub fn eval_trace(
         Verdict::Refused(f) => Verdict::Refused(f),
         Verdict::Accepted => match terminal {
             Terminal::Absent => Verdict::Accepted,
-            Terminal::Given(t) => {
-                let element = t.0;
-                rows_verdict(
-                    p,
-                    w,
-                    shape,
-                    main,
-                    preprocessed,
-                    public_values,
-                    nodes,
-                    lookups,
-                    tuples,
-                    multiplicities,
-                    flags,
-                    elements,
-                    challenges,
-                    width,
-                    words,
-                    element,
-                )
-            }
+            Terminal::Given(t) => rows_verdict(
+                p,
+                w,
+                shape,
+                main,
+                preprocessed,
+                public_values,
+                nodes,
+                lookups,
+                tuples,
+                multiplicities,
+                flags,
+                elements,
+                challenges,
+                width,
+                words,
+                t,
+            ),
         },
     }
 }
@@ -301,10 +297,10 @@ pub fn eval_all(
     words: &[u32],
     terminal: Terminal,
 ) -> Verdict
-    ensures { λ r. ⌜ refusal r ≡ verdict Sizes.cabinet babybear babybear-w
+    ensures { λ r. ⌜ numbers (refusal r) ≡ numbers (verdict Sizes.cabinet babybear babybear-w
         (lent-table shape (now (main .entry)) (now (preprocessed .entry)) (now («public_values» .entry)) (now (nodes .entry))
         (lent-lookups (now (lookups .entry)) (now (names .entry)) (now (tuples .entry)) (now (multiplicities .entry)) (now (flags .entry))
-        (now (elements .entry)))) (now (challenges .entry)) width (now (words .entry)) (terminal-of terminal) ⌝ }
+        (now (elements .entry)))) (now (challenges .entry)) width (now (words .entry)) (terminal-of terminal)) ⌝ }
 {
     eval_trace(
         sizes::cabinet(),

@@ -24,7 +24,7 @@ use Rattle.lookup.specs.Tests.{has-lookups, rows-enough}
 use Rattle.lookup.specs.laws.Tested.{lookups-few}
 use Rattle.logup.specs.Rows.{used}
 use Rattle.logup.specs.Generation.{entry-refusal}
-use Rattle.logup_column.specs.inner.Refusals.{position-refusal, table-tests}
+use Rattle.logup_column.specs.inner.Refusals.{table-tests}
 use Rattle.logup_column.specs.inner.Requires.{LookupLists, Field}
 use Rattle.logup_column.specs.inner.Tested.{Tested}
 use Rattle.logup_column.specs.laws.Refusals.{stops, passes}
@@ -34,7 +34,7 @@ use Rattle.logup_generation.specs.inner.Refusals.{trace-tests}
 
 pub entry-is : (m : Limits) (p w : ℕ) (t : Table) (cs buffer : List ℕ)
     → table-tests m p t (eqb (length cs % 4) 0) (all-below p cs) (trace-tests (t .traces .shape) (t .lookups .lookups) (length cs) (length buffer)) ≡ entry-refusal m p w t cs buffer
-unfolding table-tests position-refusal trace-tests entry-refusal
+unfolding table-tests trace-tests entry-refusal
 entry-is m p w t cs buffer = refl
 
 -- what 8 to 10 leave where there are lookups

@@ -15,7 +15,7 @@ ghost use Rattle.lookup.specs.Lookups.{lent-lookups, lookup-count};
 ghost use Rattle.lookup.specs.Table.{Table, lent-table};
 ghost use Rattle.logup.specs.Rows.{used};
 ghost use Rattle.logup.specs.Generation.{answer-of, generation};
-ghost use Rattle.logup.specs.Reader.{row-part};
+ghost use Rattle.logup.specs.Reader.{IsRowOf};
 ghost use Rattle.logup_column.specs.inner.Requires.{Listed, Field};
 ghost use Rattle.logup_column.specs.inner.Source.{Source, lent-source};
 ghost use Rattle.logup_generation.specs.inner.Refusals.{trace-tests, entry-tests, EntryPassed};
@@ -287,9 +287,9 @@ pub fn generate(
     )
 }
 
-// Row r of a trace of so many lookups and rows: its accumulator and its fractions, or an empty part.
+// Row r of a trace of so many lookups and rows: the part of it with the accumulator and the fractions, or an empty part.
 pub fn row(trace: &[u32], lookups: usize, height: usize, r: u64) -> &[u32]
-    ensures { λ t. ⌜ now t ≡ row-part (now (trace .entry)) lookups height r ⌝ }
+    ensures { λ t. ⌜ IsRowOf (trace .entry) lookups height r t ⌝ }
 {
     if (lookups == 0) | (trace.len() / 4 <= lookups) | ((height as u64) <= r) {
         return &trace[0..0];

@@ -30,6 +30,7 @@ use logup_column::starts::Starts;
 use logup_column::starts::next_starts;
 use logup_column::tuple;
 use lookup::types::LOOKUP_WORDS;
+use lookup::types::LookupTerminal;
 
 // The sum of a row's fractions, and the first refusal of its lookups.
 pub struct RowFractions {
@@ -168,13 +169,13 @@ fn next_accumulator(
     next: usize,
     r: usize,
     height: usize,
-    terminal: Ext,
+    terminal: LookupTerminal,
 ) -> Ext
-    requires { ⌜ Below p (now words) × (r < height) × (r + 1 < height → 4 * next + 4 ≤ length (now words)) × Word4 p (ext-words terminal) ⌝ }
-    ensures { λ e. ⌜ Word4 p (ext-words e) × (ext-words e ≡ next-accumulator (now (words .entry)) next r height (ext-words terminal)) ⌝ }
+    requires { ⌜ Below p (now words) × (r < height) × (r + 1 < height → 4 * next + 4 ≤ length (now words)) × Word4 p (ext-words (terminal .0)) ⌝ }
+    ensures { λ e. ⌜ Word4 p (ext-words e) × (ext-words e ≡ next-accumulator (now (words .entry)) next r height (ext-words (terminal .0))) ⌝ }
 {
     if height <= r + 1 {
-        return terminal;
+        return terminal.0;
     }
     extension::load(words, next)
 }
@@ -198,20 +199,24 @@ fn last_place(n: usize, r: usize, height: usize) -> usize
     if r + 1 < height { n + 1 } else { n + 2 }
 }
 
-// The accumulator and the row's fractions sum up to what the accumulator next-accumulator.
+// The accumulator and the row's fractions sum up to what the accumulator must become; only here the terminal is taken for an element.
 fn eval_accumulator(
     p: u32,
     accumulator: Ext,
-    next: Ext,
+    words: &[u32],
+    next: usize,
+    terminal: LookupTerminal,
     sum: Ext,
     n: usize,
     r: usize,
     height: usize,
 ) -> Verdict
-    requires { ⌜ Modulus p × Word4 p (ext-words accumulator) × Word4 p (ext-words next) × Word4 p (ext-words sum) × (r < height) × (n ≤ 64) ⌝ }
-    ensures { λ v. ⌜ refusal v ≡ accumulator-verdict p (ext-words accumulator) (ext-words next) (ext-words sum) n r height ⌝ }
+    requires { ⌜ Modulus p × Word4 p (ext-words accumulator) × Below p (now words) × (r + 1 < height → 4 * next + 4 ≤ length (now words))
+        × Word4 p (ext-words (terminal .0)) × Word4 p (ext-words sum) × (r < height) × (n ≤ 64) ⌝ }
+    ensures { λ v. ⌜ refusal v ≡ accumulator-verdict p (ext-words accumulator) (next-accumulator (now (words .entry)) next r height (ext-words (terminal .0))) (ext-words sum) n r height ⌝ }
 {
-    let rest = extension::sub(p, extension::sub(p, next, accumulator), sum);
+    let due = next_accumulator(p, words, next, r, height, terminal);
+    let rest = extension::sub(p, extension::sub(p, due, accumulator), sum);
     refusal::first(
         first_row(accumulator, r, n),
         must_vanish(rest, r, last_place(n, r, height)),
@@ -236,16 +241,16 @@ pub fn eval_row(
     table: &[u32],
     width: usize,
     words: &[u32],
-    terminal: Ext,
+    terminal: LookupTerminal,
     r: usize,
     base: usize,
 ) -> Verdict
     ghost { Source }
     requires { λ s. ⌜ lent-source shape (now main) (now preprocessed) (now «public_values») (now nodes) (now lookups) (now tuples) (now multiplicities) (now flags) (now elements) (now challenges) ≡ s ⌝ }
     requires { λ s. ⌜ ColumnInputs p w (s .lookups) (s .challenges) (now table) × Evaluable p (s .traces) (s .nodes)
-        × TraceInputs p (shape .height) width (lookup-count (s .lookups .lookups)) (now words) × Word4 p (ext-words terminal)
+        × TraceInputs p (shape .height) width (lookup-count (s .lookups .lookups)) (now words) × Word4 p (ext-words (terminal .0))
         × (r < shape .height) × (base ≡ r * width) × (lookup-count (s .lookups .lookups) ≤ 64) ⌝ }
-    ensures { λ s v. ⌜ refusal v ≡ row-verdict p w (s .lookups) (s .challenges) (node-values p s) width (now (words .entry)) (ext-words terminal) (shape .height) r ⌝ }
+    ensures { λ s v. ⌜ refusal v ≡ row-verdict p w (s .lookups) (s .challenges) (node-values p s) width (now (words .entry)) (ext-words (terminal .0)) (shape .height) r ⌝ }
 {
     let mut vals = [0u32; 1024];
     traits::row_values(
@@ -277,11 +282,20 @@ pub fn eval_row(
     let sum = fractions.sum;
     let verdict = fractions.verdict;
     let accumulator = extension::load(words, base);
-    let next = next_accumulator(p, words, base + width, r, shape.height, terminal);
     let n = lookups.len() / LOOKUP_WORDS;
     refusal::first(
         verdict,
-        eval_accumulator(p, accumulator, next, sum, n, r, shape.height),
+        eval_accumulator(
+            p,
+            accumulator,
+            words,
+            base + width,
+            terminal,
+            sum,
+            n,
+            r,
+            shape.height,
+        ),
     )
 }
 
@@ -312,14 +326,14 @@ pub fn eval_rows(
     table: &[u32],
     width: usize,
     words: &[u32],
-    terminal: Ext,
+    terminal: LookupTerminal,
 ) -> Verdict
     ghost { Source }
     requires { λ s. ⌜ lent-source shape (now main) (now preprocessed) (now «public_values») (now nodes) (now lookups) (now tuples) (now multiplicities) (now flags) (now elements) (now challenges) ≡ s ⌝ }
     requires { λ s. ⌜ ColumnInputs p w (s .lookups) (s .challenges) (now table) × Evaluable p (s .traces) (s .nodes)
-        × TraceInputs p (shape .height) width (lookup-count (s .lookups .lookups)) (now words) × Word4 p (ext-words terminal)
+        × TraceInputs p (shape .height) width (lookup-count (s .lookups .lookups)) (now words) × Word4 p (ext-words (terminal .0))
         × (lookup-count (s .lookups .lookups) ≤ 64) ⌝ }
-    ensures { λ s v. ⌜ refusal v ≡ rows-verdict p w (s .lookups) (s .challenges) (node-values p s) width (now (words .entry)) (ext-words terminal) (shape .height) ⌝ }
+    ensures { λ s v. ⌜ refusal v ≡ rows-verdict p w (s .lookups) (s .challenges) (node-values p s) width (now (words .entry)) (ext-words (terminal .0)) (shape .height) ⌝ }
 {
     let height = shape.height;
     let mut base = 0;

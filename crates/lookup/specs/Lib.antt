@@ -2,6 +2,7 @@ pub mod Lookups
 pub mod Buses
 pub mod Table
 pub mod Tests
+pub mod Order
 pub mod Refusals
 pub mod Requires
 pub mod Sizes

@@ -1,35 +1,41 @@
 -- The first of refusals 1 to 5 that a table has, "in the order of their numbers" (SPECIFICATION, section 10.2).
 use Prim.Native.Nat.{ℕ}
-use mathlib.Core.Bool.{Bool, _&&_}
+use mathlib.Core.Bool.{Bool, true, _&&_}
 use mathlib.Core.Option.{Option, none}
 use mathlib.Core.List.{List}
 use lib.Dec.{leb, ltb}
 use lib.ListN.{length}
-use Rattle.expression.specs.Refusal.{unless}
 use Rattle.expression.specs.Node.{node-count}
 use Rattle.expression.specs.Tests.{nodes-within, nodes-fit, constants-below, nodes-known, degrees-low}
 use Rattle.expression.specs.declared.sizes.Shape.{Shape}
 use Rattle.expression.specs.declared.sizes.Limits.{Limits}
 use Rattle.expression.specs.declared.refusal.Refusal.{Refusal}
-use Rattle.expression.specs.declared.refusal.Refusal.the-variants.{SizeAtOdds, WordTooLarge, NodeInvalid, DegreeTooHigh, LookupInvalid}
 use Rattle.lookup.specs.Lookups.{Lookups}
 use Rattle.lookup.specs.Table.{Table}
-use Rattle.lookup.specs.Tests.{sizes, words-below, lists-agree, lookups-within, lookups-fit}
+use Rattle.lookup.specs.Tests.{sizes, words-below, known, lists-agree, lookups-within, lookups-fit}
+use Rattle.lookup.specs.Order.{first-refusal}
 use Rattle.lookup.specs.declared.refusals.Columns.{Columns}
 
--- refusals 3 and 4 of the nodes, where there are so many public values, and what comes after them
+-- refusals 3 and 4 of the nodes alone, where there are so many public values, and what comes after them
 unfoldable pub nodes-refusal : Limits → Shape → ℕ → List ℕ → Option Refusal → Option Refusal
-nodes-refusal m s publics nodes later = unless (nodes-known s publics nodes) NodeInvalid (unless (degrees-low m nodes) DegreeTooHigh later)
+nodes-refusal m s publics nodes later =
+    first-refusal (record { sizes = true; words = true; nodes = nodes-known s publics nodes; degrees = degrees-low m nodes; lists = true }) later
 
--- refusal 5 of every entry point
+-- refusal 5 of every entry point, alone
 unfoldable pub lists-refusal : ℕ → Lookups → Option Refusal
-lists-refusal n l = unless (lists-agree n l) LookupInvalid none
+lists-refusal n l = first-refusal (record { sizes = true; words = true; nodes = true; degrees = true; lists = lists-agree n l }) none
 
 unfoldable pub table-refusal : Limits → ℕ → Table → Option Refusal
 table-refusal m p t =
-    unless (sizes m t) SizeAtOdds
-    (unless (words-below p t) WordTooLarge
-    (nodes-refusal m (t .traces .shape) (length (t .traces .public-values)) (t .nodes) (lists-refusal (node-count (t .nodes)) (t .lookups))))
+    first-refusal
+    (record {
+      sizes = sizes m t;
+      words = words-below p t;
+      nodes = known t;
+      degrees = degrees-low m (t .nodes);
+      lists = lists-agree (node-count (t .nodes)) (t .lookups);
+    })
+    none
 
 -- Packing, degree and building take no traces: they take the widths of the traces and the number of public values.
 unfoldable pub columns-within : Limits → Columns → Bool
@@ -46,6 +52,12 @@ form-sizes m c nodes l =
 
 unfoldable pub form-refusal : Limits → ℕ → Columns → List ℕ → Lookups → Option Refusal
 form-refusal m p c nodes l =
-    unless (form-sizes m c nodes l) SizeAtOdds
-    (unless (constants-below p nodes) WordTooLarge
-    (nodes-refusal m (shape-of c) (c .«public_values») nodes (lists-refusal (node-count nodes) l)))
+    first-refusal
+    (record {
+      sizes = form-sizes m c nodes l;
+      words = constants-below p nodes;
+      nodes = nodes-known (shape-of c) (c .«public_values») nodes;
+      degrees = degrees-low m nodes;
+      lists = lists-agree (node-count nodes) l;
+    })
+    none

@@ -1,4 +1,5 @@
 pub mod Soundness
+pub mod Accepted
 pub mod Lawful
 pub mod Paper
 pub mod Vanishing

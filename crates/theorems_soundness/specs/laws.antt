@@ -17,6 +17,7 @@ pub mod Vanishing
 pub mod Passes
 pub mod Layout
 pub mod Constraints
+pub mod Accepted
 pub mod Accepts
 pub mod FullSets
 pub mod Example

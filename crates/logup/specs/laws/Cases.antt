@@ -2,7 +2,7 @@
 -- refusals, a part of the reader and a ledger, as one table with one theorem.
 use Prim.Native.Nat.{ℕ, _+_, _*_}
 use mathlib.Core.Bool.{Bool, true, _&&_}
-use mathlib.Core.Option.{Option, none, some}
+use mathlib.Core.Option.{Option, none, some, Option·getD}
 use mathlib.Core.List.{List, [], _∷_, _++_}
 use lib.Dec.{T}
 use lib.ListN.{replicate, length, take}
@@ -16,11 +16,11 @@ use Rattle.field.specs.Word.{addM, negM, subM, mulM, inverse1}
 use Rattle.field.specs.Element.{lift, add4, sub4, mul4, scale4, power4, sum4, product4, conjugate, conjugate2, norm2, norm, inverse4, is-zero, element}
 use Rattle.field.specs.Modulus.{babybear, babybear-w}
 use Rattle.expression.specs.Words.{word, all-below, all-within}
-use Rattle.expression.specs.Refusal.{number, details, answer-number, answer-details}
+use Rattle.expression.specs.Refusal.{answer-number, answer-details}
 use Rattle.expression.specs.Limits.{cabinet}
 use Rattle.expression.specs.Node.{decode, node}
 use Rattle.expression.specs.Window.{row-of, window}
-use Rattle.expression.specs.Values.{node-value, values, row-values}
+use Rattle.expression.specs.Values.{bit, node-value, values, row-values}
 use Rattle.expression.specs.Degree.{node-degree, degrees}
 use Rattle.expression.specs.Tests.{traces-within, nodes-within, traces-fit, nodes-fit, traces-below, constants-below, nodes-known, degrees-low}
 use Rattle.expression.specs.declared.refusal.Refusal.{Refusal}
@@ -30,16 +30,14 @@ use Rattle.lookup.specs.Tests.{lookups-within, lookups-fit, sizes, words-below,
 use Rattle.logup.specs.Tuple.{tuple, combine, denominator, quotient4}
 use Rattle.logup.specs.Column.{branches, multiplicity, flag, chosen, denom, used-denom, additive-fraction, additive-fault, exclusive-fraction, exclusive-fault, fraction, fault}
 use Rattle.logup.specs.Rows.{fault-refusal, place, fraction-at, row-sum, accumulator, row-words, fault-at, row-fault, trace, first-fault, used}
-use Rattle.logup.specs.Generation.{Answer, refused, absent, terminal, Outcome, entry-refusal, rows-outcome, entry-outcome, generation}
+use Rattle.logup.specs.Generation.{Answer, Outcome, entry-refusal, rows-outcome, entry-outcome, generation}
 use Rattle.logup.specs.Reader.{row-part}
 use Rattle.logup.specs.Constraints.{others, additive-numerator, additive-denominator, exclusive-numerator, exclusive-denominator, numerator, common-denominator, cell, cell-sum, lookup-constraint, step, binding, row-verdict, rows-verdict, constraints-refusal, verdict}
-use Rattle.logup.specs.Ledger.{count, lookup-entries, row-entries, entries, post, ledger, listed, met, tuples-met}
+use Rattle.logup.specs.Ledger.{has-ledger, count, lookup-entries, row-entries, entries, post, ledger, listed, met, tuples-met}
 
 -- what a call gives, as words: the answer's number and details, the terminal, the buffer
 abbrev pub answer-words : Answer → List ℕ
-answer-words (refused f) = number f ∷ details f
-answer-words absent = 0 ∷ 0 ∷ 0 ∷ 0 ∷ []
-answer-words (terminal e) = 0 ∷ 0 ∷ 0 ∷ 0 ∷ e
+answer-words a = a .number ∷ a .details ++ Option·getD (a .terminal) []
 
 abbrev pub outcome-words : Outcome → List ℕ
 outcome-words o = answer-words (o .answer) ++ o .buffer
@@ -215,6 +213,17 @@ cases =
     -- the reader: row 1 of c4's trace, and no row past the last
     ∷ record { computed = row-part (lift 0 ++ lift 1006632961 ++ lift 1006632961 ++ lift 1) 1 2 1; expected = lift 1006632961 ++ lift 1 }
     ∷ record { computed = row-part (lift 0 ++ lift 1006632961 ++ lift 1006632961 ++ lift 1) 1 2 2; expected = [] }
+    -- who has a ledger: a table of six rows, and one without lookups; not columns 0, 5, nor height 0, nor height 4 with preprocessed 3
+    ∷ record {
+      computed =
+          bit (has-ledger cabinet babybear (additive 1 (replicate 6 3)))
+          ∷ bit (has-ledger cabinet babybear no-lookup)
+          ∷ bit (has-ledger cabinet babybear (table (three-nodes 1 0) (0 ∷ 5 ∷ []) 1 0 (3 ∷ []) 0 0))
+          ∷ bit (has-ledger cabinet babybear (additive 1 []))
+          ∷ bit (has-ledger cabinet babybear (table (three-nodes 1 0) (0 ∷ []) 1 0 (3 ∷ 3 ∷ 3 ∷ 3 ∷ []) 1 3))
+          ∷ [];
+      expected = 1 ∷ 1 ∷ 0 ∷ 0 ∷ 0 ∷ [];
+    }
     -- rows 3, 4, 3 with multiplicity 2: the ledger of (3) is 4; two lists are met
     ∷ record {
       computed = ledger babybear (additive 2 (3 ∷ 4 ∷ 3 ∷ [])) (3 ∷ []) ∷ tuples-met babybear (additive 2 (3 ∷ 4 ∷ 3 ∷ [])) no-lookup ∷ [];
@@ -239,5 +248,5 @@ unfolding powM addM negM subM mulM inverse1 add4 sub4 mul4 scale4 power4 sum4 pr
     accumulator row-words fault-at row-fault trace first-fault used entry-refusal rows-outcome entry-outcome generation others additive-numerator
     additive-denominator exclusive-numerator exclusive-denominator numerator common-denominator cell cell-sum lookup-constraint step binding
     row-verdict rows-verdict constraints-refusal verdict count lookup-entries row-entries entries same-list post ledger listed met tuples-met
-    row-part
+    row-part has-ledger
 cases-hold = tt

@@ -11,7 +11,7 @@ use lib.Dec.{T, eqb, leb, ltb, le→leb}
 use lib.ListN.{length, length-append}
 use borrow.Author.Tests.{le-ltb}
 use Rattle.lists.specs.Count.{total, joined}
-use Rattle.lists.specs.laws.Count.{last-or-below, some-of-none, joined-next, and-left, and-right, of-true, true-of, false-of, eqb-true, eqb-false, eq-of-eqb}
+use Rattle.lists.specs.laws.Count.{last-or-below, some-of-none, joined-next, of-true, true-of, false-of, eqb-true, eqb-false, eq-of-eqb}
 use Rattle.field.specs.Element.{one4, is-zero, sub4}
 use Rattle.field.specs.Modulus.{Certificate}
 use Rattle.field.specs.laws.Extension.{h}
@@ -33,7 +33,7 @@ use Rattle.field.specs.laws.Zero.{one-not-zero}
 use Rattle.theorems_soundness.specs.laws.Elements.{element-sum, sub-zero-iff}
 use Rattle.theorems_soundness.specs.laws.Columns.{ones, Lawful}
 use Rattle.theorems_soundness.specs.laws.Terminals.{place-at-pair}
-use Rattle.theorems_soundness.specs.laws.Entered.{Passed, entered}
+use Rattle.theorems_soundness.specs.laws.Entered.{Passed, entered, Ledgered, ledgered}
 use Rattle.theorems_soundness.specs.laws.Vanishing.{first-all}
 use Rattle.theorems_soundness.specs.laws.Words.{and-of, or-right, all-below-of, joined-each, append-each, element-each}
 
@@ -171,18 +171,18 @@ module _ (m : Limits) (p w : ℕ) (C : Certificate p w) (t : Table) (alpha beta 
       })
 
   tests : Passed m p w t cs buffer
-  unfolding has-ledger
   tests =
+      let own : Ledgered m p t = ledgered m p t ok in
       let four : length cs % 4 ≡ 0 = omega (arith, challenges-length) in
       let two : length cs / 4 ≡ 2 * n = omega (arith, challenges-length) in
       record {
-        one = and-of (sizes m t) (eqb (length cs % 4) 0) (search (and-left, and-right)) (of-true (eqb-true four));
-        two = and-of (words-below p t) (all-below p cs) (search (and-left, and-right)) challenges-below;
-        three = search (and-left, and-right);
-        four = search (and-left, and-right);
-        five = search (and-left, and-right);
+        one = and-of (sizes m t) (eqb (length cs % 4) 0) (own .one) (of-true (eqb-true four));
+        two = and-of (words-below p t) (all-below p cs) (own .two) challenges-below;
+        three = own .three;
+        four = own .four;
+        five = own .five;
         eight = or-right (not (has-lookups (t .lookups .lookups))) (eqb (length cs / 4) (2 * n)) (of-true (eqb-true two));
-        nine = search (and-left, and-right);
+        nine = own .nine;
         ten =
             or-right (not (has-lookups (t .lookups .lookups))) (leb (used (t .lookups .lookups) (t .traces .shape .height)) (length buffer))
             (le→leb (used (t .lookups .lookups) (t .traces .shape .height)) (length buffer) room);

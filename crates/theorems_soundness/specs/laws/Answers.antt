@@ -1,5 +1,5 @@
 -- What an accepting answer of generation says: there are no lookups and no terminal, or no row has a fault and the terminal is the last sum.
-use mathlib.Core.Path.{_≡_, refl, sym, ap, _∙_}
+use mathlib.Core.Path.{_≡_, refl, sym, ap, _∙_, subst}
 use mathlib.Core.Logic.{_⊎_, inl, inr, ⊎-elim}
 use mathlib.Core.Bool.{Bool, true, false, cond}
 use mathlib.Core.Option.{Option, none, some, Option·some-ne-none}
@@ -11,6 +11,7 @@ use Rattle.lists.specs.Count.{some-of, total}
 use Rattle.lists.specs.laws.Count.{first-none, not-of-false}
 use Rattle.field.specs.Element.{is-zero}
 use Rattle.expression.specs.Values.{bit, row-values}
+use Rattle.expression.specs.laws.Refusal.{number-nonzero}
 use Rattle.expression.specs.declared.sizes.Limits.{Limits}
 use Rattle.expression.specs.declared.refusal.Refusal.{Refusal}
 use Rattle.expression.specs.declared.refusal.Refusal.the-variants.{FlagNotBinary, TwoFlags, DenominatorZero}
@@ -90,7 +91,7 @@ module _ (m : Limits) (p w : ℕ) (t : Table) (challenges buffer : List ℕ) whe
       rows : entry-refusal m p w t challenges buffer ≡ none → (o : Option Refusal) → fault-of ≡ o
           → T (accepts (rows-outcome m p w t challenges buffer o .answer)) → Accepted (rows-outcome m p w t challenges buffer o .answer)
       rows q none e ok = record { entered = q; either = inr (e, refl) }
-      rows q (some f) e ok = absurd ok
+      rows q (some f) e ok = absurd (subst T (number-nonzero f) ok)
 
       after : entry-refusal m p w t challenges buffer ≡ none → (b : Bool) → ltb 0 (lookup-count (t .lookups .lookups)) ≡ b
           → T (accepts (cond b (rows-outcome m p w t challenges buffer fault-of) (record { answer = absent; buffer = buffer }) .answer))
@@ -110,5 +111,5 @@ module _ (m : Limits) (p w : ℕ) (t : Table) (challenges buffer : List ℕ) whe
 
       go : (o : Option Refusal) → entry-refusal m p w t challenges buffer ≡ o
           → T (accepts (entry-outcome m p w t challenges buffer o .answer)) → Accepted (entry-outcome m p w t challenges buffer o .answer)
-      go (some f) q ok = absurd ok
+      go (some f) q ok = absurd (subst T (number-nonzero f) ok)
       go none q ok = after q (ltb 0 (lookup-count (t .lookups .lookups))) refl ok

@@ -12,7 +12,7 @@ use lib.Dec.{T, eqb, leb, ltb→lt, le→leb, eqb→eq}
 use lib.ListN.{length, take, drop}
 use lib.Seq.{take-at}
 use Rattle.lists.specs.Count.{joined, or-else}
-use Rattle.lists.specs.laws.Count.{or-else-none, of-true, true-of, eqb-true, eq-of-eqb}
+use Rattle.lists.specs.laws.Count.{or-else-none, and-left, and-right, of-true, true-of, eqb-true, eq-of-eqb}
 use Rattle.lists.specs.laws.Tests.{both-left, both-right}
 use Rattle.field.specs.Modulus.{Modulus, Certificate}
 use Rattle.field.specs.laws.Extension.{h}
@@ -29,7 +29,7 @@ use Rattle.lookup.specs.Lookups.{lookup-count}
 use Rattle.lookup.specs.Table.{Table}
 use Rattle.lookup.specs.Tests.{sizes, words-below, known, lists-agree, in-position, has-lookups, rows-enough}
 use Rattle.logup.specs.Rows.{place, fraction-at, row-sum, accumulator, row-words, trace, used, first-fault}
-use Rattle.logup.specs.Constraints.{constraints-refusal, verdict, Regular, IsGenerated}
+use Rattle.logup.specs.Constraints.{trace-sizes, trace-words, constraints-refusal, verdict, Regular, IsGenerated}
 use Rattle.logup.specs.Generation.{Outcome, terminal, written, rows-outcome, entry-outcome, generation, accepts, terminal-words}
 use Rattle.logup.specs.Ledger.{Element}
 use Rattle.theorems_soundness.specs.laws.Words.{and-of, or-right, all-below-of, append-each, joined-each, element-each}
@@ -72,8 +72,8 @@ module _ (m : Limits) (p w : ℕ) (M : Modulus p) (C : Certificate p w) (t : Tab
   tested : constraints-refusal m p w t challenges width words (some e) ≡ none → Tested
   unfolding constraints-refusal
   tested tests =
-      let a : _ = unless-none (sizes m t && eqb (length challenges % 4) 0 && eqb (length words) (width * height * 4)) SizeAtOdds _ tests in
-      let b : _ = unless-none (words-below p t && all-below p challenges && all-below p words && all-below p e) WordTooLarge _ (a .1) in
+      let a : _ = unless-none (sizes m t && trace-sizes challenges height width words) SizeAtOdds _ tests in
+      let b : _ = unless-none (words-below p t && trace-words p challenges words (some e)) WordTooLarge _ (a .1) in
       let c : _ = unless-none (known t) NodeInvalid _ (b .1) in
       let d : _ = unless-none (degrees-low m (t .nodes)) DegreeTooHigh _ (c .1) in
       let f : _ = unless-none (lists-agree (node-count (t .nodes)) (t .lookups) && in-position lists) LookupInvalid _ (d .1) in
@@ -81,14 +81,13 @@ module _ (m : Limits) (p w : ℕ) (M : Modulus p) (C : Certificate p w) (t : Tab
       let k : _ = unless-none (rows-enough (t .traces .shape) lists) RowsMissing _ (g .1) in
       let q : _ = unless-none (not (has-lookups lists) || leb (n + 1) width) TraceTooSmall _ (k .1) in
       let r : _ = unless-none (cond (has-lookups lists) true false) TerminalMisplaced none (q .1) in
-      let small : Below p e =
-      below-tested e (h p w C) (both-right (words-below p t && all-below p challenges && all-below p words) (all-below p e) (b .0)) in
+      let size? : _ = both-right (sizes m t) (trace-sizes challenges height width words) (a .0) in
+      let words? : _ =
+      both-right (all-below p challenges) (all-below p words && all-below p e) (both-right (words-below p t) (trace-words p challenges words (some e)) (b .0)) in
+      let small : Below p e = below-tested e (h p w C) (both-right (all-below p words) (all-below p e) words?) in
       record {
-        size = eq-of-eqb (length words) (width * height * 4) (both-right (sizes m t && eqb (length challenges % 4) 0) (eqb (length words) (width * height * 4)) (a .0));
-        words-small =
-            below-tested words (h p w C)
-            (both-right (words-below p t && all-below p challenges) (all-below p words)
-            (both-left (words-below p t && all-below p challenges && all-below p words) (all-below p e) (b .0)));
+        size = eq-of-eqb (length words) (width * height * 4) (both-right (eqb (length challenges % 4) 0) (eqb (length words) (width * height * 4)) size?);
+        words-small = below-tested words (h p w C) (both-left (all-below p words) (all-below p e) words?);
         terminal-small = record { four = four; below = record { w0 = small .each 0; w1 = small .each 1; w2 = small .each 2; w3 = small .each 3 } };
         rows = enough-rows (t .traces .shape) lists (present (has-lookups lists) (of-true (r .0))) (of-true (k .0));
       }
@@ -171,17 +170,26 @@ module _ (m : Limits) (p w : ℕ) (M : Modulus p) (C : Certificate p w) (t : Tab
   abbrev size? : Bool
   size? = eqb (length whole) ((k + 1) * rows * 4)
 
+  abbrev whole? : Bool
+  whole? = eqb (length challenges % 4) 0
+
+  abbrev low? : Bool
+  low? = all-below p challenges
+
   abbrev pairs? : Bool
   pairs? = leb (2 * k) (length challenges / 4)
 
   tests-pass : constraints-refusal m p w t challenges (k + 1) whole (some last) ≡ none
   unfolding constraints-refusal
   tests-pass =
-      unless-of (sizes m t && eqb (length challenges % 4) 0 && size?) SizeAtOdds _ (and-of (sizes m t && eqb (length challenges % 4) 0) size? (tests .one) (of-true size-is))
-      (unless-of (words-below p t && all-below p challenges && all-below p whole && all-below p last) WordTooLarge _
-      (and-of (words-below p t && all-below p challenges && all-below p whole) (all-below p last)
-      (and-of (words-below p t && all-below p challenges) (all-below p whole) (tests .two) (all-below-of p whole trace-below))
-      (all-below-of p last (record { each = element-each p last (h p w C) last-element })))
+      unless-of (sizes m t && (whole? && size?)) SizeAtOdds _
+      (and-of (sizes m t) (whole? && size?) (and-left (sizes m t) whole? (tests .one))
+      (and-of whole? size? (and-right (sizes m t) whole? (tests .one)) (of-true size-is)))
+      (unless-of (words-below p t && (low? && (all-below p whole && all-below p last))) WordTooLarge _
+      (and-of (words-below p t) (low? && (all-below p whole && all-below p last)) (and-left (words-below p t) low? (tests .two))
+      (and-of low? (all-below p whole && all-below p last) (and-right (words-below p t) low? (tests .two))
+      (and-of (all-below p whole) (all-below p last) (all-below-of p whole trace-below)
+      (all-below-of p last (record { each = element-each p last (h p w C) last-element })))))
       (unless-of (known t) NodeInvalid _ (tests .three)
       (unless-of (degrees-low m (t .nodes)) DegreeTooHigh _ (tests .four)
       (unless-of (lists-agree (node-count (t .nodes)) (t .lookups) && in-position ls) LookupInvalid _ (tests .five)

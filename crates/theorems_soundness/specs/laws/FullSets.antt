@@ -33,6 +33,7 @@ use Rattle.logup.specs.Generation.{accepts}
 use Rattle.logup.specs.Ledger.{has-ledger, Entry, Element, entry, lookup-entries, row-entries, entries, met, listed, tuples-met}
 use Rattle.theorems_soundness.specs.Soundness.{FullSet, answer-at, AtEachPair}
 use Rattle.theorems_soundness.specs.Lawful.{LawfulFlags}
+use Rattle.theorems_soundness.specs.laws.Entered.{ledgered}
 use Rattle.theorems_soundness.specs.laws.Accepts.{accepts-at}
 
 -- as many elements as are asked for: two words of each, the other two 0
@@ -153,8 +154,8 @@ met-length (e ∷ es) = go (eqb (e .count) 0 || listed (e .tuple) (met es)) (met
     go false l = omega arith
 
 -- 64 tuples, height 2^20
-cabinet-entries : (p : ℕ) (t : Table) → T (has-ledger cabinet p t) → length (entries p t) ≤ 67108864
-unfolding cabinet has-ledger sizes traces-within lookups-within lookups-fit
+cabinet-entries : (p : ℕ) (t : Table) → T (sizes cabinet t) → length (entries p t) ≤ 67108864
+unfolding cabinet sizes traces-within lookups-within lookups-fit
 cabinet-entries p t ok =
     let high : t .traces .shape .height ≤ 1048576 = leb→le (t .traces .shape .height) 1048576 (search (and-left, and-right) depth 14) in
     let few : length (t .lookups .tuples) ≤ 64 = leb→le (length (t .lookups .tuples)) 64 (search (and-left, and-right) depth 14) in
@@ -179,8 +180,8 @@ pub cabinet-full-set-exists : (t₁ t₂ : Table) (width : ℕ) (buffers₁ buff
     × AtEachPair set (λ a b. T (accepts (answer-at cabinet babybear babybear-w t₂ buffers₂ a b)))
 unfolding tuples-met
 cabinet-full-set-exists t₁ t₂ width buffers₁ buffers₂ lw ok₁ ok₂ flags₁ flags₂ room₁ room₂ =
-    let few₁ : length (entries babybear t₁) ≤ 67108864 = cabinet-entries babybear t₁ ok₁ in
-    let few₂ : length (entries babybear t₂) ≤ 67108864 = cabinet-entries babybear t₂ ok₂ in
+    let few₁ : length (entries babybear t₁) ≤ 67108864 = cabinet-entries babybear t₁ (ledgered cabinet babybear t₁ ok₁ .one) in
+    let few₂ : length (entries babybear t₂) ≤ 67108864 = cabinet-entries babybear t₂ (ledgered cabinet babybear t₂ ok₂ .one) in
     let both : length (entries babybear t₁ ++ entries babybear t₂) ≡ length (entries babybear t₁) + length (entries babybear t₂) =
     length-append (entries babybear t₁) (entries babybear t₂) in
     let n-few : length (met (entries babybear t₁ ++ entries babybear t₂)) ≤ length (entries babybear t₁ ++ entries babybear t₂) =

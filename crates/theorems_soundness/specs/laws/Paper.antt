@@ -1,7 +1,7 @@
 -- Generation's terminal is the last accumulator plus the fractions of the last row, and the paper's sum over all entries of the table.
 use mathlib.Core.Path.{_≡_, sym, ap, _∙_, subst}
 use mathlib.Core.Logic.{⊎-elim}
-use mathlib.Core.Bool.{Bool, true, false, true≢false}
+use mathlib.Core.Bool.{Bool, true≢false}
 use mathlib.Core.Option.{none}
 use mathlib.Core.List.{List}
 use Prim.Native.Nat.{ℕ, suc}
@@ -19,7 +19,8 @@ use Rattle.expression.specs.declared.sizes.Limits.{Limits}
 use Rattle.lookup.specs.Table.{Table}
 use Rattle.lookup.specs.Tests.{words-below}
 use Rattle.logup.specs.Rows.{row-sum, accumulator, first-fault}
-use Rattle.logup.specs.Generation.{Answer, refused, absent, terminal, terminal-words, generation, accepts}
+use Rattle.logup.specs.Generation.{Answer, terminal, terminal-words, generation, accepts}
+use Rattle.logup.specs.Constraints.{is-present}
 use Rattle.logup.specs.Ledger.{Element, entries, at-pair}
 use Rattle.theorems_soundness.specs.Paper.{paper-sum}
 use Rattle.theorems_soundness.specs.laws.Setting.{N}
@@ -28,9 +29,7 @@ use Rattle.theorems_soundness.specs.laws.Answers.{Accepted, accepted-of}
 use Rattle.theorems_soundness.specs.laws.Terminals.{accumulator-is-the-sum, terminal-here}
 
 abbrev is-terminal : Answer → Bool
-is-terminal (refused f) = false
-is-terminal absent = false
-is-terminal (terminal e) = true
+is-terminal a = is-present (a .terminal)
 
 module _ (m : Limits) (p w : ℕ) (M : Modulus p) (C : Certificate p w) (t : Table) (challenges buffer e : List ℕ)
     (given : generation m p w t challenges buffer .answer ≡ terminal e) where

@@ -29,6 +29,7 @@ use Rattle.theorems_soundness.specs.Soundness.{FullSet, AllWide, answer-
 use Rattle.theorems_soundness.specs.laws.Setting.{N, same-of-el}
 use Rattle.theorems_soundness.specs.laws.Values.{fitting-of}
 use Rattle.theorems_soundness.specs.laws.Ledgers.{ledger-is, met-is, table-of}
+use Rattle.theorems_soundness.specs.laws.Entered.{ledgered}
 use Rattle.theorems_soundness.specs.laws.Answers.{accepted-of}
 use Rattle.theorems_soundness.specs.laws.Terminals.{Sums, sums-of}
 
@@ -120,12 +121,10 @@ unfolding tuples-met
 met-count p w C t₁ t₂ = ap length (met-is p w C (entries p t₁ ++ entries p t₂))
 
 words-of : (m : Limits) (p : ℕ) (t : Table) → T (has-ledger m p t) → T (words-below p t)
-unfolding has-ledger
-words-of m p t ok = search (and-left, and-right)
+words-of m p t ok = ledgered m p t ok .two
 
 fits-of : (m : Limits) (p : ℕ) (t : Table) → T (has-ledger m p t) → Fitting (t .lookups)
-unfolding has-ledger
-fits-of m p t ok = fitting-of m t (search (and-left, and-right))
+fits-of m p t ok = fitting-of m t (ledgered m p t ok .one)
 
 -- the sums of one table at each pair of a set
 sums-at : (m : Limits) (p w : ℕ) (M : Modulus p) (C : Certificate p w) (t : Table) (buffers : List ℕ → List ℕ → List ℕ) (ok : T (has-ledger m p t))

@@ -1,6 +1,7 @@
 use mathlib.Core.Path.{ap, _∙_}
 use Rattle.logup.specs.Constraints.{verdict}
-use Rattle.delmatik.proofs.Answered.{verdict-is}
+use Rattle.expression.specs.Refusal.{numbers}
+use Rattle.delmatik.proofs.Answered.{numbers-are}
 use borrow.Author.Needs.{needs}
 use Rattle.delmatik.proofs.eval_all.delmatik_constraints.Statement.{statement}
 use Rattle.delmatik.proofs.eval_all.delmatik_constraints.Tie as tie
@@ -16,7 +17,7 @@ write-answer-requires c κs = search needs
 
 returns : tie.Need-returns
 returns c =
-    verdict-is (c .write-answer .ensures) (c .before .before .eval-all .ensures ∙ ap (verdict _ _ _ _ _ _ _) (c .before .before .before .marked-terminal .ensures))
+    numbers-are (c .write-answer .ensures) (c .before .before .eval-all .ensures ∙ ap numbers (ap (verdict _ _ _ _ _ _ _) (c .before .before .before .marked-terminal .ensures)))
 
 pub delmatik-constraints-spec : {M : Type 1} → statement M
 delmatik-constraints-spec =

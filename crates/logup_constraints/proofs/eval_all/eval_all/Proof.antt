@@ -1,4 +1,5 @@
-use mathlib.Core.Path.{sym, subst}
+use mathlib.Core.Path.{sym, ap, subst}
+use Rattle.expression.specs.Refusal.{numbers}
 use Rattle.expression.specs.laws.Tested.{cabinet-sane}
 use Rattle.expression.specs.Limits.{Sane}
 use Rattle.logup_column.specs.laws.Tested.{babybear-field}
@@ -14,7 +15,7 @@ eval-trace-requires : tie.Need-eval-trace-requires
 eval-trace-requires c κs = (subst Sane (sym (c .cabinet .ensures)) cabinet-sane, babybear-field)
 
 returns : tie.Need-returns
-returns c = at-cabinet _ _ _ _ _ _ _ (c .before .cabinet .ensures) (c .eval-trace .ensures)
+returns c = ap numbers (at-cabinet _ _ _ _ _ _ _ (c .before .cabinet .ensures) (c .eval-trace .ensures))
 
 pub eval-all-spec : {M : Type 1} → statement M
 eval-all-spec =

@@ -25,11 +25,10 @@ enum-known-terminal c = search needs
 
 rows-verdict-requires : tie.Need-rows-verdict-requires
 rows-verdict-requires c κs =
-    let at-4 = c .before .before .before .before in
-    let at-6 = at-4 .before .before in
-    let at-19 = at-6 .before .before .before .before .before .before .before .before .before .before .before .before .before in
-    let k = at-6 .entry-refusal .ensures .1 (ap refusal (at-4 .enum-told .given .1)) in
-    rows-ready _ _ _ (at-19 .pre .0) (at-19 .pre .1) (k .0) (k .1) (ap terminal-of (c .before .before .terminal .given .1))
+    let at-5 = c .before .before .before .before .before in
+    let at-18 = at-5 .before .before .before .before .before .before .before .before .before .before .before .before .before in
+    let k = at-5 .entry-refusal .ensures .1 (ap refusal (c .before .before .before .enum-told .given .1)) in
+    rows-ready _ _ _ (at-18 .pre .0) (at-18 .pre .1) (k .0) (k .1) (ap terminal-of (c .before .terminal .given .1))
 
 returns : tie.Need-returns
 returns c =
@@ -46,11 +45,11 @@ returns-2 c =
 
 returns-3 : tie.Need-returns-3
 returns-3 c =
-    let at-5 = c .before .before .before .before .before in
-    let at-7 = at-5 .before .before in
-    let at-20 = at-7 .before .before .before .before .before .before .before .before .before .before .before .before .before in
-    given-is _ _ _ _ _ _ _ _ _ (accepted-answer (at-5 .enum-told .given .1) (at-7 .entry-refusal .ensures .0 ∙ entry-is _ _ (at-20 .args .w) _ _ _ _
-    _)) (ap terminal-of (c .before .before .before .terminal .given .1)) (c .rows-verdict .ensures (at-20 .args .names .now))
+    let at-4 = c .before .before .before .before in
+    let at-6 = at-4 .before .before in
+    let at-19 = at-6 .before .before .before .before .before .before .before .before .before .before .before .before .before in
+    given-is _ _ _ _ _ _ _ _ _ (accepted-answer (at-4 .enum-told .given .1) (at-6 .entry-refusal .ensures .0 ∙ entry-is _ _ (at-19 .args .w) _ _ _ _
+    _)) (ap terminal-of (c .before .before .terminal .given .1)) (c .rows-verdict .ensures (at-19 .args .names .now))
 
 pub eval-trace-spec : {M : Type 1} → statement M
 eval-trace-spec =

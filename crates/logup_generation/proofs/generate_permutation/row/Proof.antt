@@ -1,3 +1,4 @@
+use mathlib.Core.Path.{refl}
 use Prim.Native.Nat.{_+_, _*_}
 use lib.ListN.{length}
 use native.Mathlib.Omega.{arith}
@@ -16,7 +17,12 @@ part-result-end : tie.Need-part-result-end
 part-result-end c = search needs
 
 returns : tie.Need-returns
-returns c = empty-first (c .before .before .args .trace .now) _ _ _ (c .before .if1 .taken)
+returns c =
+    record {
+      words = empty-first (c .before .before .args .trace .now) _ _ _ (c .before .if1 .taken);
+      same-memory = refl;
+      begins = λ h. absurd (omega arith);
+    }
 
 add-width : tie.Need-add-width
 add-width c =
@@ -47,7 +53,12 @@ part-result-end-2 : tie.Need-part-result-end-2
 part-result-end-2 c = search needs
 
 returns-2 : tie.Need-returns-2
-returns-2 c = empty-second (c .before .before .before .args .trace .now) _ _ _ (c .before .if2 .taken)
+returns-2 c =
+    record {
+      words = empty-second (c .before .before .before .args .trace .now) _ _ _ (c .before .if2 .taken);
+      same-memory = refl;
+      begins = λ h. absurd (omega arith);
+    }
 
 mul-start : tie.Need-mul-start
 mul-start c =
@@ -85,11 +96,14 @@ part-result-end-3 c =
 
 returns-3 : tie.Need-returns-3
 returns-3 c =
-    whole-row (c .before .before .before .args .trace .now) _ _ _ (first-left (length (c .before .before .before .args .trace .now)) (c .before
-    .before .before .args .lookups) (c .before .before .before .args .height) (c .before .before .before .args .r) (c .before .before .if1 .left)
-    .0) (first-left (length (c .before .before .before .args .trace .now)) (c .before .before .before .args .lookups) (c .before .before .before
-    .args .height) (c .before .before .before .args .r) (c .before .before .if1 .left) .2) (row-fits (length (c .before .before .before .args .trace
-    .now)) ((c .before .before .before .args .lookups + 1) * 4) (c .before .before .before .args .r) (c .before .if2 .left))
+    let args = c .before .before .before .args in
+    let inside = first-left (length (args .trace .now)) (args .lookups) (args .height) (args .r) (c .before .before .if1 .left) in
+    let fits = row-fits (length (args .trace .now)) ((args .lookups + 1) * 4) (args .r) (c .before .if2 .left) in
+    record {
+      words = whole-row (args .trace .now) _ _ _ (inside .0) (inside .2) fits;
+      same-memory = refl;
+      begins = λ h. omega arith;
+    }
 
 pub row-spec : {M : Type 1} → statement M
 row-spec =

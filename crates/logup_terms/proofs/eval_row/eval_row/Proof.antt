@@ -1,3 +1,4 @@
+use mathlib.Core.Path.{refl}
 use native.Mathlib.Omega.{arith}
 use Rattle.logup_column.specs.laws.Values.{vals-are, vals-below}
 use Rattle.logup_column.specs.laws.Lookup.{element-word}
@@ -34,28 +35,24 @@ load-requires c κs =
     in
     accumulator-in _ (at-18 .pre .2) (at-18 .pre .5) (at-18 .pre .4)
 
-add-next-accumulator : tie.Need-add-next-accumulator
-add-next-accumulator c =
+add-eval-accumulator : tie.Need-add-eval-accumulator
+add-eval-accumulator c =
     let at-19 = c .before .before .before .before .before .before .before .before .before .before .before .before .before .before .before .before .before .before .before
     in
     omega (arith, row-in _ (at-19 .pre .2) (at-19 .pre .5) (at-19 .pre .4), at-19 .good .1 .1 .1 .1 .1 .1 .1 .1 .1 .1 .1 .1 .1 .1 .1 .0)
 
-next-accumulator-requires : tie.Need-next-accumulator-requires
-next-accumulator-requires c κs =
-    let at-19 = c .before .before .before .before .before .before .before .before .before .before .before .before .before .before .before .before .before .before .before
-    in
-    (at-19 .pre .2 .below, at-19 .pre .4, next-in _ (at-19 .pre .2) (at-19 .pre .5), at-19 .pre .3)
-
 eval-accumulator-requires : tie.Need-eval-accumulator-requires
 eval-accumulator-requires c κs =
-    let at-20 = c .before .before .before .before .before .before .before .before .before .before .before .before .before .before .before .before .before .before .before .before
+    let at-19 = c .before .before .before .before .before .before .before .before .before .before .before .before .before .before .before .before .before .before .before
     in (
-      at-20 .pre .0 .field .modulus,
-      element-word _ (at-20 .pre .2 .below) (c .before .load .ensures),
-      c .next-accumulator .ensures .0,
-      c .before .before .before .eval-fractions .ensures .below,
-      at-20 .pre .4,
-      at-20 .pre .6,
+      at-19 .pre .0 .field .modulus,
+      element-word _ (at-19 .pre .2 .below) (c .load .ensures),
+      at-19 .pre .2 .below,
+      next-in _ (at-19 .pre .2) (at-19 .pre .5),
+      at-19 .pre .3,
+      c .before .before .eval-fractions .ensures .below,
+      at-19 .pre .4,
+      at-19 .pre .6,
     )
 
 first-requires : tie.Need-first-requires
@@ -63,13 +60,12 @@ first-requires c κs = search needs
 
 returns : tie.Need-returns
 returns c =
-    let at-5 = c .before .before .before .before .before in
-    let at-8 = at-5 .before .before .before in
-    let at-22 = at-8 .before .before .before .before .before .before .before .before .before .before .before .before .before .before in
-    row-is _ _ _ _ _ _ _ _ _ _ (refusal (at-5 .eval-fractions .result .verdict)) (refusal (c .before .eval-accumulator .result)) (at-22 .pre .5)
-    (vals-are _ _ _ _ (at-8 .row-values .ensures .1)) (at-5 .eval-fractions .ensures .sum≡) (at-5 .eval-fractions .ensures .verdict≡)
-    (c .before .before .before .load .ensures) (c .before .before .next-accumulator .ensures .1) (c .before .eval-accumulator .ensures)
-    (c .first .ensures)
+    let at-4 = c .before .before .before .before in
+    let at-7 = at-4 .before .before .before in
+    let at-21 = at-7 .before .before .before .before .before .before .before .before .before .before .before .before .before .before in
+    row-is _ _ _ _ _ _ _ _ _ _ (refusal (at-4 .eval-fractions .result .verdict)) (refusal (c .before .eval-accumulator .result)) (at-21 .pre .5)
+    (vals-are _ _ _ _ (at-7 .row-values .ensures .1)) (at-4 .eval-fractions .ensures .sum≡) (at-4 .eval-fractions .ensures .verdict≡)
+    (c .before .before .load .ensures) refl (c .before .eval-accumulator .ensures) (c .first .ensures)
 
 pub eval-row-spec : {M : Type 1} → statement M
 eval-row-spec =
@@ -81,8 +77,7 @@ eval-row-spec =
     part-eval-fractions-end
     eval-fractions-requires
     load-requires
-    add-next-accumulator
-    next-accumulator-requires
+    add-eval-accumulator
     eval-accumulator-requires
     first-requires
     returns)

@@ -14,7 +14,7 @@ use Rattle.logup_terms.proofs.eval_row.eval_rows.Tie as tie
 abbrev Inv-loop : tie.InvT-loop
 Inv-loop p w shape main preprocessed public-values nodes lookups tuples multiplicities flags elements challenges table width words terminal height
     base₀ r₀ base r = RowsLoop (row-verdict p w (lent-lookups lookups [] tuples multiplicities flags elements) challenges (lent-values p shape main
-    preprocessed public-values nodes) width words (ext-words terminal) height) p height width (lookup-count lookups) words base r
+    preprocessed public-values nodes) width words (ext-words (terminal .0)) height) p height width (lookup-count lookups) words base r
 
 abbrev μ-loop : tie.MeasureT-loop
 μ-loop p w shape main preprocessed public-values nodes lookups tuples multiplicities flags elements challenges table width words terminal height base₀ r₀ base r = height - r

@@ -10,7 +10,7 @@ add-if1 c = search needs
 
 returns : tie.Need-returns
 unfolding next-accumulator
-returns c = (c .before .before .pre .3, rw (le-ltb _ _ (c .if1 .taken)))
+returns c = (c .before .before .before .pre .3, rw (le-ltb _ _ (c .before .if1 .taken)))
 
 load-requires : tie.Need-load-requires
 load-requires c κs = c .before .before .pre .2 (c .if1 .left)

@@ -1,9 +1,10 @@
-use mathlib.Core.Path.{sym, _∙_}
+use mathlib.Core.Path.{sym, ap, _∙_}
+use Rattle.lists.specs.Count.{or-else}
 use borrow.Author.Tests.{not-true, not-false}
 use Rattle.expression.specs.Refusal.{refusal}
 use Rattle.lookup.proofs.TestedSizes.{form-few-nodes}
 use Rattle.lookup.specs.Lookups.{lent-lookups}
-use Rattle.lookup.specs.Refusals.{form-refusal}
+use Rattle.lookup.specs.Refusals.{nodes-refusal, lists-refusal, form-refusal}
 use borrow.Author.Needs.{needs}
 use Rattle.lookup.proofs.refusals.form_refusal.Statement.{statement}
 use Rattle.lookup.proofs.refusals.form_refusal.Tie as tie
@@ -58,7 +59,7 @@ first-requires : tie.Need-first-requires
 first-requires c κs = search needs
 
 returns-3 : tie.Need-returns-3
-unfolding form-refusal
+unfolding form-refusal nodes-refusal lists-refusal
 returns-3 c =
     let at-4 = c .before .before .before .before in
     let at-5 = at-4 .before in
@@ -72,11 +73,9 @@ returns-3 c =
       not-false (at-5
           .constants-below .result) (at-4 .if2 .left),
       ← (c .before .before .before .shape-of .ensures),
-      ← (c .before .lists-refusal .ensures (at-15 .args
-          .names .now) (at-15 .args .tuples .now)),
-      ← (c .before .before .nodes-refusal .ensures (refusal (c .before .lists-refusal .result))),
-    ) (c .first
-    .ensures)
+    )
+    (c .first .ensures ∙ ap (or-else (refusal (c .before .before .nodes-refusal .result))) (c .before .lists-refusal .ensures (at-15 .args .names .now)
+    (at-15 .args .tuples .now)) ∙ c .before .before .nodes-refusal .ensures _)
 
 pub form-refusal-spec : {M : Type 1} → statement M
 form-refusal-spec =

@@ -1,10 +1,12 @@
-use mathlib.Core.Path.{sym, _∙_}
+use mathlib.Core.Path.{sym, ap, _∙_}
+use Rattle.lists.specs.Count.{or-else}
 use borrow.Author.Tests.{not-true, not-false}
 use Rattle.expression.specs.Refusal.{refusal}
 use Rattle.lookup.specs.laws.Tested.{few-nodes}
 use Rattle.lookup.specs.Table.{lent-table}
 use Rattle.lookup.specs.Lookups.{lent-lookups}
-use Rattle.lookup.specs.Refusals.{table-refusal}
+use Rattle.lookup.specs.Tests.{known}
+use Rattle.lookup.specs.Refusals.{nodes-refusal, lists-refusal, table-refusal}
 use borrow.Author.Needs.{needs}
 use Rattle.lookup.proofs.refusals.table_refusal.Statement.{statement}
 use Rattle.lookup.proofs.refusals.table_refusal.Tie as tie
@@ -60,7 +62,7 @@ first-requires : tie.Need-first-requires
 first-requires c κs = search needs
 
 returns-3 : tie.Need-returns-3
-unfolding table-refusal
+unfolding table-refusal nodes-refusal lists-refusal known
 returns-3 c =
     let at-4 = c .before .before .before .before in
     let at-5 = at-4 .before in
@@ -75,9 +77,9 @@ returns-3 c =
       ← (at-4 .words-below .ensures (args .shape) own),
       not-false
           (at-4 .words-below .result) (c .before .before .before .if2 .left),
-      ← (c .before .lists-refusal .ensures (args .names .now) (args .tuples .now)),
-      ← (c .before .before .nodes-refusal .ensures (refusal (c .before .lists-refusal .result))),
-    ) (c .first .ensures)
+    )
+    (c .first .ensures ∙ ap (or-else (refusal (c .before .before .nodes-refusal .result))) (c .before .lists-refusal .ensures (args .names .now)
+    (args .tuples .now)) ∙ c .before .before .nodes-refusal .ensures _)
 
 pub table-refusal-spec : {M : Type 1} → statement M
 table-refusal-spec =
