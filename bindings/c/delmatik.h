@@ -99,13 +99,14 @@ uint32_t delmatik_prefixes(const uint32_t *alpha, size_t alpha_len, const uint32
 
 /* check_lookups over several tables, their lists one after the other; sizes has fourteen for each table: main width, height, preprocessed
  * width, preprocessed height, then how many main words, preprocessed words, public values, nodes, lookups, bytes of names, tuples,
- * multiplicities, flags and elements it has. A slot of the workspace is ten words: tuple width, eight words, net. */
+ * multiplicities, flags and elements it has. seed: any number; draw it where traces come from others; it changes the time and never the
+ * answer. A slot of the workspace is ten words: tuple width, eight words, net. */
 uint32_t delmatik_balance(const uint32_t *main, size_t main_len, const uint32_t *preprocessed, size_t preprocessed_len,
     const uint32_t *public_values, size_t public_values_len, const uint32_t *nodes, size_t nodes_len,
     const uint32_t *lookups, size_t lookups_len, const uint8_t *names, size_t names_len,
     const uint32_t *tuples, size_t tuples_len, const uint32_t *multiplicities, size_t multiplicities_len,
     const uint32_t *flags, size_t flags_len, const uint32_t *elements, size_t elements_len,
-    const uint32_t *sizes, size_t sizes_len, uint32_t *workspace, size_t workspace_len, uint64_t details[3]);
+    const uint32_t *sizes, size_t sizes_len, uint64_t seed, uint32_t *workspace, size_t workspace_len, uint64_t details[3]);
 
 /*
  * The same functions for a caller that holds bytes. Each list of words is a byte slice, four bytes a word, the least byte first; names are bytes in
@@ -149,6 +150,7 @@ uint32_t delmatik_balance_bytes(
     const uint8_t *tuples, size_t tuples_len, const uint8_t *multiplicities, size_t multiplicities_len,
     const uint8_t *flags, size_t flags_len, const uint8_t *elements, size_t elements_len,
     const uint8_t *sizes, size_t sizes_len,
+    uint64_t seed,
     uint8_t *workspace, size_t workspace_len,
     uint32_t *room, size_t room_len, uint32_t *workspace_room, size_t workspace_room_len,
     uint64_t details[3]);

@@ -150,7 +150,7 @@ int LLVMFuzzerTestOneInput(const uint8_t *data, size_t n) {
             L(elements), L(out), used, details);
         break;
     default:
-        number = delmatik_balance(L(main), L(preprocessed), L(publics), L(nodes), LOOKUPS, L(more), L(out), details);
+        number = delmatik_balance(L(main), L(preprocessed), L(publics), L(nodes), LOOKUPS, L(more), d, L(out), details);
     }
     check(number, details);
     return 0;

@@ -23,7 +23,7 @@
 //! assert_eq!(table.generate_into(&challenges, &mut trace), Err(Refusal { number: 1, details: [0; 3] }));
 //! assert_eq!(trace, [7; 36]);
 //! ```
-use crate::{LookupTerminal, Refusal, call, joined, sys};
+use crate::{LookupTerminal, Refusal, call, drawn_seed, joined, sys};
 
 /// A table's lists as bytes; the names are bytes in any case.
 #[derive(Clone, Debug, Default, PartialEq, Eq)]
@@ -115,8 +115,13 @@ impl Table {
     }
 }
 
-/// `check_lookups`: `sizes` are fourteen words for each table, as [`crate::Table::sizes`] gives them.
+/// [`crate::balance`], with a seed drawn for the call: `sizes` are fourteen words for each table, as [`crate::Table::sizes`] gives them.
 pub fn balance(tables: &[Table], sizes: &[u8], workspace: &mut [u8]) -> Result<(), Refusal> {
+    balance_with_seed(tables, sizes, drawn_seed(), workspace)
+}
+
+/// [`balance`] with any number as the seed, which changes the time and never the answer.
+pub fn balance_with_seed(tables: &[Table], sizes: &[u8], seed: u64, workspace: &mut [u8]) -> Result<(), Refusal> {
     let (main, preprocessed) = (joined(tables, |t| &t.main), joined(tables, |t| &t.preprocessed));
     let (public_values, nodes) = (joined(tables, |t| &t.public_values), joined(tables, |t| &t.nodes));
     let (lookups, names, tuples) = (joined(tables, |t| &t.lookups), joined(tables, |t| &t.names), joined(tables, |t| &t.tuples));
@@ -126,6 +131,6 @@ pub fn balance(tables: &[Table], sizes: &[u8], workspace: &mut [u8]) -> Result<(
     let mut written = room(&[&*workspace]);
     call! { delmatik_balance_bytes(
         [main], [preprocessed], [public_values], [nodes], [lookups], [names], [tuples], [multiplicities], [flags], [elements], [sizes],
-        [mut workspace], [mut read], [mut written],
+        seed, [mut workspace], [mut read], [mut written],
     ) }
 }

@@ -26,6 +26,8 @@
 pub mod bytes;
 pub mod sys;
 
+use std::hash::{BuildHasher, RandomState};
+
 /// Four words below p: c0 + c1 X + c2 X^2 + c3 X^3, with X^4 = 11.
 pub type Ext = [u32; 4];
 
@@ -346,8 +348,19 @@ pub fn prefixes(alpha: Ext, beta: Ext, width: usize, count: usize) -> Result<Vec
     Ok(out.chunks_exact(4).map(|e| e.try_into().unwrap()).collect())
 }
 
-/// `check_lookups`: the workspace, of ten words a slot, holds the last group visited afterwards.
+/// A seed of balance that nobody knows who chose the traces, drawn as the keys of a `HashMap` are.
+pub(crate) fn drawn_seed() -> u64 {
+    RandomState::new().hash_one(())
+}
+
+/// `check_lookups`: the workspace, of ten words a slot, holds the last group visited afterwards. The seed of the search is drawn for each
+/// call, so that no trace can be chosen to make it slow.
 pub fn balance(tables: &[Table], workspace: &mut [u32]) -> Result<(), Refusal> {
+    balance_with_seed(tables, drawn_seed(), workspace)
+}
+
+/// [`balance`] with any number as the seed, which changes the time and never the answer.
+pub fn balance_with_seed(tables: &[Table], seed: u64, workspace: &mut [u32]) -> Result<(), Refusal> {
     let sizes: Vec<u32> = tables.iter().flat_map(|t| t.sizes()).collect();
     let (main, preprocessed) = (joined(tables, |t| &t.main), joined(tables, |t| &t.preprocessed));
     let (public_values, nodes) = (joined(tables, |t| &t.public_values), joined(tables, |t| &t.nodes));
@@ -356,7 +369,7 @@ pub fn balance(tables: &[Table], workspace: &mut [u32]) -> Result<(), Refusal> {
     let elements = joined(tables, |t| &t.elements);
     call! { delmatik_balance(
         [main], [preprocessed], [public_values], [nodes], [lookups], [names], [tuples], [multiplicities], [flags], [elements], [sizes],
-        [mut workspace],
+        seed, [mut workspace],
     ) }
 }
 

@@ -50,7 +50,7 @@ export!(delmatik_terminals([terminals: u32], details: *mut [u64; 3],));
 export!(delmatik_prefixes([alpha: u32], [beta: u32], width: usize, count: usize, [out: mut u32], details: *mut [u64; 3],));
 export!(delmatik_balance(
     [main: u32], [preprocessed: u32], [public_values: u32], [nodes: u32], [lookups: u32], [names: u8], [tuples: u32],
-    [multiplicities: u32], [flags: u32], [elements: u32], [sizes: u32], [workspace: mut u32], details: *mut [u64; 3],
+    [multiplicities: u32], [flags: u32], [elements: u32], [sizes: u32], seed: u64, [workspace: mut u32], details: *mut [u64; 3],
 ));
 // The same on bytes: four for each word, the least byte first, and two rooms, into which the lists are decoded: those that are read into `room`.
 export!(delmatik_generate_bytes(
@@ -66,7 +66,7 @@ export!(delmatik_pack_bytes(
 ));
 export!(delmatik_balance_bytes(
     [main: u8], [preprocessed: u8], [public_values: u8], [nodes: u8], [lookups: u8], [names: u8], [tuples: u8], [multiplicities: u8],
-    [flags: u8], [elements: u8], [sizes: u8], [workspace: mut u8], [room: mut u32],
+    [flags: u8], [elements: u8], [sizes: u8], seed: u64, [workspace: mut u8], [room: mut u32],
     [workspace_room: mut u32], details: *mut [u64; 3],
 ));
 export!(delmatik_power([a: u32], n: u32, [out: mut u32],));

@@ -27,6 +27,7 @@ use Rattle.balance_slots.specs.declared.slot.SlotUse.{SlotUse}
 use Rattle.balance_slots.specs.inner.Work.{Work, work, step}
 use Rattle.balance_slots.specs.laws.Room.{fold-full, fold-snoc, fold-more}
 use Rattle.balance_slots.specs.declared.add.LinkedUse.{LinkedUse}
+use Rattle.balance_slots.specs.declared.hash.Seed.{Seed}
 use Rattle.balance_slots.specs.inner.Chain.{SlotsLinked, plain, plain-work, ChainsLinked}
 use Rattle.balance_slots.specs.laws.Plain.{plain-length}
 use Rattle.balance.specs.declared.starts.LookupStarts.{LookupStarts}
@@ -85,25 +86,25 @@ tuple-ends {starts} {parts} {k} r h =
     omega (arith, r .elements-in, element-next (parts .tuples) (starts .tuples + k), element-le (parts .tuples) (starts .tuples + k + 1) (starts .tuples + starts .count) (omega arith))
 
 -- the tuples of a row: h₀, workspace₀ and w are the heads, the workspace and the work before them
-pub record AddTuplesLoop (p : ℕ) (starts : LookupStarts) (parts : PartLists) (vals h₀ workspace₀ : List ℕ) (w : Work) (k at : ℕ) (heads workspace : List ℕ) (v : LinkedUse) : Type 0 where
+pub record AddTuplesLoop (p : ℕ) (seed : Seed) (starts : LookupStarts) (parts : PartLists) (vals h₀ workspace₀ : List ℕ) (w : Work) (k at : ℕ) (heads workspace : List ℕ) (v : LinkedUse) : Type 0 where
   pub is : plain-work workspace v ≡ fold (step p) w (joined (λ k. entry-from p starts parts vals k ∷ []) 0 k)
   pub here : at ≡ element-start (parts .tuples) (starts .tuples + k)
   pub within : k ≤ starts .count
   pub few : starts .count < 18446744073709551615
-  pub ready : ChainsLinked heads workspace v
+  pub ready : ChainsLinked seed heads workspace v
   pub wide : length heads ≡ length h₀
   pub long : length workspace ≡ length workspace₀
 
-module _ {p : ℕ} {starts : LookupStarts} {parts : PartLists} {vals : List ℕ} where
-  pub add-tuples-loop-begins : {heads workspace : List ℕ} {u : LinkedUse} → StartsWithin starts parts → ChainsLinked heads workspace u → starts .count < 18446744073709551615 → AddTuplesLoop p starts parts vals heads workspace (plain-work workspace u) 0 (starts .elements) heads workspace u
+module _ {p : ℕ} {seed : Seed} {starts : LookupStarts} {parts : PartLists} {vals : List ℕ} where
+  pub add-tuples-loop-begins : {heads workspace : List ℕ} {u : LinkedUse} → StartsWithin starts parts → ChainsLinked seed heads workspace u → starts .count < 18446744073709551615 → AddTuplesLoop p seed starts parts vals heads workspace (plain-work workspace u) 0 (starts .elements) heads workspace u
   unfolding fold joined
   add-tuples-loop-begins r h f =
       record { is = refl; here = r .first ∙ ap (element-start (parts .tuples)) (sym (add-zero (starts .tuples))); within = zero-le; few = f; ready = h; wide = refl; long = refl }
 
-  pub add-tuples-loop-turn : {h₀ workspace₀ heads heads′ workspace workspace′ : List ℕ} {w : Work} {k at n c : ℕ} {v v′ : LinkedUse} → AddTuplesLoop p starts parts vals h₀ workspace₀ w k at heads workspace v → k < starts .count
+  pub add-tuples-loop-turn : {h₀ workspace₀ heads heads′ workspace workspace′ : List ℕ} {w : Work} {k at n c : ℕ} {v v′ : LinkedUse} → AddTuplesLoop p seed starts parts vals h₀ workspace₀ w k at heads workspace v → k < starts .count
       → n ≡ word (parts .tuples) (starts .tuples + k) → c ≡ count-from p starts (parts .multiplicities) (parts .flags) vals k
-      → (plain-work workspace′ v′ ≡ step p (plain-work workspace v) (record { tuple = map (word vals) (take ((at + n) - at) (drop at (parts .elements))); count = c })) × ChainsLinked heads′ workspace′ v′
-      → length heads′ ≡ length heads → length workspace′ ≡ length workspace → AddTuplesLoop p starts parts vals h₀ workspace₀ w (k + 1) (at + n) heads′ workspace′ v′
+      → (plain-work workspace′ v′ ≡ step p (plain-work workspace v) (record { tuple = map (word vals) (take ((at + n) - at) (drop at (parts .elements))); count = c })) × ChainsLinked seed heads′ workspace′ v′
+      → length heads′ ≡ length heads → length workspace′ ≡ length workspace → AddTuplesLoop p seed starts parts vals h₀ workspace₀ w (k + 1) (at + n) heads′ workspace′ v′
   unfolding nodes-from
   add-tuples-loop-turn {h₀} {workspace₀} {heads} {heads′} {workspace} {workspace′} {w} {k} {at} {n} {c} {v} {v′} r h en ec (e, y) eh el =
       let z : (at + n) - at ≡ n = omega arith in
@@ -123,33 +124,33 @@ module _ {p : ℕ} {starts : LookupStarts} {parts : PartLists} {vals : List ℕ}
         long = el ∙ r .long;
       }
 
-  pub add-tuples-loop-ends : {h₀ workspace₀ heads workspace : List ℕ} {w : Work} {k at : ℕ} {v : LinkedUse} → AddTuplesLoop p starts parts vals h₀ workspace₀ w k at heads workspace v → starts .count ≤ k
-      → (plain-work workspace v ≡ fold (step p) w (entries-from p starts parts vals)) × ChainsLinked heads workspace v
+  pub add-tuples-loop-ends : {h₀ workspace₀ heads workspace : List ℕ} {w : Work} {k at : ℕ} {v : LinkedUse} → AddTuplesLoop p seed starts parts vals h₀ workspace₀ w k at heads workspace v → starts .count ≤ k
+      → (plain-work workspace v ≡ fold (step p) w (entries-from p starts parts vals)) × ChainsLinked seed heads workspace v
   unfolding entries-from
   add-tuples-loop-ends {h₀} {workspace₀} {heads} {workspace} {w} {k} r h =
       let e : k ≡ starts .count = omega (arith, r .within) in
       (r .is ∙ ap (λ (n : ℕ). fold (step p) w (joined (λ k. entry-from p starts parts vals k ∷ []) 0 n)) e, r .ready)
 
 -- a row that is skipped, since a slot was missing
-pub row-skipped : {heads workspace : List ℕ} {u : LinkedUse} (p : ℕ) (es : List Entry) → ChainsLinked heads workspace u → u .full ≡ true → (plain-work workspace u ≡ fold (step p) (plain-work workspace u) es) × ChainsLinked heads workspace u
-row-skipped {heads} {workspace} {u} p es r f = (sym (fold-full p es (plain-work workspace u) f), r)
+pub row-skipped : {seed : Seed} {heads workspace : List ℕ} {u : LinkedUse} (p : ℕ) (es : List Entry) → ChainsLinked seed heads workspace u → u .full ≡ true → (plain-work workspace u ≡ fold (step p) (plain-work workspace u) es) × ChainsLinked seed heads workspace u
+row-skipped {seed} {heads} {workspace} {u} p es r f = (sym (fold-full p es (plain-work workspace u) f), r)
 
 -- the rows: h₀, workspace₀ and w are the heads, the workspace and the work before them
-pub record RowsLoop (p : ℕ) (starts : LookupStarts) (s : Source) (h₀ workspace₀ : List ℕ) (w : Work) (r : ℕ) (heads workspace : List ℕ) (v : LinkedUse) : Type 0 where
+pub record RowsLoop (p : ℕ) (seed : Seed) (starts : LookupStarts) (s : Source) (h₀ workspace₀ : List ℕ) (w : Work) (r : ℕ) (heads workspace : List ℕ) (v : LinkedUse) : Type 0 where
   pub is : plain-work workspace v ≡ fold (step p) w (rows-entries p starts s r)
   pub within : r ≤ s .traces .shape .height
-  pub ready : ChainsLinked heads workspace v
+  pub ready : ChainsLinked seed heads workspace v
   pub wide : length heads ≡ length h₀
   pub long : length workspace ≡ length workspace₀
 
-module _ {p : ℕ} {starts : LookupStarts} {s : Source} where
-  pub rows-loop-begins : {heads workspace : List ℕ} {u : LinkedUse} → ChainsLinked heads workspace u → RowsLoop p starts s heads workspace (plain-work workspace u) 0 heads workspace u
+module _ {p : ℕ} {seed : Seed} {starts : LookupStarts} {s : Source} where
+  pub rows-loop-begins : {heads workspace : List ℕ} {u : LinkedUse} → ChainsLinked seed heads workspace u → RowsLoop p seed starts s heads workspace (plain-work workspace u) 0 heads workspace u
   unfolding fold joined rows-entries
   rows-loop-begins h = record { is = refl; within = zero-le; ready = h; wide = refl; long = refl }
 
-  pub rows-loop-turn : {h₀ workspace₀ heads heads′ workspace workspace′ : List ℕ} {w : Work} {r : ℕ} {v v′ : LinkedUse} → RowsLoop p starts s h₀ workspace₀ w r heads workspace v → r < s .traces .shape .height
-      → (plain-work workspace′ v′ ≡ fold (step p) (plain-work workspace v) (entries-from p starts (s .parts) (row-values p (s .nodes) (s .traces) r))) × ChainsLinked heads′ workspace′ v′
-      → length heads′ ≡ length heads → length workspace′ ≡ length workspace → RowsLoop p starts s h₀ workspace₀ w (r + 1) heads′ workspace′ v′
+  pub rows-loop-turn : {h₀ workspace₀ heads heads′ workspace workspace′ : List ℕ} {w : Work} {r : ℕ} {v v′ : LinkedUse} → RowsLoop p seed starts s h₀ workspace₀ w r heads workspace v → r < s .traces .shape .height
+      → (plain-work workspace′ v′ ≡ fold (step p) (plain-work workspace v) (entries-from p starts (s .parts) (row-values p (s .nodes) (s .traces) r))) × ChainsLinked seed heads′ workspace′ v′
+      → length heads′ ≡ length heads → length workspace′ ≡ length workspace → RowsLoop p seed starts s h₀ workspace₀ w (r + 1) heads′ workspace′ v′
   unfolding rows-entries
   rows-loop-turn {h₀} {workspace₀} {heads} {heads′} {workspace} {workspace′} {w} {r} {v} {v′} i h (e, y) eh el =
       let es : List Entry = entries-from p starts (s .parts) (row-values p (s .nodes) (s .traces) r) in
@@ -166,8 +167,8 @@ module _ {p : ℕ} {starts : LookupStarts} {s : Source} where
         long = el ∙ i .long;
       }
 
-  pub rows-loop-ends : {h₀ workspace₀ heads workspace : List ℕ} {w : Work} {r : ℕ} {v : LinkedUse} → RowsLoop p starts s h₀ workspace₀ w r heads workspace v → s .traces .shape .height ≤ r
-      → (plain-work workspace v ≡ fold (step p) w (rows-entries p starts s (s .traces .shape .height))) × ChainsLinked heads workspace v
+  pub rows-loop-ends : {h₀ workspace₀ heads workspace : List ℕ} {w : Work} {r : ℕ} {v : LinkedUse} → RowsLoop p seed starts s h₀ workspace₀ w r heads workspace v → s .traces .shape .height ≤ r
+      → (plain-work workspace v ≡ fold (step p) w (rows-entries p starts s (s .traces .shape .height))) × ChainsLinked seed heads workspace v
   rows-loop-ends {h₀} {workspace₀} {heads} {workspace} {w} {r} i h =
       let e : r ≡ s .traces .shape .height = omega (arith, i .within) in
       (i .is ∙ ap (λ (n : ℕ). fold (step p) w (rows-entries p starts s n)) e, i .ready)
@@ -176,13 +177,13 @@ module _ {p : ℕ} {starts : LookupStarts} {s : Source} where
 abbrev linked-use : SlotUse → ℕ → LinkedUse
 linked-use u l = record { used = u .used; full = u .full; linked = l }
 
-pub linked-ready : {heads d workspace : List ℕ} {l : ℕ} (u : SlotUse) → slot-words * u .used ≤ length d → SlotsLinked heads workspace l 0 (u .used) d → ChainsLinked heads workspace (linked-use u l)
-linked-ready {heads} {d} {workspace} {l} u r s = record { chained = s .chained; inside = s .not-more; room = rw (sym (plain-length workspace l), s .same) r }
+pub linked-ready : {seed : Seed} {heads d workspace : List ℕ} {l : ℕ} (u : SlotUse) → slot-words * u .used ≤ length d → SlotsLinked seed heads workspace l 0 (u .used) d → ChainsLinked seed heads workspace (linked-use u l)
+linked-ready {seed} {heads} {d} {workspace} {l} u r s = record { chained = s .chained; inside = s .not-more; room = rw (sym (plain-length workspace l), s .same) r }
 
-pub unlinked : {heads hs d workspace vs b : List ℕ} {l : ℕ} {v : LinkedUse} (p : ℕ) (u : SlotUse) (es : List Entry) → SlotsLinked heads workspace l 0 (u .used) d
-    → (plain-work vs v ≡ fold (step p) (plain-work workspace (linked-use u l)) es) × ChainsLinked hs vs v → b ≡ plain vs (v .linked)
+pub unlinked : {seed : Seed} {heads hs d workspace vs b : List ℕ} {l : ℕ} {v : LinkedUse} (p : ℕ) (u : SlotUse) (es : List Entry) → SlotsLinked seed heads workspace l 0 (u .used) d
+    → (plain-work vs v ≡ fold (step p) (plain-work workspace (linked-use u l)) es) × ChainsLinked seed hs vs v → b ≡ plain vs (v .linked)
     → work b (record { used = v .used; full = v .full }) ≡ fold (step p) (work d u) es
-unlinked {heads} {hs} {d} {workspace} {vs} {b} {l} {v} p u es s (q, r) eb =
+unlinked {seed} {heads} {hs} {d} {workspace} {vs} {b} {l} {v} p u es s (q, r) eb =
     ap (λ (x : List ℕ). work x (record { used = v .used; full = v .full })) eb ∙ q ∙ ap (λ (x : List ℕ). fold (step p) (work x u) es) (s .same)
 
 -- the starts of a lookup
@@ -193,9 +194,9 @@ unfolding lookup-starts-at
 lookup-starts-is {x} {n} {t} {m} {f} {e} {c} lookups tuples i et em ef ee ex ec en = rw (ex, en ∙ ec, ee, et, em, ef)
 
 -- one tuple is added
-pub tuple-entered : {t heads workspace : List ℕ} {u : LinkedUse} (p : ℕ) (v : Work) (count : ℕ) (vals nodes : List ℕ) → t ≡ map (word vals) nodes ++ replicate (8 - length nodes) 0
-    → (plain-work workspace u ≡ step p v (record { tuple = take (length nodes - 0) (drop 0 t); count = count })) × ChainsLinked heads workspace u
-    → (plain-work workspace u ≡ step p v (record { tuple = map (word vals) nodes; count = count })) × ChainsLinked heads workspace u
+pub tuple-entered : {seed : Seed} {t heads workspace : List ℕ} {u : LinkedUse} (p : ℕ) (v : Work) (count : ℕ) (vals nodes : List ℕ) → t ≡ map (word vals) nodes ++ replicate (8 - length nodes) 0
+    → (plain-work workspace u ≡ step p v (record { tuple = take (length nodes - 0) (drop 0 t); count = count })) × ChainsLinked seed heads workspace u
+    → (plain-work workspace u ≡ step p v (record { tuple = map (word vals) nodes; count = count })) × ChainsLinked seed heads workspace u
 tuple-entered p v count vals nodes e (q, r) = (q ∙ ap (λ (l : List ℕ). step p v (record { tuple = l; count = count })) (tuple-front vals nodes e), r)
 
 -- a tuple has at most eight words
@@ -217,9 +218,9 @@ values-front {b} p nodes t r e =
 pub front-below : {b : List ℕ} (p : ℕ) (nodes : List ℕ) (t : Traces) (r : ℕ) → Evaluable p t nodes → b ≡ row-values p nodes t r ++ replicate (1024 - node-count nodes) 0 → Below p (take (node-count nodes - 0) (drop 0 b))
 front-below p nodes t r v e = rw (values-front p nodes t r e) (row-values-below r v)
 
-pub row-entered : {b heads workspace : List ℕ} {u : LinkedUse} (p : ℕ) (starts : LookupStarts) (parts : PartLists) (nodes : List ℕ) (t : Traces) (r : ℕ) (v : Work)
+pub row-entered : {seed : Seed} {b heads workspace : List ℕ} {u : LinkedUse} (p : ℕ) (starts : LookupStarts) (parts : PartLists) (nodes : List ℕ) (t : Traces) (r : ℕ) (v : Work)
     → b ≡ row-values p nodes t r ++ replicate (1024 - node-count nodes) 0
-    → (plain-work workspace u ≡ fold (step p) v (entries-from p starts parts (take (node-count nodes - 0) (drop 0 b)))) × ChainsLinked heads workspace u
-    → (plain-work workspace u ≡ fold (step p) v (entries-from p starts parts (row-values p nodes t r))) × ChainsLinked heads workspace u
+    → (plain-work workspace u ≡ fold (step p) v (entries-from p starts parts (take (node-count nodes - 0) (drop 0 b)))) × ChainsLinked seed heads workspace u
+    → (plain-work workspace u ≡ fold (step p) v (entries-from p starts parts (row-values p nodes t r))) × ChainsLinked seed heads workspace u
 row-entered p starts parts nodes t r v e (q, y) =
     (q ∙ ap (λ (x : List ℕ). fold (step p) v (entries-from p starts parts x)) (values-front p nodes t r e), y)

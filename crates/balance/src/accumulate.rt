@@ -8,6 +8,7 @@ use crate::tables::PUBLIC_VALUE_COUNT_SIZE;
 use crate::tables::TABLE_SIZES;
 use crate::tables::shape_of;
 use crate::tables::table_of;
+use balance_slots::hash::Seed;
 use balance_slots::slot::SlotUse;
 use expression::node::NODE_WORDS;
 use lookup::sizes::part_end;
@@ -39,6 +40,7 @@ pub fn accumulate_lookup(
     flags: &[u32],
     elements: &[u32],
     m: usize,
+    seed: Seed,
     workspace: &mut [u32],
     u: SlotUse,
 ) -> SlotUse
@@ -70,6 +72,7 @@ pub fn accumulate_lookup(
         multiplicities,
         flags,
         elements,
+        seed,
         workspace,
         u,
     )

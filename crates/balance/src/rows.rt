@@ -2,6 +2,7 @@
 use crate::starts::LookupStarts;
 use balance_slots::add::LinkedUse;
 use balance_slots::add::add;
+use balance_slots::hash::Seed;
 use balance_slots::link::link_slots;
 use balance_slots::link::unlink_slots;
 use balance_slots::slot::SlotUse;
@@ -45,6 +46,7 @@ fn tuple_values(vals: &[u32], nodes: &[u32]) -> [u32; 8]
 // The entry of one tuple.
 fn add_tuple(
     p: u32,
+    seed: Seed,
     heads: &mut [u32],
     workspace: &mut [u32],
     u: LinkedUse,
@@ -52,12 +54,12 @@ fn add_tuple(
     nodes: &[u32],
     count: u32,
 ) -> LinkedUse
-    requires { ⌜ Modulus p × (length (now nodes) ≤ tuple-words) × ChainsLinked (now heads) (now workspace) u ⌝ }
-    ensures { λ r. ⌜ (plain-work (now (workspace .exit)) r ≡ step p (plain-work (now (workspace .entry)) u) (record { tuple = map (word (now (vals .entry))) (now (nodes .entry)); count = count })) × ChainsLinked (now (heads .exit)) (now (workspace .exit)) r ⌝ }
+    requires { ⌜ Modulus p × (length (now nodes) ≤ tuple-words) × ChainsLinked seed (now heads) (now workspace) u ⌝ }
+    ensures { λ r. ⌜ (plain-work (now (workspace .exit)) r ≡ step p (plain-work (now (workspace .entry)) u) (record { tuple = map (word (now (vals .entry))) (now (nodes .entry)); count = count })) × ChainsLinked seed (now (heads .exit)) (now (workspace .exit)) r ⌝ }
 {
     let t = tuple_values(vals, nodes);
     let n = nodes.len();
-    add(p, heads, workspace, u, &t[0..n], count)
+    add(p, seed, heads, workspace, u, &t[0..n], count)
 }
 
 // How often tuple k counts: multiplicity × flag.
@@ -83,6 +85,7 @@ fn entry_count(
 // The lookup on one row, from the values of the nodes there.
 fn add_tuples(
     p: u32,
+    seed: Seed,
     heads: &mut [u32],
     workspace: &mut [u32],
     u: LinkedUse,
@@ -95,8 +98,8 @@ fn add_tuples(
 ) -> LinkedUse
     ghost { PartLists }
     requires { λ l. ⌜ part-lists (now tuples) (now multiplicities) (now flags) (now elements) ≡ l ⌝ }
-    requires { λ l. ⌜ Modulus p × Below p (now vals) × ChainsLinked (now heads) (now workspace) u × StartsWithin starts l ⌝ }
-    ensures { λ l r. ⌜ (plain-work (now (workspace .exit)) r ≡ fold (step p) (plain-work (now (workspace .entry)) u) (entries-from p starts l (now (vals .entry)))) × ChainsLinked (now (heads .exit)) (now (workspace .exit)) r ⌝ }
+    requires { λ l. ⌜ Modulus p × Below p (now vals) × ChainsLinked seed (now heads) (now workspace) u × StartsWithin starts l ⌝ }
+    ensures { λ l r. ⌜ (plain-work (now (workspace .exit)) r ≡ fold (step p) (plain-work (now (workspace .entry)) u) (entries-from p starts l (now (vals .entry)))) × ChainsLinked seed (now (heads .exit)) (now (workspace .exit)) r ⌝ }
 {
     let n = starts.count;
     let start = starts.tuples;
@@ -106,7 +109,16 @@ fn add_tuples(
     while k < n {
         let end = at + to_usize(tuples[start + k]);
         let times = entry_count(p, starts, vals, multiplicities, flags, k);
-        let next = add_tuple(p, heads, workspace, v, vals, &elements[at..end], times);
+        let next = add_tuple(
+            p,
+            seed,
+            heads,
+            workspace,
+            v,
+            vals,
+            &elements[at..end],
+            times,
+        );
         v = next;
         at = end;
         k += 1;
@@ -128,14 +140,15 @@ fn accumulate_row(
     multiplicities: &[u32],
     flags: &[u32],
     elements: &[u32],
+    seed: Seed,
     heads: &mut [u32],
     workspace: &mut [u32],
     u: LinkedUse,
 ) -> LinkedUse
     ghost { Source }
     requires { λ s. ⌜ source (lent-traces shape (now main) (now preprocessed) (now «public_values»)) (now nodes) (part-lists (now tuples) (now multiplicities) (now flags) (now elements)) ≡ s ⌝ }
-    requires { λ s. ⌜ Evaluable p (s .traces) (s .nodes) × (r < s .traces .shape .height) × ChainsLinked (now heads) (now workspace) u × StartsWithin starts (s .parts) ⌝ }
-    ensures { λ s v. ⌜ (plain-work (now (workspace .exit)) v ≡ fold (step p) (plain-work (now (workspace .entry)) u) (entries-from p starts (s .parts) (row-values p (s .nodes) (s .traces) r))) × ChainsLinked (now (heads .exit)) (now (workspace .exit)) v ⌝ }
+    requires { λ s. ⌜ Evaluable p (s .traces) (s .nodes) × (r < s .traces .shape .height) × ChainsLinked seed (now heads) (now workspace) u × StartsWithin starts (s .parts) ⌝ }
+    ensures { λ s v. ⌜ (plain-work (now (workspace .exit)) v ≡ fold (step p) (plain-work (now (workspace .entry)) u) (entries-from p starts (s .parts) (row-values p (s .nodes) (s .traces) r))) × ChainsLinked seed (now (heads .exit)) (now (workspace .exit)) v ⌝ }
 {
     if u.full {
         return u;
@@ -154,6 +167,7 @@ fn accumulate_row(
     let n = nodes.len() / NODE_WORDS;
     add_tuples(
         p,
+        seed,
         heads,
         workspace,
         u,
@@ -179,14 +193,15 @@ fn accumulate_linked(
     multiplicities: &[u32],
     flags: &[u32],
     elements: &[u32],
+    seed: Seed,
     heads: &mut [u32],
     workspace: &mut [u32],
     u: LinkedUse,
 ) -> LinkedUse
     ghost { Source }
     requires { λ s. ⌜ source (lent-traces shape (now main) (now preprocessed) (now «public_values»)) (now nodes) (part-lists (now tuples) (now multiplicities) (now flags) (now elements)) ≡ s ⌝ }
-    requires { λ s. ⌜ Evaluable p (s .traces) (s .nodes) × (s .traces .shape .height ≤ 1048576) × ChainsLinked (now heads) (now workspace) u × StartsWithin starts (s .parts) ⌝ }
-    ensures { λ s v. ⌜ (plain-work (now (workspace .exit)) v ≡ fold (step p) (plain-work (now (workspace .entry)) u) (rows-entries p starts s (s .traces .shape .height))) × ChainsLinked (now (heads .exit)) (now (workspace .exit)) v ⌝ }
+    requires { λ s. ⌜ Evaluable p (s .traces) (s .nodes) × (s .traces .shape .height ≤ 1048576) × ChainsLinked seed (now heads) (now workspace) u × StartsWithin starts (s .parts) ⌝ }
+    ensures { λ s v. ⌜ (plain-work (now (workspace .exit)) v ≡ fold (step p) (plain-work (now (workspace .entry)) u) (rows-entries p starts s (s .traces .shape .height))) × ChainsLinked seed (now (heads .exit)) (now (workspace .exit)) v ⌝ }
 {
     let height = shape.height;
     let mut v = u;
@@ -205,6 +220,7 @@ fn accumulate_linked(
             multiplicities,
             flags,
             elements,
+            seed,
             heads,
             workspace,
             v,
@@ -228,6 +244,7 @@ pub fn accumulate_rows(
     multiplicities: &[u32],
     flags: &[u32],
     elements: &[u32],
+    seed: Seed,
     workspace: &mut [u32],
     u: SlotUse,
 ) -> SlotUse
@@ -237,7 +254,7 @@ pub fn accumulate_rows(
     ensures { λ s v. ⌜ work (now (workspace .exit)) v ≡ fold (step p) (work (now (workspace .entry)) u) (rows-entries p starts s (s .traces .shape .height)) ⌝ }
 {
     let mut heads = [0u32; 32768];
-    let linked = link_slots(&mut heads, workspace, u.used);
+    let linked = link_slots(seed, &mut heads, workspace, u.used);
     let before = LinkedUse {
         used: u.used,
         full: u.full,
@@ -255,6 +272,7 @@ pub fn accumulate_rows(
         multiplicities,
         flags,
         elements,
+        seed,
         &mut heads,
         workspace,
         before,

@@ -3,6 +3,8 @@ use balance_groups::check::accepted;
 use balance_groups::check::check_groups;
 use balance_groups::tests::lists_fit;
 use balance_groups::tests::tables_verdict;
+use balance_slots::hash::Seed;
+use balance_slots::hash::seed_of;
 use expression::refusal::Refusal;
 use expression::refusal::Verdict;
 use expression::sizes::Limits;
@@ -31,6 +33,7 @@ pub fn check_within(
     multiplicities: &[u32],
     flags: &[u32],
     elements: &[u32],
+    seed: Seed,
     workspace: &mut [u32],
 ) -> Verdict
     ghost { TableLists }
@@ -85,6 +88,7 @@ pub fn check_within(
         multiplicities,
         flags,
         elements,
+        seed,
         workspace,
     );
     checked.verdict
@@ -92,7 +96,9 @@ pub fn check_within(
 
 // Several tables, one after the other in each list; `sizes` has fourteen words for each of them: main width, height,
 // preprocessed width, preprocessed height, then how many main words, preprocessed words, public values, nodes, lookups,
-// bytes of names, tuples, multiplicities, flags and elements it has. A slot of the workspace has ten words.
+// bytes of names, tuples, multiplicities, flags and elements it has. A slot of the workspace has ten words. The seed is any number,
+// drawn where traces come from others: it decides in which chain a tuple is searched. `check`, the right side of the contract, takes
+// no seed: so it changes the time and never the answer.
 pub fn check_lookups(
     sizes: &[u32],
     main: &[u32],
@@ -105,6 +111,7 @@ pub fn check_lookups(
     multiplicities: &[u32],
     flags: &[u32],
     elements: &[u32],
+    seed: u64,
     workspace: &mut [u32],
 ) -> Verdict
     ensures { λ r. ⌜ record { refusal = refusal r; workspace = now (workspace .exit) }
@@ -128,6 +135,7 @@ pub fn check_lookups(
         multiplicities,
         flags,
         elements,
+        seed_of(seed),
         workspace,
     )
 }

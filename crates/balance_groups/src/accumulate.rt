@@ -1,6 +1,7 @@
 // What the lookups of a group add to the slots.
 use crate::buses::same_group;
 use balance::accumulate::accumulate_lookup;
+use balance_slots::hash::Seed;
 use balance_slots::slot::SlotUse;
 use expression::words::to_usize;
 use lookup::starts::name_start;
@@ -33,6 +34,7 @@ pub fn accumulate_group(
     flags: &[u32],
     elements: &[u32],
     m: usize,
+    seed: Seed,
     workspace: &mut [u32],
     u: SlotUse,
 ) -> SlotUse
@@ -62,6 +64,7 @@ pub fn accumulate_group(
                 flags,
                 elements,
                 k,
+                seed,
                 workspace,
                 v,
             );

@@ -2,6 +2,7 @@
 use crate::accumulate::accumulate_group;
 use crate::buses::starts_group;
 use balance_slots::group_refusal::group_refusal;
+use balance_slots::hash::Seed;
 use balance_slots::slot::SlotUse;
 use expression::refusal::Verdict;
 use expression::words::clear;
@@ -49,6 +50,7 @@ fn check_group(
     flags: &[u32],
     elements: &[u32],
     m: usize,
+    seed: Seed,
     workspace: &mut [u32],
     g: u64,
 ) -> Checked
@@ -72,6 +74,7 @@ fn check_group(
         flags,
         elements,
         m,
+        seed,
         workspace,
         SlotUse {
             used: 0,
@@ -100,6 +103,7 @@ fn check_kind(
     flags: &[u32],
     elements: &[u32],
     buses: bool,
+    seed: Seed,
     workspace: &mut [u32],
     v: Checked,
 ) -> Checked
@@ -128,6 +132,7 @@ fn check_kind(
                 flags,
                 elements,
                 m,
+                seed,
                 workspace,
                 checked.group,
             );
@@ -152,6 +157,7 @@ pub fn check_groups(
     multiplicities: &[u32],
     flags: &[u32],
     elements: &[u32],
+    seed: Seed,
     workspace: &mut [u32],
 ) -> Checked
     ghost { TableLists }
@@ -178,6 +184,7 @@ pub fn check_groups(
         flags,
         elements,
         false,
+        seed,
         workspace,
         none,
     );
@@ -195,6 +202,7 @@ pub fn check_groups(
         flags,
         elements,
         true,
+        seed,
         workspace,
         locals,
     )

@@ -19,6 +19,7 @@ use expression::refusal::Verdict;
 use expression::refusal::first;
 use expression::sizes::Limits;
 use expression::sizes::Shape;
+use expression::words::to_u64;
 use lookup::refusals::table_refusal;
 use lookup::sizes::size_start;
 use lookup::tests::has_lookups;
@@ -39,13 +40,13 @@ ghost use Rattle.balance.specs.Tables.{table-sizes, TableLists, table-count, si
 ghost use Rattle.balance.specs.inner.Requires.{ListsCovered};
 ghost use Rattle.balance_groups.specs.inner.Lowest.{rank, lower, lowest, one-refusal};
 
-// The number of a refusal; no refusal comes after all of them.
-fn rank(v: Verdict) -> u32
+// The number of a refusal, which has 32 bits; no refusal comes after all of them.
+fn rank(v: Verdict) -> u64
     ensures { λ r. ⌜ r ≡ rank (refusal v) ⌝ }
 {
     match v {
-        Verdict::Accepted => 21,
-        Verdict::Refused(f) => number(f),
+        Verdict::Accepted => 4294967296,
+        Verdict::Refused(f) => to_u64(number(f)),
     }
 }
 

@@ -1,5 +1,6 @@
 // An entry is added to the slots in the workspace.
 use crate::find::find;
+use crate::hash::Seed;
 use crate::link::link;
 use crate::slot::SLOT_WORDS;
 use crate::slot::add_count;
@@ -22,6 +23,7 @@ pub struct LinkedUse {
 
 // A new slot after the first n; how many are linked then.
 fn add_slot(
+    seed: Seed,
     heads: &mut [u32],
     workspace: &mut [u32],
     linked: usize,
@@ -29,31 +31,32 @@ fn add_slot(
     t: &[u32],
     count: u32,
 ) -> usize
-    requires { ⌜ Chained (now heads) (now workspace) linked × (linked ≤ n) × (length (now t) ≤ tuple-words) × (slot-words * n + slot-words ≤ length (now workspace)) ⌝ }
-    ensures { λ r. ⌜ SlotsLinked (now (heads .exit)) (now (workspace .exit)) r 0 (n + 1) (new-at (plain (now (workspace .entry)) linked) n (now (t .entry)) count) ⌝ }
+    requires { ⌜ Chained seed (now heads) (now workspace) linked × (linked ≤ n) × (length (now t) ≤ tuple-words) × (slot-words * n + slot-words ≤ length (now workspace)) ⌝ }
+    ensures { λ r. ⌜ SlotsLinked seed (now (heads .exit)) (now (workspace .exit)) r 0 (n + 1) (new-at (plain (now (workspace .entry)) linked) n (now (t .entry)) count) ⌝ }
 {
     new_slot(workspace, n, t, count);
     if linked < n {
         return linked;
     }
-    link(heads, workspace, n)
+    link(seed, heads, workspace, n)
 }
 
 // An entry goes to its tuple's slot, or to a new one; without room all is zero.
 fn add_nonzero(
     p: u32,
+    seed: Seed,
     heads: &mut [u32],
     workspace: &mut [u32],
     v: LinkedUse,
     t: &[u32],
     count: u32,
 ) -> LinkedUse
-    requires { ⌜ Modulus p × (length (now t) ≤ tuple-words) × ChainsLinked (now heads) (now workspace) v ⌝ }
-    ensures { λ r. ⌜ (plain-work (now (workspace .exit)) r ≡ add-nonzero-at p (plain-work (now (workspace .entry)) v) (now (t .entry)) count) × ChainsLinked (now (heads .exit)) (now (workspace .exit)) r ⌝ }
+    requires { ⌜ Modulus p × (length (now t) ≤ tuple-words) × ChainsLinked seed (now heads) (now workspace) v ⌝ }
+    ensures { λ r. ⌜ (plain-work (now (workspace .exit)) r ≡ add-nonzero-at p (plain-work (now (workspace .entry)) v) (now (t .entry)) count) × ChainsLinked seed (now (heads .exit)) (now (workspace .exit)) r ⌝ }
 {
     let n = v.used;
     let m = v.linked;
-    let k = find(heads, workspace, m, n, t);
+    let k = find(seed, heads, workspace, m, n, t);
     if k < n {
         add_count(p, workspace, k, count);
         return LinkedUse {
@@ -71,7 +74,7 @@ fn add_nonzero(
             linked: 0,
         };
     }
-    let linked = add_slot(heads, workspace, m, n, t, count);
+    let linked = add_slot(seed, heads, workspace, m, n, t, count);
     LinkedUse {
         used: n + 1,
         full: false,
@@ -82,14 +85,15 @@ fn add_nonzero(
 // A count of 0 is skipped, and nothing is added after a slot was missing.
 pub fn add(
     p: u32,
+    seed: Seed,
     heads: &mut [u32],
     workspace: &mut [u32],
     v: LinkedUse,
     t: &[u32],
     count: u32,
 ) -> LinkedUse
-    requires { ⌜ Modulus p × (length (now t) ≤ tuple-words) × ChainsLinked (now heads) (now workspace) v ⌝ }
-    ensures { λ r. ⌜ (plain-work (now (workspace .exit)) r ≡ step p (plain-work (now (workspace .entry)) v) (record { tuple = now (t .entry); count = count })) × ChainsLinked (now (heads .exit)) (now (workspace .exit)) r ⌝ }
+    requires { ⌜ Modulus p × (length (now t) ≤ tuple-words) × ChainsLinked seed (now heads) (now workspace) v ⌝ }
+    ensures { λ r. ⌜ (plain-work (now (workspace .exit)) r ≡ step p (plain-work (now (workspace .entry)) v) (record { tuple = now (t .entry); count = count })) × ChainsLinked seed (now (heads .exit)) (now (workspace .exit)) r ⌝ }
 {
     if v.full {
         return v;
@@ -97,5 +101,5 @@ pub fn add(
     if count == 0 {
         return v;
     }
-    add_nonzero(p, heads, workspace, v, t, count)
+    add_nonzero(p, seed, heads, workspace, v, t, count)
 }

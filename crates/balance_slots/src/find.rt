@@ -1,4 +1,5 @@
 // The slot of a tuple. The width word of a linked slot is its width + 16 · link.
+use crate::hash::Seed;
 use crate::hash::hash;
 use crate::slot::SLOT_WORDS;
 use crate::slot::TUPLE_WORD;
@@ -34,12 +35,19 @@ fn older(workspace: &[u32], t: &[u32], k: usize, found: usize) -> usize
 
 // The slot of t among the first n, or n. The slots that are not linked are searched one by one, the others along their chain: the
 // newest first, so that the last that holds t is the first in the workspace.
-pub fn find(heads: &[u32], workspace: &[u32], linked: usize, n: usize, t: &[u32]) -> usize
-    requires { ⌜ Chained (now heads) (now workspace) linked × (linked ≤ n) × (slot-words * n ≤ length (now workspace)) × (length (now t) ≤ tuple-words) ⌝ }
+pub fn find(
+    seed: Seed,
+    heads: &[u32],
+    workspace: &[u32],
+    linked: usize,
+    n: usize,
+    t: &[u32],
+) -> usize
+    requires { ⌜ Chained seed (now heads) (now workspace) linked × (linked ≤ n) × (slot-words * n ≤ length (now workspace)) × (length (now t) ≤ tuple-words) ⌝ }
     ensures { λ r. ⌜ r ≡ find-slot (plain (now (workspace .entry)) linked) (now (t .entry)) 0 n ⌝ }
 {
     let mut found = find_slot(workspace, linked, n, t);
-    let h = hash(t, 0, t.len());
+    let h = hash(seed, t, 0, t.len());
     let mut cur = to_usize(heads[h]);
     while 0 < cur {
         let k = cur - 1;

@@ -10,7 +10,8 @@ ghost use Rattle.delmatik.specs.Exports.{exported-balance};
 
 // `check_lookups`: the lists of all tables, one table after the other, and fourteen words of sizes for each table: main width, height,
 // preprocessed width, preprocessed height, then how many main words, preprocessed words, public values, nodes, lookups, bytes of names,
-// tuples, multiplicities, flags and elements it has. The workspace then holds the slots of the last group visited.
+// tuples, multiplicities, flags and elements it has. The seed is any number, drawn where traces come from others: it changes the time and
+// never the answer, so that `check` takes none. The workspace then holds the slots of the last group visited.
 #[no_mangle]
 pub extern "C" fn delmatik_balance(
     main: &[u32],
@@ -24,6 +25,7 @@ pub extern "C" fn delmatik_balance(
     flags: &[u32],
     elements: &[u32],
     sizes: &[u32],
+    seed: u64,
     workspace: &mut [u32],
     details: &mut [u64; 3],
 ) -> u32
@@ -45,6 +47,7 @@ pub extern "C" fn delmatik_balance(
         multiplicities,
         flags,
         elements,
+        seed,
         workspace,
     );
     write_answer(v, details)

@@ -20,7 +20,14 @@ ghost use Rattle.delmatik_bytes.specs.Balance.{balance-on-bytes};
 ghost use Rattle.delmatik_bytes.specs.inner.Words.{balance-on-words};
 
 // Balance on the words in a room: main, preprocessed, public values, nodes and sizes end at these places, and then the lists of the lookups.
-fn check_in(room: &[u32], front: Ends, back: Ends, names: &[u8], workspace: &mut [u32]) -> Verdict
+fn check_in(
+    room: &[u32],
+    front: Ends,
+    back: Ends,
+    names: &[u8],
+    seed: u64,
+    workspace: &mut [u32],
+) -> Verdict
     requires { ⌜ Ordered front back (length (now room)) ⌝ }
     ensures { λ r. ⌜ record { refusal = refusal r; workspace = now (workspace .exit) } ≡ balance-on-words (now (names .entry)) (parts (now (room .entry)) 0 (both-ends front back)) (now (workspace .entry)) ⌝ }
 {
@@ -46,11 +53,12 @@ fn check_in(room: &[u32], front: Ends, back: Ends, names: &[u8], workspace: &mut
         &room[g..h],
         &room[h..i],
         &room[i..j],
+        seed,
         workspace,
     )
 }
 
-// `delmatik_balance` on bytes: the workspace is bytes too. The number of the refusal is returned, 0 where there is none; its details are written.
+// `delmatik_balance` on bytes: the workspace is bytes too, and the seed a number. The number of the refusal is returned, 0 where there is none; its details are written.
 #[no_mangle]
 pub extern "C" fn delmatik_balance_bytes(
     main: &[u8],
@@ -64,6 +72,7 @@ pub extern "C" fn delmatik_balance_bytes(
     flags: &[u8],
     elements: &[u8],
     sizes: &[u8],
+    seed: u64,
     workspace: &mut [u8],
     room: &mut [u32],
     workspace_room: &mut [u32],
@@ -115,7 +124,7 @@ pub extern "C" fn delmatik_balance_bytes(
         front.fifth,
     );
     fill(workspace, workspace_room, 0);
-    let verdict = check_in(room, front, back, names, workspace_room);
+    let verdict = check_in(room, front, back, names, seed, workspace_room);
     encode(workspace_room, workspace);
     write_answer(verdict, details)
 }

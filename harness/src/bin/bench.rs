@@ -1,8 +1,8 @@
 //! Times the port's exported functions beside the same work in Rust, interleaved in one run, and compares every result: row evaluation beside the same
 //! loop; generation beside the crate's own source and beside a version tuned by hand (src/tuned.rs); constraints and balance beside the crate's
-//! source, balance beside a hash map as well; and generation at growing heights. Measures how much stack they take, and how many
+//! source, balance beside a hash map as well, also on tuples that were chosen to be slow; and generation at growing heights. Measures how much stack they take, and how many
 //! instructions generation takes, as valgrind's callgrind counts them. Prints tables; `--only PART` runs one part: evaluation, generation,
-//! instructions, constraints, growth, balance or stack; `--rounds N` repeats long work N times in the place of 3.
+//! instructions, constraints, growth, balance, collisions or stack; `--rounds N` repeats long work N times in the place of 3.
 //!
 //!     cargo run --release --offline --features port --bin bench
 use std::collections::HashMap;
@@ -277,37 +277,81 @@ fn crate_balance(_t: &Table) -> Option<Side<'_, bool>> {
     None
 }
 
-/// A tuple of two sent and received once on every row: all nets are zero.
+/// Random rows of four words. The tuple of the first so many of them is sent and received once on every row: all nets are zero.
+fn opposites(random: &mut Random, rows: usize, width: u32) -> Table {
+    let side = |multiplicity: u32| Lookup {
+        bus: Some(b"mem".to_vec()),
+        weight: 1,
+        tuples: vec![(0..width).collect()],
+        multiplicities: vec![multiplicity],
+        ..Lookup::default()
+    };
+    let mut t = Shape { name: "", columns: 4, nodes: 5, lookups: 0, tuples: 0, width: 0, exclusive: 0 }.table(random, rows);
+    let minus = t.add_node(12, 4, 0);
+    t.set_records(&[side(4), side(minus)]);
+    t
+}
+
+/// Whether all nets are zero: by the port, by a hash map, and by the crate where it is asked for and at hand.
+fn race_balance(name: &str, t: &Table, width: usize, with_crate: bool) {
+    let rows = t.height as usize;
+    let port = [wrapped(t)];
+    let mut workspace = vec![0; 10 * rows];
+    let by_map = || {
+        let mut nets: HashMap<Vec<u32>, u32> = HashMap::new();
+        for sign in [1, P - 1] {
+            for row in t.main.chunks_exact(4) {
+                let net = nets.entry(row[..width].to_vec()).or_default();
+                *net = plain::add_word(*net, sign);
+            }
+        }
+        nets.values().all(|net| *net == 0)
+    };
+    let mut sides: Vec<Side<'_, bool>> = vec![Box::new(|| delmatik::balance(&port, &mut workspace).is_ok()), Box::new(by_map)];
+    sides.extend(crate_balance(t).filter(|_| with_crate));
+    report(name, &race(rows, sides), " ns");
+}
+
 fn balance(random: &mut Random) {
     heading(&["balance, different tuples", "port", "a hash map", "ratio", "the crate", "ratio"]);
     for rows in [1_000, 10_000, 100_000] {
-        let side = |multiplicity: u32| Lookup {
-            bus: Some(b"mem".to_vec()),
-            weight: 1,
-            tuples: vec![vec![0, 1]],
-            multiplicities: vec![multiplicity],
-            ..Lookup::default()
-        };
-        let mut t = Shape { name: "", columns: 4, nodes: 5, lookups: 0, tuples: 0, width: 0, exclusive: 0 }.table(random, rows);
-        let minus = t.add_node(12, 4, 0);
-        t.set_records(&[side(4), side(minus)]);
-        let port = [wrapped(&t)];
-        let mut workspace = vec![0; 10 * rows];
-        let by_map = || {
-            let mut nets: HashMap<Vec<u32>, u32> = HashMap::new();
-            for sign in [1, P - 1] {
-                for row in t.main.chunks_exact(4) {
-                    let net = nets.entry(row[..2].to_vec()).or_default();
-                    *net = plain::add_word(*net, sign);
-                }
-            }
-            nets.values().all(|net| *net == 0)
-        };
-        let mut sides: Vec<Side<'_, bool>> = vec![Box::new(|| delmatik::balance(&port, &mut workspace).is_ok()), Box::new(by_map)];
-        sides.extend(crate_balance(&t));
-        let times = race(rows, sides);
-        report(&rows.to_string(), &times, " ns");
+        race_balance(&rows.to_string(), &opposites(random, rows, 2), 2, true);
     }
+}
+
+/// The hash that balance had without a seed: for each word h = h · M + word modulo 2^32, and then the highest 15 bits of h · M.
+const M: u32 = 2654435769;
+
+/// Different tuples of four words for which it is 0: the last word is chosen so that h · M is below 2^17.
+fn of_one_fixed_hash(random: &mut Random, rows: usize) -> Vec<u32> {
+    let inverse = (0..5).fold(M, |x, _| x.wrapping_mul(2u32.wrapping_sub(M.wrapping_mul(x))));
+    let mut row = |i: usize| {
+        let front = [i as u32, random.below(P.into()) as u32, random.below(P.into()) as u32];
+        let h = front.iter().fold(0u32, |h, word| h.wrapping_mul(M).wrapping_add(*word));
+        let last = std::iter::repeat_with(|| (random.below(1 << 17) as u32).wrapping_mul(inverse).wrapping_sub(h.wrapping_mul(M)));
+        [front[0], front[1], front[2], last.into_iter().find(|word| *word < P).unwrap()]
+    };
+    (0..rows).flat_map(&mut row).collect()
+}
+
+/// Different tuples of four words that differ by multiples of 2^27, at most 2^16 of them: a multiplier modulo 2^32 keeps them so.
+fn of_multiples(rows: usize) -> Vec<u32> {
+    (0..rows as u32).flat_map(|i| [0, 4, 8, 12].map(|bits| (i >> bits & 15) << 27)).collect()
+}
+
+/// Balance on rows that were chosen to be slow, beside random ones, and on as many rows as the limits allow.
+fn collisions(random: &mut Random) {
+    const CHOSEN: usize = 60_000;
+    heading(&["balance, tuples of four", "port", "a hash map", "ratio"]);
+    let mut line = |name: &str, rows: usize, main: Option<Vec<u32>>| {
+        let t = opposites(random, rows, 4);
+        race_balance(name, &Table { main: main.unwrap_or_else(|| t.main.clone()), ..t }, 4, false);
+    };
+    let one_hash = of_one_fixed_hash(&mut Random(1), CHOSEN);
+    line("60,000 random tuples", CHOSEN, None);
+    line("60,000 of one hash before it had a seed", CHOSEN, Some(one_hash));
+    line("60,000 that differ by multiples of 2^27", CHOSEN, Some(of_multiples(CHOSEN)));
+    line("2^20 random tuples", 1 << 20, None);
 }
 
 /// How deep the stack grows: the part below this frame is painted first, and looked at afterwards.
@@ -376,6 +420,9 @@ fn main() {
     }
     if wanted("balance") {
         balance(&mut random);
+    }
+    if wanted("collisions") {
+        collisions(&mut random);
     }
     if wanted("stack") {
         stack(&mut random);

@@ -279,16 +279,17 @@ impl Fuzz {
         let (main, preprocessed, publics) = (joined(|t| &t.main), joined(|t| &t.preprocessed), joined(|t| &t.public_values));
         let (nodes, multiplicities) = (joined(|t| &t.nodes), joined(|t| &t.multiplicities));
         let (flags, elements) = (joined(|t| &t.flags), joined(|t| &t.elements));
+        let seed = self.random.draw();
         call!(self, delmatik_balance(
             [&main], [&preprocessed], [&publics], [&nodes], [&lookups], [&names], [&tuples], [&multiplicities], [&flags], [&elements],
-            [&sizes], [mut &workspace],
+            [&sizes], size(&mut self.random, seed) as u64, [mut &workspace],
         ))?;
         let r = &mut self.random;
         let words = [&main, &preprocessed, &publics, &nodes, &lookups, &tuples, &multiplicities, &flags, &elements, &sizes, &workspace];
         let b = words.map(|list| bytes(r, list));
         let (read, written) = (room(r, &b[..10]), room(r, &b[10..]));
         call!(self, delmatik_balance_bytes(
-            [&b[0]], [&b[1]], [&b[2]], [&b[3]], [&b[4]], [&names], [&b[5]], [&b[6]], [&b[7]], [&b[8]], [&b[9]], [mut &b[10]],
+            [&b[0]], [&b[1]], [&b[2]], [&b[3]], [&b[4]], [&names], [&b[5]], [&b[6]], [&b[7]], [&b[8]], [&b[9]], !seed, [mut &b[10]],
             [room &read], [room &written],
         ))
     }

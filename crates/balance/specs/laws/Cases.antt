@@ -76,6 +76,19 @@ two-tables rows =
           };
     }
 
+-- two tables of one row each, with a lookup on the bus "b" each
+abbrev pub one-bus : List ℕ → TableLists
+one-bus rows =
+    record {
+      sizes = 2 ∷ 1 ∷ 0 ∷ 0 ∷ 2 ∷ 0 ∷ 0 ∷ 2 ∷ 1 ∷ 1 ∷ 1 ∷ 1 ∷ 0 ∷ 1 ∷ 2 ∷ 1 ∷ 0 ∷ 0 ∷ 2 ∷ 0 ∷ 0 ∷ 2 ∷ 1 ∷ 1 ∷ 1 ∷ 1 ∷ 0 ∷ 1 ∷ [];
+      main = rows;
+      preprocessed = [];
+      public-values = [];
+      nodes = columns ++ columns;
+      lookups =
+          record { lookups = bus-words ++ bus-words; names = 98 ∷ 98 ∷ []; tuples = 1 ∷ 1 ∷ []; multiplicities = 1 ∷ 1 ∷ []; flags = []; elements = 0 ∷ 0 ∷ [] };
+    }
+
 -- an exclusive local of one branch: the tuple (node 0), counted node 1 times, with node 1 as flag too
 abbrev pub exclusive : List ℕ → TableLists
 exclusive rows =
@@ -126,6 +139,8 @@ pub cases :
     × (run (two-tables (3 ∷ 1 ∷ 3 ∷ 2013265920 ∷ [])) 10
     ≡ record { refusal = some (NetNotZero 0 0 2013265920); workspace = 0 ∷ replicate 8 0 ++ (2013265920 ∷ []) })
     × (run (two-tables (3 ∷ 1 ∷ 3 ∷ 0 ∷ [])) 10 ≡ record { refusal = some (NetNotZero 1 0 1); workspace = slot-of 3 1 })
+    -- what one table sends on the bus the other receives
+    × (run (one-bus (3 ∷ 1 ∷ 3 ∷ 2013265920 ∷ [])) 10 ≡ record { refusal = none; workspace = slot-of 3 0 })
     -- multiplicity × flag: 2 × 2
     × (run (exclusive (3 ∷ 2 ∷ [])) 10 ≡ record { refusal = some (NetNotZero 0 0 4); workspace = slot-of 3 4 })
     -- 9: height 4, preprocessed 3; the workspace is untouched
@@ -140,4 +155,4 @@ unfolding addM subM negM mulM total every joined fold tab flatMap all-below all-
     unbalanced names-first group-refusal keep size-start table-part shape-at lookups-at table-at tables-of lists-fit members same-bus appears
     local-group bus-group bus-groups groups count-of entry-of row-entries member-entries entries all listed covered tables-refusal visit balance
     check
-cases = (refl, refl, refl, refl, refl, refl, refl, refl, refl, refl, refl, refl)
+cases = (refl, refl, refl, refl, refl, refl, refl, refl, refl, refl, refl, refl, refl)

@@ -12,9 +12,9 @@ use Rattle.lookup.specs.Table.{Table}
 use Rattle.lookup.specs.Refusals.{table-refusal}
 use Rattle.balance.specs.Refusals.{covered}
 
--- no refusal comes after all of them
+-- no refusal comes after all of them: a refusal's number has 32 bits
 abbrev pub rank : Option Refusal → ℕ
-rank none = 21
+rank none = 4294967296
 rank (some f) = number f
 
 -- of two the one with the lower number

@@ -5,7 +5,8 @@ use Prim.Native.Nat.{ℕ, zero, suc, _+_, _*_, _%_, _<_, _≤_, zero-le}
 use native.Mathlib.Omega.{arith}
 use lib.Dec.{eqb}
 use borrow.Author.Tests.{eqb-true}
-use Rattle.balance_slots.specs.inner.Hash.{mixed, hash}
+use Rattle.balance_slots.specs.declared.hash.Seed.{Seed}
+use Rattle.balance_slots.specs.inner.Hash.{hash-prime, chains, polynomial, hash}
 use Rattle.balance_slots.specs.inner.Chain.{last-before}
 
 pub last-le : (f : ℕ → ℕ) (h n : ℕ) → last-before f h n ≤ n
@@ -33,11 +34,11 @@ last-hits f h (suc i) j e = go (eqb (f i) h) refl e (λ r. last-hits f h i j r)
     go true q r k = let z : i ≡ j = omega arith in ap f (sym z) ∙ eqb-true (f i) h q
     go false q r k = k r
 
-mixed-same : (x y : ℕ → ℕ) (n : ℕ) → ((j : ℕ) → j < n → x j ≡ y j) → mixed x n ≡ mixed y n
-unfolding mixed
-mixed-same x y zero e = refl
-mixed-same x y (suc n) e = ap₂ (λ (a b : ℕ). (a * 2654435769 + b) % 4294967296) (mixed-same x y n (λ j l. e j (omega arith))) (e n (omega arith))
+polynomial-same : (point : ℕ) (x y : ℕ → ℕ) (n : ℕ) → ((j : ℕ) → j < n → x j ≡ y j) → polynomial point x n ≡ polynomial point y n
+unfolding polynomial
+polynomial-same point x y zero e = refl
+polynomial-same point x y (suc n) e = ap₂ (λ (a b : ℕ). (a * point + b) % hash-prime) (polynomial-same point x y n (λ j l. e j (omega arith))) (e n (omega arith))
 
-pub hash-same : (x y : ℕ → ℕ) (n : ℕ) → ((j : ℕ) → j < n → x j ≡ y j) → hash x n ≡ hash y n
+pub hash-same : (seed : Seed) (x y : ℕ → ℕ) (n : ℕ) → ((j : ℕ) → j < n → x j ≡ y j) → hash seed x n ≡ hash seed y n
 unfolding hash
-hash-same x y n e = rw (mixed-same x y n e)
+hash-same seed x y n e = ap (λ (a : ℕ). a * seed .factor % hash-prime % chains) (polynomial-same (seed .point) x y n e)

@@ -8,12 +8,12 @@ use Rattle.balance.proofs.rows.accumulate_linked.Statement.{statement}
 use Rattle.balance.proofs.rows.accumulate_linked.Tie as tie
 
 abbrev Inv-loop : tie.InvT-loop
-Inv-loop p shape main preprocessed public-values nodes starts tuples multiplicities flags elements heads₀ workspace₀ height v₀ r₀ heads workspace v r =
-    RowsLoop p starts (source (lent-traces shape main preprocessed public-values) nodes (part-lists tuples multiplicities flags elements)) heads₀ workspace₀ (plain-work workspace₀ v₀) r heads
+Inv-loop p shape main preprocessed public-values nodes starts tuples multiplicities flags elements seed heads₀ workspace₀ height v₀ r₀ heads workspace v r =
+    RowsLoop p seed starts (source (lent-traces shape main preprocessed public-values) nodes (part-lists tuples multiplicities flags elements)) heads₀ workspace₀ (plain-work workspace₀ v₀) r heads
     workspace v
 
 abbrev μ-loop : tie.MeasureT-loop
-μ-loop p shape main preprocessed public-values nodes starts tuples multiplicities flags elements heads₀ workspace₀ height v₀ r₀ heads workspace v r = shape .height - r
+μ-loop p shape main preprocessed public-values nodes starts tuples multiplicities flags elements seed heads₀ workspace₀ height v₀ r₀ heads workspace v r = shape .height - r
 
 loop-holds : tie.Need-loop-holds Inv-loop μ-loop
 loop-holds c = rows-loop-begins (c .before .before .before .before .before .before .before .before .before .before .pre .2)

@@ -8,11 +8,11 @@ use Rattle.balance.proofs.rows.add_tuples.Statement.{statement}
 use Rattle.balance.proofs.rows.add_tuples.Tie as tie
 
 abbrev Inv-loop : tie.InvT-loop
-Inv-loop p heads₀ workspace₀ vals starts tuples multiplicities flags elements n start v₀ at₀ k₀ heads workspace v at k =
-    AddTuplesLoop p starts (part-lists tuples multiplicities flags elements) vals heads₀ workspace₀ (plain-work workspace₀ v₀) k at heads workspace v
+Inv-loop p seed heads₀ workspace₀ vals starts tuples multiplicities flags elements n start v₀ at₀ k₀ heads workspace v at k =
+    AddTuplesLoop p seed starts (part-lists tuples multiplicities flags elements) vals heads₀ workspace₀ (plain-work workspace₀ v₀) k at heads workspace v
 
 abbrev μ-loop : tie.MeasureT-loop
-μ-loop p heads₀ workspace₀ vals starts tuples multiplicities flags elements n start v₀ at₀ k₀ heads workspace v at k = starts .count - k
+μ-loop p seed heads₀ workspace₀ vals starts tuples multiplicities flags elements n start v₀ at₀ k₀ heads workspace v at k = starts .count - k
 
 loop-holds : tie.Need-loop-holds Inv-loop μ-loop
 loop-holds c =
@@ -56,10 +56,13 @@ entry-count-requires c κs =
 
 mul-add-tuple : tie.Need-mul-add-tuple Inv-loop μ-loop
 mul-add-tuple c =
+    let at-5 = c .before .before .before .before .before in
+    let at-7 = at-5 .before .before in
+    let at-14 = at-7 .before .before .before .before .before .before .before in
     omega (
       arith,
-      ends-in (c .before .before .before .before .before .before .before .before .before .before .before .before .before .before .pre .3) (c .before .before .before .before .before .loop-test .taken)
-          (c .before .before .before .before .before .before .loop .inv .here) (c .before .before .before .to-usize .ensures .0),
+      at-14 .good .1 .1 .1 .1 .1 .1 .1 .1 .1 .1 .0,
+      ends-in (at-14 .pre .3) (at-5 .loop-test .taken) (at-5 .before .loop .inv .here) (c .before .before .before .to-usize .ensures .0),
     )
 
 sub-add-tuple : tie.Need-sub-add-tuple Inv-loop μ-loop

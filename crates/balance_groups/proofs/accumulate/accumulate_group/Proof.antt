@@ -10,11 +10,11 @@ use Rattle.balance_groups.proofs.accumulate.accumulate_group.Statement.
 use Rattle.balance_groups.proofs.accumulate.accumulate_group.Tie as tie
 
 abbrev Inv-loop : tie.InvT-loop
-Inv-loop p sizes main preprocessed public-values nodes lookups names tuples multiplicities flags elements m workspace₀ n a v₀ at₀ k₀ workspace v at k =
+Inv-loop p sizes main preprocessed public-values nodes lookups names tuples multiplicities flags elements m seed workspace₀ n a v₀ at₀ k₀ workspace v at k =
     GroupLoop p (lent-tables sizes main preprocessed public-values nodes lookups names tuples multiplicities flags elements) m (work workspace₀ v₀) k at workspace v
 
 abbrev μ-loop : tie.MeasureT-loop
-μ-loop p sizes main preprocessed public-values nodes lookups names tuples multiplicities flags elements m workspace₀ n a v₀ at₀ k₀ workspace v at k = lookup-count lookups - k
+μ-loop p sizes main preprocessed public-values nodes lookups names tuples multiplicities flags elements m seed workspace₀ n a v₀ at₀ k₀ workspace v at k = lookup-count lookups - k
 
 name-start-requires : tie.Need-name-start-requires Inv-loop μ-loop
 name-start-requires c κs = search needs

@@ -23,8 +23,8 @@ group-refusal-requires c κs =
       entered _ _ (at-21 .pre .0) _ (length (at-21 .args .workspace .now)) (at-7 .clear .ensures) (c .before .before .before .accumulate-group .ensures) .widths,
     )
 
-add-t26 : tie.Need-add-t26
-add-t26 c = search needs
+add-t27 : tie.Need-add-t27
+add-t27 c = search needs
 
 same-length : tie.Need-same-length
 same-length c = search needs
@@ -40,4 +40,4 @@ returns c =
 pub check-group-spec : {M : Type 1} → statement M
 check-group-spec =
     tie.close
-    (tie.spec clear-requires accumulate-group-requires group-refusal-requires add-t26 same-length returns)
+    (tie.spec clear-requires accumulate-group-requires group-refusal-requires add-t27 same-length returns)

@@ -10,12 +10,12 @@ use Rattle.balance_groups.proofs.check.check_kind.Statement.{statement}
 use Rattle.balance_groups.proofs.check.check_kind.Tie as tie
 
 abbrev Inv-loop : tie.InvT-loop
-Inv-loop p sizes main preprocessed public-values nodes lookups names tuples multiplicities flags elements buses workspace₀ n w₀ m₀ workspace w m =
+Inv-loop p sizes main preprocessed public-values nodes lookups names tuples multiplicities flags elements buses seed workspace₀ n w₀ m₀ workspace w m =
     KindLoop p (lent-tables sizes main preprocessed public-values nodes lookups names tuples multiplicities flags elements) buses (visited-of workspace₀ w₀) (length
     workspace₀) (w₀ .group) m workspace w
 
 abbrev μ-loop : tie.MeasureT-loop
-μ-loop p sizes main preprocessed public-values nodes lookups names tuples multiplicities flags elements buses workspace₀ n w₀ m₀ workspace w m = lookup-count lookups - m
+μ-loop p sizes main preprocessed public-values nodes lookups names tuples multiplicities flags elements buses seed workspace₀ n w₀ m₀ workspace w m = lookup-count lookups - m
 
 loop-holds : tie.Need-loop-holds Inv-loop μ-loop
 loop-holds c =

@@ -53,8 +53,8 @@ returns-2 c =
 add-slot-requires : tie.Need-add-slot-requires
 add-slot-requires c κs = search needs
 
-add-t19 : tie.Need-add-t19
-add-t19 c = search needs
+add-t20 : tie.Need-add-t20
+add-t20 c = search needs
 
 same-length-5 : tie.Need-same-length-5
 same-length-5 c = search needs
@@ -88,7 +88,7 @@ add-nonzero-spec =
     same-length-4
     returns-2
     add-slot-requires
-    add-t19
+    add-t20
     same-length-5
     same-length-6
     returns-3)

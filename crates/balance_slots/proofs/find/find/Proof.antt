@@ -5,7 +5,7 @@ use Rattle.balance_slots.proofs.find.find.Statement.{statement}
 use Rattle.balance_slots.proofs.find.find.Tie as tie
 
 abbrev Inv-loop : tie.InvT-loop
-Inv-loop heads workspace linked n t found₀ h cur₀ found cur = ChainLoop workspace t linked n cur found
+Inv-loop heads workspace linked n t found₀ h cur₀ found cur = ChainLoop heads workspace t linked n cur found
 
 abbrev μ-loop : tie.MeasureT-loop
 μ-loop heads workspace linked n t found₀ h cur₀ found cur = cur
@@ -51,15 +51,11 @@ to-usize-requires-2 c κs = search needs
 
 loop-less : tie.Need-loop-less Inv-loop μ-loop
 loop-less c =
-    let at-4 = c .before .before .before .before in
-    let at-12 = at-4 .before .before .before .before .before .before .before .before in
-    walk-less (at-12 .pre .0) (at-4 .loop .inv) (c .before .before .before .loop-test .taken) (c .to-usize2 .ensures .0)
+    walk-less (c .before .before .before .before .loop .inv) (c .before .before .before .loop-test .taken) (c .to-usize2 .ensures .0)
 
 loop-again : tie.Need-loop-again Inv-loop μ-loop
 loop-again c =
-    let at-4 = c .before .before .before .before in
-    let at-12 = at-4 .before .before .before .before .before .before .before .before in
-    walk-turn (at-12 .pre .0) (at-12 .pre .3) (at-4 .loop .inv) (c .before .before .before .loop-test .taken) refl (c .before .before .older .ensures)
+    walk-turn (c .before .before .before .before .loop .inv) (c .before .before .before .loop-test .taken) refl (c .before .before .older .ensures)
     (c .to-usize2 .ensures .0)
 
 returns : tie.Need-returns Inv-loop μ-loop

@@ -5,10 +5,10 @@ use Rattle.balance_slots.proofs.link.link_slots.Statement.{statement}
 use Rattle.balance_slots.proofs.link.link_slots.Tie as tie
 
 abbrev Inv-loop : tie.InvT-loop
-Inv-loop heads₀ workspace₀ n i₀ heads workspace i = LinkLoop heads₀ workspace₀ n i heads workspace
+Inv-loop seed heads₀ workspace₀ n i₀ heads workspace i = LinkLoop seed heads₀ workspace₀ n i heads workspace
 
 abbrev μ-loop : tie.MeasureT-loop
-μ-loop heads₀ workspace₀ n i₀ heads workspace i = n - i
+μ-loop seed heads₀ workspace₀ n i₀ heads workspace i = n - i
 
 loop-holds : tie.Need-loop-holds Inv-loop μ-loop
 loop-holds c = link-loop-begins (c .before .before .pre .0) (c .before .before .pre .1)

@@ -108,7 +108,7 @@ encode-requires c κs =
     let at-if1 = c .before .before .before .before .before .before .before .before .before .before .before .before .before .before .before .before .before .before .before .before in
     let at-workspace-room2 = c .before .before .before in
     let at-workspace-room = c .before .before .before .before .before .before .before .before in
-    le-of-eq (sym (one-still-fits (start .args .workspace .now) (start .args .workspace-room .now) (at-check-in .check-in .last .1 .1 .1 .1 .0) (both-fit at-if1 .1) (at-workspace-room2 .workspace-room2 .given ∙ at-workspace-room .workspace-room .given)))
+    le-of-eq (sym (one-still-fits (start .args .workspace .now) (start .args .workspace-room .now) (at-check-in .check-in .last .1 .1 .1 .1 .1 .0) (both-fit at-if1 .1) (at-workspace-room2 .workspace-room2 .given ∙ at-workspace-room .workspace-room .given)))
 
 write-answer-requires-2 : tie.Need-write-answer-requires-2
 write-answer-requires-2 c κs = search needs
@@ -144,8 +144,8 @@ returns-2 c =
     (parts _ 0 (both-ends (at-fill-five .fill-five .result) (at-fill-five2 .fill-five2 .result))) (both-fit at-if1 .0) (both-fit at-if1 .1)
     (ten (both-fit at-if1 .0) (at-fill-five .fill-five .ensures) (at-fill-five2 .fill-five2 .ensures)) (one-alone (start .args .workspace .now) (start .args .workspace-room .now) (both-fit at-if1 .1) (at-fill .fill .ensures .1))
     (at-check-in .check-in .ensures)
-    (given-back (at-check-in .check-in .last .1 .1 .1 .1 .0) (start .args .workspace .now)
-    (one-still-fits (start .args .workspace .now) (start .args .workspace-room .now) (at-check-in .check-in .last .1 .1 .1 .1 .0) (both-fit at-if1 .1) (at-workspace-room2 .workspace-room2 .given ∙ at-workspace-room .workspace-room .given)) (at-encode .encode .ensures))
+    (given-back (at-check-in .check-in .last .1 .1 .1 .1 .1 .0) (start .args .workspace .now)
+    (one-still-fits (start .args .workspace .now) (start .args .workspace-room .now) (at-check-in .check-in .last .1 .1 .1 .1 .1 .0) (both-fit at-if1 .1) (at-workspace-room2 .workspace-room2 .given ∙ at-workspace-room .workspace-room .given)) (at-encode .encode .ensures))
     (at-tell2 .write-answer2 .ensures)
 
 pub delmatik-balance-bytes-spec : {M : Type 1} → statement M
