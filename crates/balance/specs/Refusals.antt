@@ -8,9 +8,10 @@ use Rattle.expression.specs.Refusal.{unless}
 use Rattle.expression.specs.Tests.{degrees-low}
 use Rattle.expression.specs.declared.sizes.Limits.{Limits}
 use Rattle.expression.specs.declared.refusal.Refusal.{Refusal}
-use Rattle.expression.specs.declared.refusal.Refusal.the-variants.{SizeAtOdds, WordTooLarge, NodeInvalid, DegreeTooHigh, LookupInvalid, RowsMissing}
+use Rattle.expression.specs.declared.refusal.Refusal.the-variants.{RowsMissing}
 use Rattle.lookup.specs.Table.{Table}
 use Rattle.lookup.specs.Tests.{sizes, words-below, known, lists-agree, has-lookups, preprocessed-enough}
+use Rattle.lookup.specs.Order.{first-refusal}
 use Rattle.balance.specs.Tables.{TableLists, tables-of, lists-fit}
 
 unfoldable pub all : (Table → Bool) → List Table → Bool
@@ -27,9 +28,12 @@ covered t = not (has-lookups (t .lookups .lookups)) || preprocessed-enough (t .t
 
 unfoldable pub tables-refusal : Limits → ℕ → TableLists → Option Refusal
 tables-refusal m p l =
-    unless (lists-fit m l && all (sizes m) (tables-of l)) SizeAtOdds
-    (unless (all (words-below p) (tables-of l)) WordTooLarge
-    (unless (all known (tables-of l)) NodeInvalid
-    (unless (all (λ (t : Table). degrees-low m (t .nodes)) (tables-of l)) DegreeTooHigh
-    (unless (all listed (tables-of l)) LookupInvalid
-    (unless (all covered (tables-of l)) RowsMissing none)))))
+    first-refusal
+    (record {
+      sizes = lists-fit m l && all (sizes m) (tables-of l);
+      words = all (words-below p) (tables-of l);
+      nodes = all known (tables-of l);
+      degrees = all (λ (t : Table). degrees-low m (t .nodes)) (tables-of l);
+      lists = all listed (tables-of l);
+    })
+    (unless (all covered (tables-of l)) RowsMissing none)

@@ -1,8 +1,7 @@
 // Building for callers that hold words.
 use delmatik_answers::answer::write_answer;
 use delmatik_answers::built::building_verdict;
-use delmatik_answers::built::built_value;
-use delmatik_answers::values::write_value;
+use delmatik_answers::built::write_built;
 use lookup::refusals::Columns;
 use lookup_builder::answer::Kinds;
 use lookup_builder::builder::from_interactions;
@@ -14,8 +13,9 @@ ghost use Rattle.delmatik_answers.specs.Types.{columns-of};
 ghost use Rattle.delmatik_answers.specs.Building.{kinds-of};
 ghost use Rattle.delmatik.specs.Exports.{exported-building};
 
-// `from_interactions` of one table: the lookups' words into the front of a lent list, and how many were written. `interactions`
-// has two words for each, locals first, then globals, then exclusives: the length of its name and the number of its tuples.
+// `from_interactions` of one table: the lookups' words into the front of a lent list, and how many are used. `interactions` has two words for
+// each, locals first, then globals, then exclusives: the length of its name and the number of its tuples. A refusal leaves the list and this
+// number as they were.
 #[no_mangle]
 pub extern "C" fn delmatik_build(
     main_width: usize,
@@ -40,7 +40,7 @@ pub extern "C" fn delmatik_build(
         ≡ exported-building (building cabinet babybear (columns-of «main_width» «pre_width» «public_values»)
         (now (nodes .entry)) (kinds-of locals globals exclusives)
         (lent-interactions (now (interactions .entry)) (now (weights .entry)) (now (names .entry)) (now (tuples .entry)) (now (multiplicities .entry))
-        (now (flags .entry)) (now (elements .entry))) (now («lookups_out» .entry))) ⌝ }
+        (now (flags .entry)) (now (elements .entry))) (now («lookups_out» .entry))) (now (used .entry)) ⌝ }
 {
     let a = from_interactions(
         Columns {
@@ -63,6 +63,6 @@ pub extern "C" fn delmatik_build(
         elements,
         lookups_out,
     );
-    write_value(built_value(a), used);
+    write_built(a, used);
     write_answer(building_verdict(a), details)
 }

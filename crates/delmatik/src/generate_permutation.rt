@@ -3,18 +3,24 @@ use delmatik_answers::answer::write_details;
 use delmatik_answers::generated::generation_details;
 use delmatik_answers::generated::generation_number;
 use delmatik_answers::generated::write_terminal;
+use delmatik_answers::row::write_part;
 use expression::sizes::Shape;
 use logup_generation::generate_permutation::generate;
+use logup_generation::generate_permutation::row;
 ghost use mathlib.Core.Path.{_≡_};
+ghost use lib.ListN.{take, drop};
 ghost use Rattle.expression.specs.Limits.{cabinet};
+ghost use Rattle.expression.specs.Words.{word};
 ghost use Rattle.field.specs.Modulus.{babybear, babybear-w};
 ghost use Rattle.lookup.specs.Lookups.{lent-lookups};
 ghost use Rattle.lookup.specs.Table.{lent-table};
 ghost use Rattle.logup.specs.Generation.{generation};
 ghost use Rattle.delmatik_answers.specs.Generation.{shape-of};
+ghost use Rattle.delmatik_answers.specs.Row.{exported-row};
 ghost use Rattle.delmatik.specs.Exports.{exported-generation};
 
 // `generate_permutation`: the number of the refusal is returned, 0 where there is none; its details, the terminal and the trace are written.
+// Refusals 1 to 12 leave terminal and trace as they were; after 13 to 15 the terminal is five zeros.
 #[no_mangle]
 pub extern "C" fn delmatik_generate(
     main_width: usize,
@@ -41,7 +47,7 @@ pub extern "C" fn delmatik_generate(
         (lent-table (shape-of «main_width» height «pre_width» «pre_height») (now (main .entry)) (now (preprocessed .entry)) (now («public_values» .entry))
         (now (nodes .entry))
         (lent-lookups (now (lookups .entry)) (now (names .entry)) (now (tuples .entry)) (now (multiplicities .entry)) (now (flags .entry))
-        (now (elements .entry)))) (now (challenges .entry)) (now (trace .entry))) ⌝ }
+        (now (elements .entry)))) (now (challenges .entry)) (now (trace .entry))) (now (terminal .entry)) ⌝ }
 {
     let g = generate(
         Shape {
@@ -66,4 +72,21 @@ pub extern "C" fn delmatik_generate(
     write_terminal(g, terminal);
     write_details(generation_details(g), details_out);
     generation_number(g)
+}
+
+// Row r of a trace of so many lookups and rows, as a part of it: where it begins, and how many words it has; 0 and 0 where it is empty.
+#[no_mangle]
+pub extern "C" fn delmatik_row(
+    trace: &[u32],
+    lookups: usize,
+    height: usize,
+    r: u64,
+    part: &mut [u64; 2],
+)
+    ensures { λ _. ⌜ record {
+      part = now (part .exit);
+      words = take (word (now (part .exit)) 1) (drop (word (now (part .exit)) 0) (now (trace .entry)));
+    } ≡ exported-row (now (trace .entry)) lookups height r ⌝ }
+{
+    write_part(row(trace, lookups, height, r), r, part);
 }

@@ -12,7 +12,8 @@ ghost use Rattle.packing.specs.PackSameBus.{packing};
 ghost use Rattle.delmatik_answers.specs.Types.{columns-of};
 ghost use Rattle.delmatik.specs.Exports.{exported-packing};
 
-// `pack_same_bus` of one table: its columns into the front of six lent lists, and how much of each was written.
+// `pack_same_bus` of one table: its columns into the front of six lent lists, each as long as the table's own at least, and how much of each is
+// used. A refusal leaves the lists and these numbers as they were.
 #[no_mangle]
 pub extern "C" fn delmatik_pack(
     limit: u64,
@@ -46,7 +47,7 @@ pub extern "C" fn delmatik_pack(
         (lent-lookups (now (lookups .entry)) (now (names .entry)) (now (tuples .entry)) (now (multiplicities .entry)) (now (flags .entry))
         (now (elements .entry)))
         (lent-lookups (now («lookups_out» .entry)) (now («names_out» .entry)) (now («tuples_out» .entry)) (now («multiplicities_out» .entry))
-        (now («flags_out» .entry)) (now («elements_out» .entry)))) ⌝ }
+        (now («flags_out» .entry)) (now («elements_out» .entry)))) (now (used .entry)) ⌝ }
 {
     let a = pack_same_bus(
         limit,

@@ -1,10 +1,9 @@
 // Degree and bus widths, for callers that hold words.
 use delmatik_answers::answer::write_answer;
-use delmatik_answers::values::degree_value;
 use delmatik_answers::values::degree_verdict;
-use delmatik_answers::values::widest_value;
 use delmatik_answers::values::widths_verdict;
-use delmatik_answers::values::write_value;
+use delmatik_answers::values::write_degree;
+use delmatik_answers::values::write_widest;
 use lookup::refusals::Columns;
 use lookup_buses::check_bus_widths::check_bus_widths;
 use lookup_degree::constraint_degree::constraint_degree;
@@ -17,7 +16,7 @@ ghost use Rattle.lookup_buses.specs.CheckBusWidths.{widths-answer, lent-bus-tab
 ghost use Rattle.delmatik_answers.specs.Types.{columns-of};
 ghost use Rattle.delmatik.specs.Exports.{exported-degree, exported-widest};
 
-// `constraint_degree_with_transition` of one lookup of a table; 0 where it is refused.
+// `constraint_degree_with_transition` of one lookup of a table. A refusal leaves the lent degree as it was.
 #[no_mangle]
 pub extern "C" fn delmatik_degree(
     main_width: usize,
@@ -38,7 +37,7 @@ pub extern "C" fn delmatik_degree(
     ensures { λ r. ⌜ record { number = r; details = now (details .exit); value = now (degree .exit) }
         ≡ exported-degree (degree-answer cabinet babybear (columns-of «main_width» «pre_width» «public_values») (now (nodes .entry))
         (lent-lookups (now (lookups .entry)) (now (names .entry)) (now (tuples .entry)) (now (multiplicities .entry)) (now (flags .entry))
-        (now (elements .entry))) lookup transition) ⌝ }
+        (now (elements .entry))) lookup transition) (now (degree .entry)) ⌝ }
 {
     let a = constraint_degree(
         Columns {
@@ -56,12 +55,12 @@ pub extern "C" fn delmatik_degree(
         lookup,
         transition,
     );
-    write_value(degree_value(a), degree);
+    write_degree(a, degree);
     write_answer(degree_verdict(a), details)
 }
 
-// `check_bus_widths` of several tables: the widest bus tuple; 0 where it is refused. `sizes` has for each table how many
-// lookups, bytes of names and tuples it has.
+// `check_bus_widths` of several tables: the widest bus tuple. `sizes` has for each table how many lookups, bytes of names and tuples it has.
+// A refusal leaves the lent width as it was.
 #[no_mangle]
 pub extern "C" fn delmatik_widths(
     lookups: &[u32],
@@ -72,9 +71,10 @@ pub extern "C" fn delmatik_widths(
     details: &mut [u64; 3],
 ) -> u32
     ensures { λ r. ⌜ record { number = r; details = now (details .exit); value = now (widest .exit) }
-        ≡ exported-widest (widths-answer cabinet (lent-bus-tables (now (lookups .entry)) (now (names .entry)) (now (tuples .entry)) (now (sizes .entry)))) ⌝ }
+        ≡ exported-widest (widths-answer cabinet (lent-bus-tables (now (lookups .entry)) (now (names .entry)) (now (tuples .entry)) (now (sizes .entry))))
+        (now (widest .entry)) ⌝ }
 {
     let a = check_bus_widths(lookups, names, tuples, sizes);
-    write_value(widest_value(a), widest);
+    write_widest(a, widest);
     write_answer(widths_verdict(a), details)
 }

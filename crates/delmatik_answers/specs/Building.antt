@@ -1,6 +1,7 @@
--- Building's answer as numbers: what is refused, and how many words were written, 0 where it is refused. SPECIFICATION, section 14.1.
+-- Building's answer as numbers: what is refused, and how many words are used. SPECIFICATION, sections 10.5 and 14.1.
 use Prim.Native.Nat.{ℕ}
 use mathlib.Core.Option.{Option, none, some}
+use mathlib.Core.List.{List, [], _∷_}
 use Rattle.expression.specs.declared.refusal.Refusal.{Refusal}
 use Rattle.lookup_builder.specs.declared.answer.Kinds.{Kinds}
 use Rattle.lookup_builder.specs.declared.answer.BuildingAnswer.{BuildingAnswer}
@@ -13,6 +14,7 @@ abbrev pub building-refused : BuildingAnswer → Option Refusal
 building-refused (Built n) = none
 building-refused (Refused f) = some f
 
-abbrev pub built-value : BuildingAnswer → ℕ
-built-value (Built n) = n
-built-value (Refused f) = 0
+-- what stands in the lent number afterwards: as it was where it is refused
+abbrev pub building-used : BuildingAnswer → List ℕ → List ℕ
+building-used (Built n) lent = n ∷ []
+building-used (Refused f) lent = lent

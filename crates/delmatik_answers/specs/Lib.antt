@@ -4,3 +4,5 @@ pub mod Generation
 pub mod Constraints
 pub mod Types
 pub mod Packing
+pub mod Count
+pub mod Row

@@ -1,4 +1,5 @@
--- Packing's answer as numbers: what is refused, and how many words, bytes or numbers of each list were written. SPECIFICATION, section 14.1.
+-- Packing's answer as numbers: what is refused, and how many words, or bytes of names, of each list are used. SPECIFICATION, sections 10.5
+-- and 14.1.
 use Prim.Native.Nat.{ℕ}
 use mathlib.Core.Option.{Option, none, some}
 use mathlib.Core.List.{List, [], _∷_}
@@ -10,7 +11,7 @@ abbrev pub packing-refused : PackingAnswer → Option Refusal
 packing-refused (Packed c) = none
 packing-refused (Refused f) = some f
 
--- lookups, names, tuples, multiplicities, flags, elements; zeros where it is refused
-abbrev pub packing-used : PackingAnswer → List ℕ
-packing-used (Packed c) = c .lookups ∷ c .names ∷ c .tuples ∷ c .multiplicities ∷ c .flags ∷ c .elements ∷ []
-packing-used (Refused f) = 0 ∷ 0 ∷ 0 ∷ 0 ∷ 0 ∷ 0 ∷ []
+-- what stands in the six lent numbers afterwards: lookups, names, tuples, multiplicities, flags, elements; as it was where it is refused
+abbrev pub packing-used : PackingAnswer → List ℕ → List ℕ
+packing-used (Packed c) lent = c .lookups ∷ c .names ∷ c .tuples ∷ c .multiplicities ∷ c .flags ∷ c .elements ∷ []
+packing-used (Refused f) lent = lent

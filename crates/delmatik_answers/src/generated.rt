@@ -5,7 +5,7 @@ use logup::logup::Generated;
 ghost use mathlib.Core.Path.{_≡_};
 ghost use Rattle.expression.specs.Refusal.{the-details};
 ghost use Rattle.logup.specs.Generation.{answer-of};
-ghost use Rattle.delmatik_answers.specs.Generation.{generation-number, generation-details, generation-terminal};
+ghost use Rattle.delmatik_answers.specs.Generation.{generation-number, generation-details, marked-words, generation-terminal};
 
 // The number of an answer: 0 where nothing is refused.
 pub fn generation_number(g: Generated) -> u32
@@ -37,8 +37,8 @@ pub fn generation_details(g: Generated) -> ThreeDetails
 }
 
 // 1 and the terminal's four words, or zeros where there is none.
-pub fn write_terminal(g: Generated, out: &mut [u32; 5])
-    ensures { λ _. ⌜ now (out .exit) ≡ generation-terminal (answer-of g) ⌝ }
+fn put_terminal(g: Generated, out: &mut [u32; 5])
+    ensures { λ _. ⌜ now (out .exit) ≡ marked-words (answer-of g) ⌝ }
 {
     match g {
         Generated::Terminal(t) => {
@@ -52,4 +52,15 @@ pub fn write_terminal(g: Generated, out: &mut [u32; 5])
             *out = [0u32, 0, 0, 0, 0];
         }
     }
+}
+
+// The terminal; refusals 1 to 12 write nothing.
+pub fn write_terminal(g: Generated, out: &mut [u32; 5])
+    ensures { λ _. ⌜ now (out .exit) ≡ generation-terminal (answer-of g) (now (out .entry)) ⌝ }
+{
+    let n = generation_number(g);
+    if (0 < n) & (n <= 12) {
+        return;
+    }
+    put_terminal(g, out);
 }

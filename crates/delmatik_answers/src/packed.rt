@@ -29,15 +29,14 @@ pub fn write_counts(c: Counts, out: &mut [u64; 6])
     ];
 }
 
+// How much of each list is used; a refusal writes nothing.
 pub fn write_used(a: PackingAnswer, out: &mut [u64; 6])
-    ensures { λ _. ⌜ now (out .exit) ≡ packing-used a ⌝ }
+    ensures { λ _. ⌜ now (out .exit) ≡ packing-used a (now (out .entry)) ⌝ }
 {
     match a {
         PackingAnswer::Packed(c) => {
             write_counts(c, out);
         }
-        PackingAnswer::Refused(_) => {
-            *out = [0u64, 0, 0, 0, 0, 0];
-        }
+        PackingAnswer::Refused(_) => {}
     }
 }

@@ -3,7 +3,6 @@ use expression::refusal::Verdict;
 use lookup_buses::check_bus_widths::WidthsAnswer;
 use lookup_degree::constraint_degree::DegreeAnswer;
 ghost use mathlib.Core.Path.{_≡_};
-ghost use mathlib.Core.List.{[], _∷_};
 ghost use Rattle.expression.specs.Refusal.{refusal};
 ghost use Rattle.delmatik_answers.specs.Types.{degree-refused, degree-value, widths-refused, widest-value};
 
@@ -16,12 +15,15 @@ pub fn degree_verdict(a: DegreeAnswer) -> Verdict
     }
 }
 
-pub fn degree_value(a: DegreeAnswer) -> u64
-    ensures { λ r. ⌜ r ≡ degree-value a ⌝ }
+// The degree; a refusal writes nothing.
+pub fn write_degree(a: DegreeAnswer, out: &mut [u64; 1])
+    ensures { λ _. ⌜ now (out .exit) ≡ degree-value a (now (out .entry)) ⌝ }
 {
     match a {
-        DegreeAnswer::Degree(d) => d,
-        DegreeAnswer::Refused(_) => 0,
+        DegreeAnswer::Degree(d) => {
+            *out = [d];
+        }
+        DegreeAnswer::Refused(_) => {}
     }
 }
 
@@ -34,17 +36,14 @@ pub fn widths_verdict(a: WidthsAnswer) -> Verdict
     }
 }
 
-pub fn widest_value(a: WidthsAnswer) -> u64
-    ensures { λ r. ⌜ r ≡ widest-value a ⌝ }
+// The width of the widest tuple; a refusal writes nothing.
+pub fn write_widest(a: WidthsAnswer, out: &mut [u64; 1])
+    ensures { λ _. ⌜ now (out .exit) ≡ widest-value a (now (out .entry)) ⌝ }
 {
     match a {
-        WidthsAnswer::Widest(d) => d,
-        WidthsAnswer::Refused(_) => 0,
+        WidthsAnswer::Widest(d) => {
+            *out = [d];
+        }
+        WidthsAnswer::Refused(_) => {}
     }
-}
-
-pub fn write_value(n: u64, out: &mut [u64; 1])
-    ensures { λ _. ⌜ now (out .exit) ≡ n ∷ [] ⌝ }
-{
-    *out = [n];
 }

@@ -108,7 +108,8 @@ pub fn lengths_agree(lookups: &[u32], i: usize) -> bool
         & (flag_count(lookups, i) == flags_due(lookups, i))
 }
 
-fn all_agree(lookups: &[u32]) -> bool
+// The numbers of tuples, multiplicities and flags agree in each lookup.
+pub fn all_agree(lookups: &[u32]) -> bool
     ghost { List ℕ }
     requires { λ l. ⌜ now lookups ≡ l ⌝ }
     ensures { λ l r. ⌜ r ≡ every (lengths-agree l) (lookup-count l) ⌝ }

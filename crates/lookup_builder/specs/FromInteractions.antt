@@ -6,7 +6,7 @@ use Prim.Native.Nat.{ℕ, _+_, _*_}
 use lib.Dec.{eqb, leb}
 use lib.ListN.{length, drop}
 use Rattle.lists.specs.Count.{every, or-else}
-use Rattle.expression.specs.Refusal.{unless}
+use Rattle.expression.specs.Refusal.{Numbers, numbers, unless}
 use Rattle.expression.specs.declared.sizes.Limits.{Limits}
 use Rattle.expression.specs.declared.refusal.Refusal.{Refusal}
 use Rattle.expression.specs.declared.refusal.Refusal.the-variants.{SizeAtOdds}
@@ -68,3 +68,22 @@ outcome (some f) words lent = record { answer = Refused f; lookups = lent }
 -- the table's columns and nodes, the interactions, and the lent list
 unfoldable pub building : Limits → ℕ → Columns → List ℕ → Kinds → Interactions → List ℕ → Outcome
 building m p c nodes k g lent = outcome (building-refusal m p c nodes k g (length lent)) (built k (g .interactions) (g .weights)) lent
+
+-- SPECIFICATION, sections 1.4 and 14.1: "An answer is a number and three 64-bit details", how many words were written beside it, 0 where it is
+-- refused, and the lent list afterwards
+pub record BuildingNumbers : Type 0 where
+  pub answer : Numbers
+  pub used : ℕ
+  pub lookups : List ℕ
+
+-- for each case of the code's enum
+abbrev pub refusal-of : BuildingAnswer → Option Refusal
+refusal-of (Built n) = none
+refusal-of (Refused f) = some f
+
+abbrev pub used-of : BuildingAnswer → ℕ
+used-of (Built n) = n
+used-of (Refused f) = 0
+
+unfoldable pub in-numbers : Outcome → BuildingNumbers
+in-numbers o = record { answer = numbers (refusal-of (o .answer)); used = used-of (o .answer); lookups = o .lookups }

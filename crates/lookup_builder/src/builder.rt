@@ -20,7 +20,7 @@ ghost use Rattle.expression.specs.Limits as Sizes;
 ghost use Rattle.expression.specs.Limits.{Sane};
 ghost use Rattle.expression.specs.Refusal.{refusal};
 ghost use Rattle.lookup.specs.Lookups.{Lookups, lent-lookups, lookup-count};
-ghost use Rattle.lookup_builder.specs.FromInteractions.{Interactions, lent-interactions, lookups-built, built-refusal, building};
+ghost use Rattle.lookup_builder.specs.FromInteractions.{Interactions, lent-interactions, lookups-built, built-refusal, building, in-numbers};
 ghost use Rattle.lookup_builder.specs.inner.Requires.{BuildSource, build-source, InteractionsSized};
 
 // Refusals 1 to 6 of lookups of which the first are locals.
@@ -161,10 +161,10 @@ pub fn from_interactions(
     elements: &[u32],
     lookups: &mut [u32],
 ) -> BuildingAnswer
-    ensures { λ r. ⌜ record { answer = r; lookups = now (lookups .exit) }
-        ≡ building Sizes.cabinet babybear columns (now (nodes .entry)) kinds
+    ensures { λ r. ⌜ in-numbers (record { answer = r; lookups = now (lookups .exit) })
+        ≡ in-numbers (building Sizes.cabinet babybear columns (now (nodes .entry)) kinds
         (lent-interactions (now (interactions .entry)) (now (weights .entry)) (now (names .entry)) (now (tuples .entry)) (now (multiplicities .entry))
-        (now (flags .entry)) (now (elements .entry))) (now (lookups .entry)) ⌝ }
+        (now (flags .entry)) (now (elements .entry))) (now (lookups .entry))) ⌝ }
 {
     build_within(
         cabinet(),

@@ -14,12 +14,12 @@ use Rattle.expression.specs.Limits.{Sane}
 use Rattle.expression.specs.Refusal.{refusal, unless}
 use Rattle.expression.specs.declared.sizes.Limits.{Limits}
 use Rattle.expression.specs.declared.refusal.Refusal.{Refusal}
-use Rattle.expression.specs.declared.refusal.Refusal.the-variants.{SizeAtOdds}
+use Rattle.expression.specs.declared.refusal.Refusal.the-variants.{SizeAtOdds, LookupInvalid}
 use Rattle.expression.specs.declared.refusal.Verdict.{Verdict}
 use Rattle.expression.specs.declared.refusal.Verdict.the-variants as verdict
 use Rattle.lookup.specs.Lookups.{Lookups, bus-lookups, lookup-words, lookup-count, name-start, tuple-start}
 use Rattle.lookup.specs.Sizes.{table-count, size-start, covers}
-use Rattle.lookup.specs.Tests.{lookups-within}
+use Rattle.lookup.specs.Tests.{lookups-within, lengths-agree}
 use Rattle.lookup.specs.laws.Tested.{lookups-few}
 use Rattle.lookup_buses.specs.Widths.{widths-refusal, widest}
 use Rattle.lookup_buses.specs.CheckBusWidths.{BusTables, bus-sizes, lookup-count-size, name-bytes-size, tuple-count-size, table-at, tables-of, lists-fit, table-fits, all-fit, widths-answer}
@@ -110,11 +110,17 @@ module _ (m : Limits) (l : BusTables) where
   unfolding widths-answer
   answer-size {a} e z = rw (sym e ∙ not-true a z)
 
-  pub answer-widest : {a : Bool} {v : Verdict} {w w′ : ℕ} → a ≡ all-fit m l → not a ≡ false → refusal v ≡ widths-refusal (tables-of l) → v ≡ verdict.Accepted → w ≡ widest (tables-of l) → w′ ≡ w
-      → Widest w′ ≡ widths-answer m l
+  pub answer-lengths : {a b : Bool} → a ≡ all-fit m l → not a ≡ false → b ≡ every (lengths-agree (l .lookups)) (lookup-count (l .lookups)) → not b ≡ true
+      → Refused LookupInvalid ≡ widths-answer m l
   unfolding widths-answer
-  answer-widest {a} {v} {w} {w′} e z f k ew ek = rw (sym e ∙ not-false a z, sym f ∙ ap refusal k, ek ∙ ew)
+  answer-lengths {a} {b} e z eb zb = rw (sym e ∙ not-false a z, sym eb ∙ not-true b zb)
 
-  pub answer-refused : {a : Bool} {v : Verdict} {f : Refusal} → a ≡ all-fit m l → not a ≡ false → refusal v ≡ widths-refusal (tables-of l) → v ≡ verdict.Refused f → Refused f ≡ widths-answer m l
+  pub answer-widest : {a b : Bool} {v : Verdict} {w w′ : ℕ} → a ≡ all-fit m l → not a ≡ false → b ≡ every (lengths-agree (l .lookups)) (lookup-count (l .lookups)) → not b ≡ false
+      → refusal v ≡ widths-refusal (tables-of l) → v ≡ verdict.Accepted → w ≡ widest (tables-of l) → w′ ≡ w → Widest w′ ≡ widths-answer m l
   unfolding widths-answer
-  answer-refused {a} {v} {f} e z g k = rw (sym e ∙ not-false a z, sym g ∙ ap refusal k)
+  answer-widest {a} {b} {v} {w} {w′} e z eb zb f k ew ek = rw (sym e ∙ not-false a z, sym eb ∙ not-false b zb, sym f ∙ ap refusal k, ek ∙ ew)
+
+  pub answer-refused : {a b : Bool} {v : Verdict} {f : Refusal} → a ≡ all-fit m l → not a ≡ false → b ≡ every (lengths-agree (l .lookups)) (lookup-count (l .lookups)) → not b ≡ false
+      → refusal v ≡ widths-refusal (tables-of l) → v ≡ verdict.Refused f → Refused f ≡ widths-answer m l
+  unfolding widths-answer
+  answer-refused {a} {b} {v} {f} e z eb zb g k = rw (sym e ∙ not-false a z, sym eb ∙ not-false b zb, sym g ∙ ap refusal k)

@@ -9,10 +9,10 @@ use Rattle.lists.specs.Count.{every}
 use Rattle.expression.specs.Refusal.{unless}
 use Rattle.expression.specs.declared.sizes.Limits.{Limits}
 use Rattle.expression.specs.declared.refusal.Refusal.{Refusal}
-use Rattle.expression.specs.declared.refusal.Refusal.the-variants.{SizeAtOdds}
+use Rattle.expression.specs.declared.refusal.Refusal.the-variants.{SizeAtOdds, LookupInvalid}
 use Rattle.lookup.specs.Lookups.{Lookups, bus-lookups, lookup-words, lookup-count, name-start, tuple-start}
 use Rattle.lookup.specs.Sizes.{table-count, table-part, covers}
-use Rattle.lookup.specs.Tests.{lookups-within}
+use Rattle.lookup.specs.Tests.{lookups-within, lengths-agree}
 use Rattle.lookup_buses.specs.Widths.{Tables, widths-refusal, widest}
 use Rattle.lookup_buses.specs.declared.check_bus_widths.WidthsAnswer.{WidthsAnswer}
 use Rattle.lookup_buses.specs.declared.check_bus_widths.WidthsAnswer.the-variants.{Widest, Refused}
@@ -69,8 +69,13 @@ abbrev pub answered : Option Refusal → ℕ → WidthsAnswer
 answered none d = Widest d
 answered (some f) d = Refused f
 
+-- 1; then 5, as far as the lookups' words show it, in every lookup of every table; then 6
 unfoldable pub widths-answer : Limits → BusTables → WidthsAnswer
-widths-answer m l = answered (unless (all-fit m l) SizeAtOdds (widths-refusal (tables-of l))) (widest (tables-of l))
+widths-answer m l =
+    answered
+    (unless (all-fit m l) SizeAtOdds
+    (unless (every (lengths-agree (l .lookups)) (lookup-count (l .lookups))) LookupInvalid (widths-refusal (tables-of l))))
+    (widest (tables-of l))
 
 -- the tables from the lists that are lent
 abbrev pub lent-bus-tables : List ℕ → List ℕ → List ℕ → List ℕ → BusTables

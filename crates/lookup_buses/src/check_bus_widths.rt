@@ -14,6 +14,7 @@ use expression::words::to_u64;
 use lookup::sizes::part_start;
 use lookup::starts::name_start;
 use lookup::starts::tuple_start;
+use lookup::tests::all_agree;
 use lookup::tests::lookups_within;
 use lookup::types::LOOKUP_WORDS;
 ghost use mathlib.Core.Path.{_≡_};
@@ -112,6 +113,9 @@ pub fn widths_within(
 {
     if !all_fit(limits, lookups, names, tuples, sizes) {
         return WidthsAnswer::Refused(Refusal::SizeAtOdds);
+    }
+    if !all_agree(lookups) {
+        return WidthsAnswer::Refused(Refusal::LookupInvalid);
     }
     let verdict = bus_widths(lookups, names, tuples, sizes);
     match verdict {

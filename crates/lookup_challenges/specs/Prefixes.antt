@@ -8,7 +8,7 @@ use lib.ListN.{length, drop}
 use Rattle.lists.specs.Count.{joined}
 use Rattle.field.specs.Element.{add4, scale4, power4}
 use Rattle.expression.specs.Words.{all-below}
-use Rattle.expression.specs.Refusal.{unless}
+use Rattle.expression.specs.Refusal.{Numbers, numbers, unless}
 use Rattle.expression.specs.declared.sizes.Limits.{Limits}
 use Rattle.expression.specs.declared.refusal.Refusal.{Refusal}
 use Rattle.expression.specs.declared.refusal.Refusal.the-variants.{SizeAtOdds, WordTooLarge, WidthZero}
@@ -38,13 +38,13 @@ abbrev pub prefixes-after : Option Refusal → ℕ → ℕ → List ℕ → List
 prefixes-after (some f) p w alpha beta width n out = out
 prefixes-after none p w alpha beta width n out = joined (prefix p w alpha beta width) 0 n ++ drop (4 * n) out
 
--- the refusal, and the lent list afterwards
+-- the answer in numbers, and the lent list afterwards
 pub record Outcome : Type 0 where
-  pub refusal : Option Refusal
+  pub answer : Numbers
   pub out : List ℕ
 
 abbrev pub outcome : Option Refusal → ℕ → ℕ → List ℕ → List ℕ → ℕ → ℕ → List ℕ → Outcome
-outcome r p w alpha beta width n out = record { refusal = r; out = prefixes-after r p w alpha beta width n out }
+outcome r p w alpha beta width n out = record { answer = numbers r; out = prefixes-after r p w alpha beta width n out }
 
 -- n prefixes of alpha and beta into the front of `out`
 unfoldable pub prefixes : Limits → ℕ → ℕ → List ℕ → List ℕ → ℕ → ℕ → List ℕ → Outcome

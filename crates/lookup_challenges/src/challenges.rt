@@ -23,7 +23,7 @@ ghost use Rattle.field.specs.Modulus.{Modulus, babybear, babybear-w};
 ghost use Rattle.field.specs.Element.{Word4};
 ghost use Rattle.field.specs.Ext.{ext-words};
 ghost use Rattle.expression.specs.Limits as Sizes;
-ghost use Rattle.expression.specs.Refusal.{refusal};
+ghost use Rattle.expression.specs.Refusal.{refusal, numbers};
 ghost use Rattle.lookup_challenges.specs.Prefixes.{prefix-by, prefix, prefixes-fit, prefixes-refusal, prefixes-after, prefixes};
 ghost use Rattle.lookup_challenges.specs.inner.Requires.{ChallengeLists, challenge-lists, Writable};
 
@@ -108,7 +108,7 @@ pub fn prefixes(
 
 // `Challenges::new`, with the limits and the field of SPECIFICATION, sections 2.1 and 11.
 pub fn new(alpha: &[u32], beta: &[u32], width: usize, count: usize, out: &mut [u32]) -> Verdict
-    ensures { λ r. ⌜ record { refusal = refusal r; out = now (out .exit) }
+    ensures { λ r. ⌜ record { answer = numbers (refusal r); out = now (out .exit) }
         ≡ prefixes Sizes.cabinet babybear babybear-w (now (alpha .entry)) (now (beta .entry)) width count (now (out .entry)) ⌝ }
 {
     prefixes(

@@ -4,7 +4,7 @@ use mathlib.Core.Option.{Option, none, some}
 use mathlib.Core.List.{List}
 use Prim.Native.Nat.{ℕ}
 use lib.Dec.{leb, ltb}
-use Rattle.expression.specs.Refusal.{unless}
+use Rattle.expression.specs.Refusal.{Numbers, numbers, unless}
 use Rattle.expression.specs.declared.sizes.Limits.{Limits}
 use Rattle.expression.specs.declared.refusal.Refusal.{Refusal}
 use Rattle.expression.specs.declared.refusal.Refusal.the-variants.{SizeAtOdds}
@@ -26,3 +26,13 @@ answered (some f) d = Refused f
 -- of lookup i at a transition degree t
 unfoldable pub degree-answer : Limits → ℕ → Columns → List ℕ → Lookups → ℕ → ℕ → DegreeAnswer
 degree-answer m p c nodes l i t = answered (degree-refusal m p c nodes l i t) (lookup-degree (node-degrees t nodes) (lookup-at l i))
+
+-- SPECIFICATION, section 1.4: "An answer is a number and three 64-bit details", "a degree" beside it, 0 where it is refused
+pub record DegreeNumbers : Type 0 where
+  pub answer : Numbers
+  pub degree : ℕ
+
+-- for each case of the code's enum
+unfoldable pub in-numbers : DegreeAnswer → DegreeNumbers
+in-numbers (Degree d) = record { answer = numbers none; degree = d }
+in-numbers (Refused f) = record { answer = numbers (some f); degree = 0 }

@@ -1,3 +1,4 @@
 pub mod Degree
 pub mod Formed
+pub mod ConstraintDegree
 pub mod Rising

@@ -17,7 +17,7 @@ ghost use Prim.Native.Nat.{_<_, _≤_};
 ghost use Rattle.expression.specs.Limits.{Sane, cabinet};
 ghost use Rattle.lookup.specs.Lookups.{Lookups, lent-lookups, lookup-count, lookup-at};
 ghost use Rattle.lookup_degree.specs.Degree.{node-degrees, lookup-degree};
-ghost use Rattle.lookup_degree.specs.ConstraintDegree.{degree-answer};
+ghost use Rattle.lookup_degree.specs.ConstraintDegree.{degree-answer, in-numbers};
 ghost use Rattle.lookup_degree.specs.Formed.{Formed};
 
 pub enum DegreeAnswer {
@@ -118,7 +118,9 @@ pub fn constraint_degree(
     i: usize,
     t: u32,
 ) -> DegreeAnswer
-    ensures { λ r. ⌜ r ≡ degree-answer cabinet babybear columns (now (nodes .entry)) (lent-lookups (now (lookups .entry)) (now (names .entry)) (now (tuples .entry)) (now (multiplicities .entry)) (now (flags .entry)) (now (elements .entry))) i t ⌝ }
+    ensures { λ r. ⌜ in-numbers r ≡ in-numbers (degree-answer cabinet babybear columns (now (nodes .entry))
+        (lent-lookups (now (lookups .entry)) (now (names .entry)) (now (tuples .entry)) (now (multiplicities .entry)) (now (flags .entry))
+        (now (elements .entry))) i t) ⌝ }
 {
     degree_within(
         cabinet(),

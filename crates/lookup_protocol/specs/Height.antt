@@ -11,9 +11,10 @@ use Rattle.expression.specs.Words.{word, all-within}
 use Rattle.expression.specs.Refusal.{unless}
 use Rattle.expression.specs.declared.sizes.Limits.{Limits}
 use Rattle.expression.specs.declared.refusal.Refusal.{Refusal}
-use Rattle.expression.specs.declared.refusal.Refusal.the-variants.{SizeAtOdds, HeightSumTooLarge}
+use Rattle.expression.specs.declared.refusal.Refusal.the-variants.{SizeAtOdds, LookupInvalid, HeightSumTooLarge}
 use Rattle.lookup.specs.Lookups.{lookup-words, lookup-count, name-length, weight, tuple-start}
 use Rattle.lookup.specs.Sizes.{size-start, table-part}
+use Rattle.lookup.specs.Tests.{lengths-agree}
 
 -- a table has one size here, the number of its lookups
 abbrev pub count-sizes : ℕ
@@ -52,8 +53,9 @@ tables-fit m lookups counts heights =
     && eqb (length lookups) (lookup-words * size-start count-sizes counts lookup-count-size (length counts))
     && every (λ t. lookups-small m (table-lookups lookups counts t)) (length counts)
 
--- refusal 19: "the sum is not below p"; the sum
+-- 1; then 5, as far as the lookups' words show it, in every lookup of every table; then 19: "the sum is not below p"; the sum
 unfoldable pub height-refusal : Limits → ℕ → List ℕ → List ℕ → List ℕ → Option Refusal
 height-refusal m p lookups counts heights =
     unless (tables-fit m lookups counts heights) SizeAtOdds
-    (unless (ltb (height-sum lookups counts heights) p) (HeightSumTooLarge (height-sum lookups counts heights)) none)
+    (unless (every (lengths-agree lookups) (lookup-count lookups)) LookupInvalid
+    (unless (ltb (height-sum lookups counts heights) p) (HeightSumTooLarge (height-sum lookups counts heights)) none))

@@ -11,6 +11,7 @@ use field::extension::is_zero;
 use field::modulus::BABYBEAR;
 use lookup::sizes::part_start;
 use lookup::sizes::size;
+use lookup::tests::all_agree;
 use lookup::tests::lookup_total;
 use lookup::tests::names_within;
 use lookup::types::LOOKUP_WORDS;
@@ -247,6 +248,9 @@ pub fn height_refusal(
 {
     if !tables_fit(limits, lookups, counts, heights) {
         return Verdict::Refused(Refusal::SizeAtOdds);
+    }
+    if !all_agree(lookups) {
+        return Verdict::Refused(Refusal::LookupInvalid);
     }
     let sum = height_sum(lookups, counts, heights);
     if sum < to_u64(p) {

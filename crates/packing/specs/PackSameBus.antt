@@ -25,26 +25,26 @@ use Rattle.packing.specs.declared.answer.PackingAnswer.the-variants.{Pac
 abbrev pub single-table : Lookups → Tables
 single-table l = record { count = 1; table = λ t. l }
 
--- refusal 1: no lent list is too small for what is written into it
+-- refusal 1: a lent list is as long as the table's own at least. What is written then finds room: packing writes no more than it reads
+-- (`packed-no-longer`).
 unfoldable pub holds : Lookups → Lookups → Bool
-holds lent w =
-    leb (length (w .lookups)) (length (lent .lookups))
-    && leb (length (w .names)) (length (lent .names))
-    && leb (length (w .tuples)) (length (lent .tuples))
-    && leb (length (w .multiplicities)) (length (lent .multiplicities))
-    && leb (length (w .flags)) (length (lent .flags))
-    && leb (length (w .elements)) (length (lent .elements))
+holds lent l =
+    leb (length (l .lookups)) (length (lent .lookups))
+    && leb (length (l .names)) (length (lent .names))
+    && leb (length (l .tuples)) (length (lent .tuples))
+    && leb (length (l .multiplicities)) (length (lent .multiplicities))
+    && leb (length (l .flags)) (length (lent .flags))
+    && leb (length (l .elements)) (length (lent .elements))
 
 -- SPECIFICATION, section 6.2: degrees at t = 0
 unfoldable pub columns : ℕ → List ℕ → Lookups → List Lookup
 columns limit nodes l = packed (node-degrees 0 nodes) limit l
 
--- Refusals 1 to 5; then, since the words to write are known now, 1 where a lent list is too small for them; 6; and 7 (SPECIFICATION,
--- section 6.2).
+-- Refusals 1 to 7, "in the order of their numbers" (SPECIFICATION, section 10.2): 1 of the lent lists; 1 to 5 of the table; 6; and 7.
 unfoldable pub packing-refusal : Limits → ℕ → ℕ → Columns → List ℕ → Lookups → Lookups → Option Refusal
 packing-refusal m p limit c nodes l lent =
-    or-else (form-refusal m p c nodes l)
-    (unless (holds lent (words-of (columns limit nodes l))) SizeAtOdds
+    unless (holds lent l) SizeAtOdds
+    (or-else (form-refusal m p c nodes l)
     (or-else (widths-refusal (single-table l))
     (unless (not (overweight (columns limit nodes l))) WeightTooLarge none)))
 

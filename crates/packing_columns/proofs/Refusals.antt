@@ -1,17 +1,16 @@
 -- The refusals after 1 to 5.
 use mathlib.Core.Path.{_≡_, refl, sym, ap, _∙_}
-use mathlib.Core.Bool.{Bool, true, false, not}
+use mathlib.Core.Bool.{Bool, true, false}
 use mathlib.Core.Option.{none, some}
 use mathlib.Core.List.{List, [], _∷_}
 use Prim.Native.Nat.{ℕ, _*_}
 use native.Mathlib.Omega.{arith}
 use lib.ListN.{length, take}
 use lib.Seq.{take-all}
-use borrow.Author.Tests.{not-true, not-false}
 use Rattle.lists.specs.Count.{total, first}
 use Rattle.expression.specs.Refusal.{refusal}
 use Rattle.expression.specs.declared.refusal.Refusal.{Refusal}
-use Rattle.expression.specs.declared.refusal.Refusal.the-variants.{SizeAtOdds, WeightTooLarge}
+use Rattle.expression.specs.declared.refusal.Refusal.the-variants.{WeightTooLarge}
 use Rattle.expression.specs.declared.refusal.Verdict.{Verdict}
 use Rattle.expression.specs.declared.refusal.Verdict.the-variants as verdict
 use Rattle.lookup.specs.Lookups.{Lookups, bus-lookups, lookup-words, lookup-count}
@@ -20,9 +19,7 @@ use Rattle.lookup_buses.specs.Widths.{expected, lookup-refusal, table-refusal, 
 use Rattle.lookup_buses.specs.CheckBusWidths.{BusTables, table-at, tables-of, lent-bus-tables}
 use Rattle.lookup_buses.specs.inner.Requires.{BusTablesFit}
 use Rattle.packing.specs.PackSameBus.{single-table}
-use Rattle.packing_columns.specs.inner.Layout.{counts-hold, plan-refusal, ListsExact}
-use Rattle.packing.specs.declared.answer.Counts.{Counts}
-use Rattle.packing.specs.declared.answer.PackingAnswer.the-variants.{Refused}
+use Rattle.packing_columns.specs.inner.Layout.{plan-refusal, ListsExact}
 
 -- one table as a list of one
 module _ (lookups names tuples : List ℕ) (w : ListsExact lookups names tuples) where
@@ -53,19 +50,15 @@ module _ (lookups names tuples : List ℕ) (w : ListsExact lookups names tuples)
   one-refusal = by-table ∙ ap (λ (x : Lookups). widths-refusal (single-table x)) the-table
 
 -- the refusals after 1 to 5
-module _ (w lent : Counts) (over : Bool) (lookups names tuples : List ℕ) {h : Bool} (eh : h ≡ counts-hold w lent) where
-  pub refuse-room : not h ≡ true → some SizeAtOdds ≡ plan-refusal w lent over lookups names tuples
+module _ (over : Bool) (lookups names tuples : List ℕ) {v : Verdict} (g : refusal v ≡ widths-refusal (single-table (bus-lookups lookups names tuples))) where
+  pub refuse-widths : {f : Refusal} → v ≡ verdict.Refused f → some f ≡ plan-refusal over lookups names tuples
   unfolding plan-refusal
-  refuse-room e = rw (sym eh ∙ not-true h e)
+  refuse-widths q = rw (sym g ∙ ap refusal q)
 
-  pub refuse-widths : {v : Verdict} {f : Refusal} → not h ≡ false → refusal v ≡ widths-refusal (single-table (bus-lookups lookups names tuples)) → v ≡ verdict.Refused f → some f ≡ plan-refusal w lent over lookups names tuples
+  pub refuse-over : v ≡ verdict.Accepted → over ≡ true → some WeightTooLarge ≡ plan-refusal over lookups names tuples
   unfolding plan-refusal
-  refuse-widths e g q = rw (sym eh ∙ not-false h e, sym g ∙ ap refusal q)
+  refuse-over q o = rw (sym g ∙ ap refusal q, o)
 
-  pub refuse-over : {v : Verdict} → not h ≡ false → refusal v ≡ widths-refusal (single-table (bus-lookups lookups names tuples)) → v ≡ verdict.Accepted → over ≡ true → some WeightTooLarge ≡ plan-refusal w lent over lookups names tuples
+  pub refuse-none : v ≡ verdict.Accepted → over ≡ false → none ≡ plan-refusal over lookups names tuples
   unfolding plan-refusal
-  refuse-over e g q o = rw (sym eh ∙ not-false h e, sym g ∙ ap refusal q, o)
-
-  pub refuse-none : {v : Verdict} → not h ≡ false → refusal v ≡ widths-refusal (single-table (bus-lookups lookups names tuples)) → v ≡ verdict.Accepted → over ≡ false → none ≡ plan-refusal w lent over lookups names tuples
-  unfolding plan-refusal
-  refuse-none e g q o = rw (sym eh ∙ not-false h e, sym g ∙ ap refusal q, o)
+  refuse-none q o = rw (sym g ∙ ap refusal q, o)

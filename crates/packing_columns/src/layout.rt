@@ -76,16 +76,16 @@ pub fn counts_of(plan: Plan, lookups: &[u32], tuples: &[u32]) -> Counts
     }
 }
 
-// No lent list is too small.
-fn counts_hold(counts: Counts, room: Counts) -> bool
-    ensures { λ r. ⌜ r ≡ counts-hold counts room ⌝ }
+// No lent list is shorter than the table's own.
+pub fn counts_hold(own: Counts, lent: Counts) -> bool
+    ensures { λ r. ⌜ r ≡ counts-hold own lent ⌝ }
 {
-    (counts.lookups <= room.lookups)
-        & (counts.names <= room.names)
-        & (counts.tuples <= room.tuples)
-        & (counts.multiplicities <= room.multiplicities)
-        & (counts.flags <= room.flags)
-        & (counts.elements <= room.elements)
+    (own.lookups <= lent.lookups)
+        & (own.names <= lent.names)
+        & (own.tuples <= lent.tuples)
+        & (own.multiplicities <= lent.multiplicities)
+        & (own.flags <= lent.flags)
+        & (own.elements <= lent.elements)
 }
 
 // Refusal 6 of one table.
@@ -103,23 +103,13 @@ fn table_widths(lookups: &[u32], names: &[u8], tuples: &[u32]) -> Verdict
     bus_widths(lookups, names, tuples, &sizes)
 }
 
-// The refusals after 1 to 5: a lent list too small, 6, 7.
-pub fn plan_refusal(
-    counts: Counts,
-    room: Counts,
-    over: bool,
-    lookups: &[u32],
-    names: &[u8],
-    tuples: &[u32],
-) -> Verdict
+// The refusals after 1 to 5: 6 and 7.
+pub fn plan_refusal(over: bool, lookups: &[u32], names: &[u8], tuples: &[u32]) -> Verdict
     ghost { Lookups }
     requires { λ l. ⌜ bus-lookups (now lookups) (now names) (now tuples) ≡ l ⌝ }
     requires { λ l. ⌜ ListsExact (l .lookups) (l .names) (l .tuples) ⌝ }
-    ensures { λ l r. ⌜ refusal r ≡ plan-refusal counts room over (l .lookups) (l .names) (l .tuples) ⌝ }
+    ensures { λ l r. ⌜ refusal r ≡ plan-refusal over (l .lookups) (l .names) (l .tuples) ⌝ }
 {
-    if !counts_hold(counts, room) {
-        return Verdict::Refused(Refusal::SizeAtOdds);
-    }
     let verdict = table_widths(lookups, names, tuples);
     match verdict {
         Verdict::Refused(f) => Verdict::Refused(f),

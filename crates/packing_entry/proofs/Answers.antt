@@ -1,13 +1,13 @@
 -- The answers.
 use mathlib.Core.Path.{_≡_, refl, sym, ap, ap₂, _∙_}
-use mathlib.Core.Bool.{Bool, false, not}
+use mathlib.Core.Bool.{Bool, true, false, not}
 use mathlib.Core.Option.{Option, none}
 use mathlib.Core.List.{List, [], _∷_}
 use Prim.Native.Nat.{ℕ, zero, suc, _*_, _<_, _≤_, zero-le}
 use native.Mathlib.Omega.{arith}
 use lib.Dec.{leb}
 use lib.ListN.{length}
-use borrow.Author.Tests.{not-true, leb-true}
+use borrow.Author.Tests.{not-true, not-false, leb-true}
 use Rattle.lists.specs.Count.{total, first, or-else}
 use Rattle.lists.specs.laws.Count.{or-else-none}
 use Rattle.lists.specs.laws.Tests.{passed}
@@ -26,6 +26,7 @@ use Rattle.lookup.specs.Tests.{lookups-within, lookups-fit}
 use Rattle.lookup.specs.laws.Tested.{limited}
 use Rattle.lookup.specs.declared.refusals.Columns.{Columns}
 use Rattle.expression.specs.Tests.{nodes-within, nodes-fit}
+use Rattle.lookup_degree.specs.Degree.{node-degrees}
 use Rattle.lookup_degree.specs.Formed.{Formed}
 use Rattle.expression.specs.laws.Refusal.{unless-none}
 use Rattle.lookup_buses.specs.Widths.{width-in-lookup, width-in-table, expected, by-bus, lookup-refusal, table-refusal, widths-refusal}
@@ -33,6 +34,7 @@ use Rattle.packing_columns.specs.declared.columns.Plan.{Plan}
 use Rattle.packing.specs.Packing.{overweight}
 use Rattle.packing.specs.Written.{words-of}
 use Rattle.packing.specs.PackSameBus.{single-table, holds, columns, packing-refusal, counts, all-written, packing}
+use Rattle.packing.specs.laws.Lengths.{NoLonger, packed-no-longer}
 use Rattle.packing_columns.specs.inner.Layout.{plan-words, plan-counts, counts-hold, plan-refusal, formed-refusal, formed-outcome, Layout, ListsExact, OutputsHold}
 use Rattle.packing.specs.declared.answer.Counts.{Counts}
 use Rattle.packing.specs.declared.answer.PackingAnswer.{PackingAnswer}
@@ -43,72 +45,91 @@ same-widths : (l : Lookups) → widths-refusal (single-table (bus-lookups (l .lo
 unfolding widths-refusal table-refusal lookup-refusal expected width-in-table width-in-lookup by-bus first
 same-widths l = refl
 
+-- the lengths of the lists say whether the lent ones hold the table's own
+same-hold : (l lent : Lookups) → counts-hold (counts l) (counts lent) ≡ holds lent l
+unfolding counts-hold holds
+same-hold l lent = refl
+
+pub held : {b : Bool} (l lent : Lookups) → b ≡ counts-hold (counts l) (counts lent) → not b ≡ false → holds lent l ≡ true
+held {b} l lent e z = sym (same-hold l lent) ∙ sym e ∙ not-false b z
+
+-- the lent lists hold the packed table, since they hold the table itself
+module _ (lent l w : Lookups) (k : NoLonger w l) (h : holds lent l ≡ true) where
+  pub hold-lengths : (length (w .lookups) ≤ length (lent .lookups)) × (length (w .names) ≤ length (lent .names)) × (length (w .tuples) ≤ length (lent .tuples))
+      × (length (w .multiplicities) ≤ length (lent .multiplicities)) × (length (w .flags) ≤ length (lent .flags)) × (length (w .elements) ≤ length (lent .elements))
+  unfolding holds
+  hold-lengths =
+      let q = passed (leb (length (l .lookups)) (length (lent .lookups)))
+      (leb (length (l .names)) (length (lent .names)) ∷ leb (length (l .tuples)) (length (lent .tuples)) ∷ leb (length (l .multiplicities)) (length (lent .multiplicities))
+      ∷ leb (length (l .flags)) (length (lent .flags)) ∷ leb (length (l .elements)) (length (lent .elements)) ∷ []) h in (
+        omega (arith, leb-true (length (l .lookups)) (length (lent .lookups)) (q .0), k .lookups),
+        omega (arith, leb-true (length (l .names)) (length (lent .names)) (q .1 .0), k .names),
+        omega (arith, leb-true (length (l .tuples)) (length (lent .tuples)) (q .1 .1 .0), k .tuples),
+        omega (arith, leb-true (length (l .multiplicities)) (length (lent .multiplicities)) (q .1 .1 .1 .0), k .multiplicities),
+        omega (arith, leb-true (length (l .flags)) (length (lent .flags)) (q .1 .1 .1 .1 .0), k .flags),
+        omega (arith, leb-true (length (l .elements)) (length (lent .elements)) (q .1 .1 .1 .1 .1 .0), k .elements),
+      )
+
 module _ (limit : ℕ) (nodes : List ℕ) (l lent : Lookups) {r : Plan} (y : Layout limit nodes l r) where
-  same-hold : {c : Counts} → c ≡ plan-counts r (l .lookups) (l .tuples) → counts-hold c (counts lent) ≡ holds lent (words-of (columns limit nodes l))
-  unfolding counts-hold holds
-  same-hold e = ap (λ (x : Counts). counts-hold x (counts lent)) (e ∙ sym (y .counted))
-
-  pub same-refusal : {c : Counts} (v : Verdict) → c ≡ plan-counts r (l .lookups) (l .tuples) → refusal v ≡ plan-refusal c (counts lent) (r .over) (l .lookups) (l .names) (l .tuples) → refusal v ≡ formed-refusal limit nodes l lent
+  pub same-refusal : (v : Verdict) → refusal v ≡ plan-refusal (r .over) (l .lookups) (l .names) (l .tuples) → refusal v ≡ formed-refusal limit nodes l
   unfolding plan-refusal formed-refusal
-  same-refusal {c} v e g = g
-      ∙ ap₂ (λ (x : Bool) (z : Option Refusal). unless x SizeAtOdds (or-else z (unless (not (r .over)) WeightTooLarge none))) (same-hold e) (same-widths l)
-      ∙ ap (λ (x : Bool). unless (holds lent (words-of (columns limit nodes l))) SizeAtOdds (or-else (widths-refusal (single-table l)) (unless (not x) WeightTooLarge none))) (y .over)
+  same-refusal v g = g ∙ ap₂ (λ (z : Option Refusal) (x : Bool). or-else z (unless (not x) WeightTooLarge none)) (same-widths l) (y .over)
 
-  not-over : formed-refusal limit nodes l lent ≡ none → r .over ≡ false
+  not-over : formed-refusal limit nodes l ≡ none → r .over ≡ false
   unfolding formed-refusal
   not-over e =
-      let a = unless-none (holds lent (words-of (columns limit nodes l))) SizeAtOdds _ e in
-      let b = or-else-none {a = widths-refusal (single-table l)} {b = unless (not (overweight (columns limit nodes l))) WeightTooLarge none} (a .1) in
+      let b = or-else-none {a = widths-refusal (single-table l)} {b = unless (not (overweight (columns limit nodes l))) WeightTooLarge none} e in
       let c = unless-none (not (overweight (columns limit nodes l))) WeightTooLarge none (b .1) in
       y .over ∙ not-true (overweight (columns limit nodes l)) (c .0)
 
-  pub roomy : Fitting l → formed-refusal limit nodes l lent ≡ none → OutputsHold r l lent
-  unfolding formed-refusal holds
-  roomy fit e =
-      let a = unless-none (holds lent (words-of (columns limit nodes l))) SizeAtOdds _ e in
+  pub roomy : Fitting l → holds lent l ≡ true → formed-refusal limit nodes l ≡ none → OutputsHold r l lent
+  unfolding columns
+  roomy fit h e =
       let W : Lookups = words-of (columns limit nodes l) in
       let q : W ≡ plan-words r l = y .words (not-over e) in
-      let k = passed (leb (length (W .lookups)) (length (lent .lookups)))
-      (leb (length (W .names)) (length (lent .names)) ∷ leb (length (W .tuples)) (length (lent .tuples)) ∷ leb (length (W .multiplicities)) (length (lent .multiplicities))
-      ∷ leb (length (W .flags)) (length (lent .flags)) ∷ leb (length (W .elements)) (length (lent .elements)) ∷ []) (a .0) in
+      let k = hold-lengths lent l W (packed-no-longer (node-degrees 0 nodes) limit l fit) h in
       record {
         numbered = y .numbered;
         fitting = fit;
-        lookups = omega (arith, leb-true (length (W .lookups)) (length (lent .lookups)) (k .0), ap (λ (x : Counts). x .lookups) (y .counted));
-        names = omega (arith, leb-true (length (W .names)) (length (lent .names)) (k .1 .0), ap (λ (x : Lookups). length (x .names)) q);
-        tuples = omega (arith, leb-true (length (W .tuples)) (length (lent .tuples)) (k .1 .1 .0), ap (λ (x : Lookups). length (x .tuples)) q);
-        multiplicities = omega (arith, leb-true (length (W .multiplicities)) (length (lent .multiplicities)) (k .1 .1 .1 .0), ap (λ (x : Lookups). length (x .multiplicities)) q);
-        flags = omega (arith, leb-true (length (W .flags)) (length (lent .flags)) (k .1 .1 .1 .1 .0), ap (λ (x : Lookups). length (x .flags)) q);
-        elements = omega (arith, leb-true (length (W .elements)) (length (lent .elements)) (k .1 .1 .1 .1 .1 .0), ap (λ (x : Lookups). length (x .elements)) q);
+        lookups = omega (arith, k .0, ap (λ (x : Counts). x .lookups) (y .counted));
+        names = omega (arith, k .1, ap (λ (x : Lookups). length (x .names)) q);
+        tuples = omega (arith, k .2, ap (λ (x : Lookups). length (x .tuples)) q);
+        multiplicities = omega (arith, k .3, ap (λ (x : Lookups). length (x .multiplicities)) q);
+        flags = omega (arith, k .4, ap (λ (x : Lookups). length (x .flags)) q);
+        elements = omega (arith, k .5, ap (λ (x : Lookups). length (x .elements)) q);
       }
 
   -- the outcome: packed, or refused
-  pub packed-is : {c : Counts} {out : Lookups} → c ≡ plan-counts r (l .lookups) (l .tuples) → formed-refusal limit nodes l lent ≡ none → out ≡ all-written (plan-words r l) lent
+  pub packed-is : {c : Counts} {out : Lookups} → c ≡ plan-counts r (l .lookups) (l .tuples) → formed-refusal limit nodes l ≡ none → out ≡ all-written (plan-words r l) lent
       → (Packed c ≡ formed-outcome limit nodes l lent .answer) × (out ≡ formed-outcome limit nodes l lent .lists)
   unfolding formed-outcome
   packed-is {c} {out} e g o =
       rw g (ap Packed (e ∙ sym (y .counted)), o ∙ ap (λ (x : Lookups). all-written x lent) (sym (y .words (not-over g))))
 
-  pub refused-is : {f : Refusal} (v : Verdict) → refusal v ≡ formed-refusal limit nodes l lent → v ≡ verdict.Refused f
+  pub refused-is : {f : Refusal} (v : Verdict) → refusal v ≡ formed-refusal limit nodes l → v ≡ verdict.Refused f
       → (Refused f ≡ formed-outcome limit nodes l lent .answer) × (lent ≡ formed-outcome limit nodes l lent .lists)
   unfolding formed-outcome
   refused-is {f} v g q = rw (sym g ∙ ap refusal q) (refl, refl)
 
-  pub accepted-is : (v : Verdict) → refusal v ≡ formed-refusal limit nodes l lent → v ≡ verdict.Accepted → formed-refusal limit nodes l lent ≡ none
+  pub accepted-is : (v : Verdict) → refusal v ≡ formed-refusal limit nodes l → v ≡ verdict.Accepted → formed-refusal limit nodes l ≡ none
   accepted-is v g q = sym g ∙ ap refusal q
 
 -- the answer within limits
-module _ (m : Limits) (p limit : ℕ) (c : Columns) (nodes : List ℕ) (l lent : Lookups) where
-  pub answer-refused : {v : Verdict} {f : Refusal} → refusal v ≡ form-refusal m p c nodes l → v ≡ verdict.Refused f
+module _ (m : Limits) (p limit : ℕ) (c : Columns) (nodes : List ℕ) (l lent : Lookups) {b : Bool} (e : b ≡ counts-hold (counts l) (counts lent)) where
+  pub answer-small : not b ≡ true → (Refused SizeAtOdds ≡ packing m p limit c nodes l lent .answer) × (lent ≡ packing m p limit c nodes l lent .lists)
+  unfolding packing packing-refusal
+  answer-small z = rw (sym (same-hold l lent) ∙ sym e ∙ not-true b z) (refl, refl)
+
+  pub answer-refused : {v : Verdict} {f : Refusal} → not b ≡ false → refusal v ≡ form-refusal m p c nodes l → v ≡ verdict.Refused f
       → (Refused f ≡ packing m p limit c nodes l lent .answer) × (lent ≡ packing m p limit c nodes l lent .lists)
   unfolding packing packing-refusal
-  answer-refused {v} {f} g q = rw (sym g ∙ ap refusal q) (refl, refl)
+  answer-refused z g q = rw (held l lent e z, sym g ∙ ap refusal q) (refl, refl)
 
-  pub answer-formed : {v : Verdict} {a : PackingAnswer} {out : Lookups} → refusal v ≡ form-refusal m p c nodes l → v ≡ verdict.Accepted
+  pub answer-formed : {v : Verdict} {a : PackingAnswer} {out : Lookups} → not b ≡ false → refusal v ≡ form-refusal m p c nodes l → v ≡ verdict.Accepted
       → (a ≡ formed-outcome limit nodes l lent .answer) × (out ≡ formed-outcome limit nodes l lent .lists)
       → (a ≡ packing m p limit c nodes l lent .answer) × (out ≡ packing m p limit c nodes l lent .lists)
   unfolding packing packing-refusal formed-outcome formed-refusal
-  answer-formed {v} g q k = rw (sym g ∙ ap refusal q) k
+  answer-formed z g q k = rw (held l lent e z, sym g ∙ ap refusal q) k
 
 total-most : (f : ℕ → ℕ) (n : ℕ) → ((i : ℕ) → i < n → f i ≤ 65535) → total f n ≤ n * 65535
 unfolding total

@@ -1,4 +1,5 @@
 // Packing of a table: the entry point.
+use expression::refusal::Refusal;
 use expression::refusal::Verdict;
 use expression::sizes::Limits;
 use expression::sizes::cabinet;
@@ -7,21 +8,23 @@ use lookup::refusals::Columns;
 use lookup::refusals::form_refusal;
 use packing::answer::Counts;
 use packing::answer::PackingAnswer;
+use packing_columns::layout::counts_hold;
 use packing_columns::layout::counts_of;
 use packing_columns::layout::plan_of;
 use packing_columns::layout::plan_refusal;
 use packing_columns::layout::write_all;
 ghost use mathlib.Core.Path.{_≡_};
+ghost use mathlib.Core.Bool.{true};
 ghost use Prim.Native.Nat.{_≤_};
 ghost use Rattle.field.specs.Modulus.{babybear};
 ghost use Rattle.expression.specs.Limits as Sizes;
 ghost use Rattle.expression.specs.Limits.{Sane};
 ghost use Rattle.lookup.specs.Lookups.{lent-lookups};
 ghost use Rattle.lookup_degree.specs.Formed.{Formed};
-ghost use Rattle.packing.specs.PackSameBus.{packing};
+ghost use Rattle.packing.specs.PackSameBus.{holds, packing};
 ghost use Rattle.packing_columns.specs.inner.Layout.{formed-outcome, ListsExact, PackSource, pack-source};
 
-// Packing of a table that has none of refusals 1 to 5. Nothing is written before the last refusal is known.
+// Packing of a table that has none of refusals 1 to 5, into lists that hold it. Nothing is written before the last refusal is known.
 fn pack_formed(
     limits: Limits,
     limit: u64,
@@ -42,7 +45,7 @@ fn pack_formed(
     ghost { PackSource }
     requires { λ s. ⌜ pack-source (now nodes) (lent-lookups (now lookups) (now names) (now tuples) (now multiplicities) (now flags) (now elements))
         (lent-lookups (now «lookups_out») (now «names_out») (now «tuples_out») (now «multiplicities_out») (now «flags_out») (now «elements_out»)) ≡ s ⌝ }
-    requires { λ s. ⌜ Formed limits (s .nodes) (s .own) × ListsExact (s .own .lookups) (s .own .names) (s .own .tuples) ⌝ }
+    requires { λ s. ⌜ Formed limits (s .nodes) (s .own) × ListsExact (s .own .lookups) (s .own .names) (s .own .tuples) × (holds (s .lent) (s .own) ≡ true) ⌝ }
     ensures { λ s r. ⌜ (r ≡ formed-outcome limit (s .nodes) (s .own) (s .lent) .answer)
         × (lent-lookups (now («lookups_out» .exit)) (now («names_out» .exit)) (now («tuples_out» .exit)) (now («multiplicities_out» .exit)) (now («flags_out» .exit)) (now («elements_out» .exit))
         ≡ formed-outcome limit (s .nodes) (s .own) (s .lent) .lists) ⌝ }
@@ -59,15 +62,7 @@ fn pack_formed(
         elements,
     );
     let counts = counts_of(plan, lookups, tuples);
-    let room = Counts {
-        lookups: lookups_out.len(),
-        names: names_out.len(),
-        tuples: tuples_out.len(),
-        multiplicities: multiplicities_out.len(),
-        flags: flags_out.len(),
-        elements: elements_out.len(),
-    };
-    let verdict = plan_refusal(counts, room, plan.over, lookups, names, tuples);
+    let verdict = plan_refusal(plan.over, lookups, names, tuples);
     match verdict {
         Verdict::Refused(f) => PackingAnswer::Refused(f),
         Verdict::Accepted => {
@@ -119,6 +114,25 @@ pub fn pack_within(
         × (lent-lookups (now («lookups_out» .exit)) (now («names_out» .exit)) (now («tuples_out» .exit)) (now («multiplicities_out» .exit)) (now («flags_out» .exit)) (now («elements_out» .exit))
         ≡ packing limits p limit columns (s .nodes) (s .own) (s .lent) .lists) ⌝ }
 {
+    let own = Counts {
+        lookups: lookups.len(),
+        names: names.len(),
+        tuples: tuples.len(),
+        multiplicities: multiplicities.len(),
+        flags: flags.len(),
+        elements: elements.len(),
+    };
+    let lent = Counts {
+        lookups: lookups_out.len(),
+        names: names_out.len(),
+        tuples: tuples_out.len(),
+        multiplicities: multiplicities_out.len(),
+        flags: flags_out.len(),
+        elements: elements_out.len(),
+    };
+    if !counts_hold(own, lent) {
+        return PackingAnswer::Refused(Refusal::SizeAtOdds);
+    }
     let verdict = form_refusal(
         limits,
         p,

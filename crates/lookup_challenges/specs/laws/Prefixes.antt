@@ -14,6 +14,7 @@ use Rattle.field.specs.Element.{Word4, element}
 use Rattle.field.specs.laws.Slice.{word-element}
 use Rattle.expression.specs.Words.{all-below}
 use Rattle.expression.specs.Requires.{Below}
+use Rattle.expression.specs.Refusal.{numbers}
 use Rattle.expression.specs.declared.sizes.Limits.{Limits}
 use Rattle.expression.specs.declared.refusal.Refusal.{Refusal}
 use Rattle.expression.specs.laws.Below.{below-tested}
@@ -44,8 +45,8 @@ writable {p} {s} {a} {b} m alpha beta width n out pos hk hm es hs ea eb h =
 -- a refusal and the list that it leaves are the outcome
 pub outcome-is : {m k : Limits} {r : Option Refusal} {written : List ℕ} (p w : ℕ) (alpha beta : List ℕ) (width n : ℕ) (out : List ℕ) → m ≡ k
     → (r ≡ prefixes-refusal m p alpha beta width n out) × (written ≡ prefixes-after r p w alpha beta width n out)
-    → record { refusal = r; out = written } ≡ prefixes k p w alpha beta width n out
+    → record { answer = numbers r; out = written } ≡ prefixes k p w alpha beta width n out
 unfolding prefixes
 outcome-is {m} {k} {r} p w alpha beta width n out e (er, ew) =
-    (λ i. record { refusal = r; out = ew i })
+    (λ i. record { answer = numbers r; out = ew i })
     ∙ ap (λ (x : Option Refusal). outcome x p w alpha beta width n out) (er ∙ ap (λ (x : Limits). prefixes-refusal x p alpha beta width n out) e)

@@ -16,6 +16,7 @@ use Rattle.lists.specs.Cases.{Case, hold}
 use Rattle.expression.specs.declared.refusal.Refusal.{Refusal}
 use Rattle.lookup.specs.Lookups.{tuple-start}
 use Rattle.lookup.specs.Sizes.{size-start, table-part}
+use Rattle.lookup.specs.Tests.{lengths-agree}
 use Rattle.lookup_protocol.specs.Terminals.{present, terminal, terminal-below, with-terminal, terminal-sum, terminals-refusal}
 use Rattle.lookup_protocol.specs.Height.{table-lookups, weight-sum, table-weight, height-sum, lookups-small, tables-within, tables-fit, height-refusal}
 
@@ -32,6 +33,11 @@ terminals ts = answer (terminals-refusal cabinet babybear ts)
 abbrev pub weighing : ℕ → ℕ → List ℕ
 weighing w h = answer (height-refusal cabinet babybear (1 ∷ 0 ∷ w ∷ 0 ∷ 0 ∷ 0 ∷ 0 ∷ 0 ∷ []) (1 ∷ []) (h ∷ []))
 
+-- one lookup with this mark and these numbers of tuples, multiplicities and flags, of weight p in a table of height 1
+abbrev pub counting : ℕ → ℕ → ℕ → ℕ → List ℕ
+counting exclusive tuples multiplicities flags =
+    answer (height-refusal cabinet babybear (1 ∷ 0 ∷ 2013265921 ∷ 0 ∷ exclusive ∷ tuples ∷ multiplicities ∷ flags ∷ []) (1 ∷ []) (1 ∷ []))
+
 pub cases : List Case
 cases =
     -- 20: terminals 1 and 1; 1 and -1 cancel, an absent one is skipped, whatever its words
@@ -44,11 +50,16 @@ cases =
     -- 19: weight 2013265921, height 1
     ∷ record { computed = weighing 2013265921 1; expected = 19 ∷ 2013265921 ∷ 0 ∷ 0 ∷ [] }
     ∷ record { computed = weighing 0 1048577; expected = 1 ∷ 0 ∷ 0 ∷ 0 ∷ [] }
+    -- 5 before 19: a tuple without a multiplicity; an additive lookup with a flag; an exclusive one with none
+    ∷ record { computed = counting 0 1 0 0; expected = 5 ∷ 0 ∷ 0 ∷ 0 ∷ [] }
+    ∷ record { computed = counting 0 1 1 1; expected = 5 ∷ 0 ∷ 0 ∷ 0 ∷ [] }
+    ∷ record { computed = counting 1 1 1 0; expected = 5 ∷ 0 ∷ 0 ∷ 0 ∷ [] }
+    ∷ record { computed = counting 1 1 1 1; expected = 19 ∷ 2013265921 ∷ 0 ∷ 0 ∷ [] }
     ∷ record { computed = answer (height-refusal cabinet babybear [] [] []); expected = passes }
     ∷ record { computed = answer (height-refusal cabinet babybear [] [] (1 ∷ [])); expected = 1 ∷ 0 ∷ 0 ∷ 0 ∷ [] }
     ∷ []
 
 -- each case computes to what SPECIFICATION says
 pub cases-hold : T (hold cases)
-unfolding cases cabinet total every all-below all-within addM add4 is-zero present terminal terminal-below with-terminal terminal-sum terminals-refusal tuple-start size-start table-part table-lookups weight-sum table-weight height-sum lookups-small tables-within tables-fit height-refusal same-list
+unfolding cases cabinet total every all-below all-within addM add4 is-zero present terminal terminal-below with-terminal terminal-sum terminals-refusal tuple-start size-start table-part table-lookups weight-sum table-weight height-sum lookups-small tables-within tables-fit lengths-agree height-refusal same-list
 cases-hold = tt

@@ -11,7 +11,7 @@ use Rattle.expression.specs.Limits.{cabinet}
 use Rattle.expression.specs.Node.{decode, node}
 use Rattle.expression.specs.Degree.{node-degree, degrees}
 use Rattle.expression.specs.Tests.{nodes-within, nodes-fit, constants-below, nodes-known, degrees-low}
-use Rattle.expression.specs.declared.refusal.Refusal.the-variants.{SizeAtOdds, WidthsDiffer, WeightTooLarge}
+use Rattle.expression.specs.declared.refusal.Refusal.the-variants.{SizeAtOdds, NodeInvalid, LookupInvalid, WidthsDiffer, WeightTooLarge}
 use Rattle.lookup.specs.Lookups.{Lookups, name-start, tuple-start, multiplicity-start, flag-start, element-start, tuple-width, multiplicity-node, flag-node, tuple-nodes, lookup-at, lookups-of}
 use Rattle.lookup.specs.Refusals.{columns-within, form-sizes, nodes-refusal, lists-refusal, form-refusal, shape-of}
 use Rattle.lookup.specs.declared.refusals.Columns.{Columns}
@@ -108,11 +108,11 @@ mem =
       elements = replicate 5 0;
     }
 
--- the same two lookups in two tables
-abbrev mem-tables : List ℕ → BusTables
-mem-tables tuples =
+-- the same two lookups in two tables; how many multiplicities the second has, and the widths
+abbrev mem-tables : ℕ → List ℕ → BusTables
+mem-tables multiplicities tuples =
     record {
-      lookups = 1 ∷ 3 ∷ 1 ∷ 0 ∷ 0 ∷ 1 ∷ 1 ∷ 0 ∷ 1 ∷ 3 ∷ 1 ∷ 0 ∷ 0 ∷ 1 ∷ 1 ∷ 0 ∷ [];
+      lookups = 1 ∷ 3 ∷ 1 ∷ 0 ∷ 0 ∷ 1 ∷ 1 ∷ 0 ∷ 1 ∷ 3 ∷ 1 ∷ 0 ∷ 0 ∷ 1 ∷ multiplicities ∷ 0 ∷ [];
       names = 109 ∷ 101 ∷ 109 ∷ 109 ∷ 101 ∷ 109 ∷ [];
       tuples = tuples;
       sizes = 1 ∷ 3 ∷ 1 ∷ 1 ∷ 3 ∷ 1 ∷ [];
@@ -138,6 +138,11 @@ branches =
 abbrev room : Lookups
 room =
     record { lookups = replicate 40 9; names = replicate 5 9; tuples = replicate 5 9; multiplicities = replicate 5 9; flags = []; elements = replicate 5 9 }
+
+-- lent lists with room for its columns at limit 3, and no more
+abbrev snug : Lookups
+snug =
+    record { lookups = replicate 24 9; names = replicate 3 9; tuples = replicate 5 9; multiplicities = replicate 5 9; flags = []; elements = replicate 5 9 }
 
 pub cases :
     -- c8: two additive tuples, all of degree 1: degree 3
@@ -170,12 +175,16 @@ pub cases :
     })
     -- exclusives share no column, whatever the limit
     × (packed-with 9 branches branches .lists ≡ branches)
-    -- a lent list that is too small is 1; two lookups do not fit where five do not merge
-    × (packed-with 0 five two ≡ record { answer = Refused SizeAtOdds; lists = two })
+    -- a lent list that is shorter than the table's own is 1, also where the columns would fit, and before 3
+    × (packed-with 3 five snug ≡ record { answer = Refused SizeAtOdds; lists = snug })
+    × (packing cabinet p 3 one-column (99 ∷ 0 ∷ 0 ∷ []) five snug .answer ≡ Refused SizeAtOdds)
+    × (packing cabinet p 3 one-column (99 ∷ 0 ∷ 0 ∷ []) five room .answer ≡ Refused NodeInvalid)
     -- 6: bus "mem": 2 and 3
-    × (packed-with 3 mem room ≡ record { answer = Refused (WidthsDiffer 1 2 3); lists = room })
-    × (widths-answer cabinet (mem-tables (2 ∷ 3 ∷ [])) ≡ widths.Refused (WidthsDiffer 0 2 3))
-    × (widths-answer cabinet (mem-tables (2 ∷ 2 ∷ [])) ≡ widths.Widest 2)
+    × (packed-with 3 mem mem ≡ record { answer = Refused (WidthsDiffer 1 2 3); lists = mem })
+    × (widths-answer cabinet (mem-tables 1 (2 ∷ 3 ∷ [])) ≡ widths.Refused (WidthsDiffer 0 2 3))
+    × (widths-answer cabinet (mem-tables 1 (2 ∷ 2 ∷ [])) ≡ widths.Widest 2)
+    -- 5 before 6: a tuple without a multiplicity, in the second table
+    × (widths-answer cabinet (mem-tables 0 (2 ∷ 3 ∷ [])) ≡ widths.Refused LookupInvalid)
     -- 7: weights 4294967295 and 1; a merge that is not kept is none
     × (packed-with 3 heavy room ≡ record { answer = Refused WeightTooLarge; lists = room })
     × (packed-with 2 heavy room .answer
@@ -188,4 +197,4 @@ unfolding total every first tab flatMap zipWith all-below all-within cabinet dec
     expected by-bus lookup-refusal table-refusal widths-refusal widest-in-lookup widest-in-table widest size-start table-part table-at tables-of
     lists-fit table-fits all-fit widths-answer in-order fill filled renumbered packed overweight lookup-words words-of holds columns packing-refusal
     packing
-cases = (refl, refl, refl, refl, refl, refl, refl, refl, refl, refl, refl, refl, refl)
+cases = (refl, refl, refl, refl, refl, refl, refl, refl, refl, refl, refl, refl, refl, refl, refl, refl)

@@ -10,7 +10,7 @@ use Rattle.lists.specs.Count.{total, or-else}
 use Rattle.expression.specs.Words.{word}
 use Rattle.expression.specs.Refusal.{unless}
 use Rattle.expression.specs.declared.refusal.Refusal.{Refusal}
-use Rattle.expression.specs.declared.refusal.Refusal.the-variants.{SizeAtOdds, WeightTooLarge}
+use Rattle.expression.specs.declared.refusal.Refusal.the-variants.{WeightTooLarge}
 use Rattle.lookup.specs.Lookups.{Lookups, lookup-words, lookup-count, name-start, tuple-start, bus-lookups}
 use Rattle.lookup.specs.Requires.{Fitting}
 use Rattle.lookup_buses.specs.Widths.{widths-refusal}
@@ -21,7 +21,7 @@ use Rattle.packing_columns.specs.declared.lookup_lists.LookupList.the-va
 use Rattle.packing_columns.specs.declared.columns.Plan.{Plan}
 use Rattle.packing.specs.Packing.{overweight}
 use Rattle.packing.specs.Written.{words-of}
-use Rattle.packing.specs.PackSameBus.{Outcome, single-table, columns, counts, holds, outcome}
+use Rattle.packing.specs.PackSameBus.{Outcome, single-table, columns, counts, outcome}
 use Rattle.packing.specs.declared.answer.Counts.{Counts}
 
 -- the first n of an array, as they are lent
@@ -55,29 +55,28 @@ plan-counts r lookups tuples =
       elements = list-totals Elements lookups tuples (front (lookup-count lookups) (r .order));
     }
 
--- no list is too small
+-- `holds`, by the lengths of the lists: no lent list is shorter than the table's own
 unfoldable pub counts-hold : Counts → Counts → Bool
-counts-hold w lent =
-    leb (w .lookups) (lent .lookups)
-    && leb (w .names) (lent .names)
-    && leb (w .tuples) (lent .tuples)
-    && leb (w .multiplicities) (lent .multiplicities)
-    && leb (w .flags) (lent .flags)
-    && leb (w .elements) (lent .elements)
+counts-hold own lent =
+    leb (own .lookups) (lent .lookups)
+    && leb (own .names) (lent .names)
+    && leb (own .tuples) (lent .tuples)
+    && leb (own .multiplicities) (lent .multiplicities)
+    && leb (own .flags) (lent .flags)
+    && leb (own .elements) (lent .elements)
 
 -- the refusals after 1 to 5
-unfoldable pub plan-refusal : Counts → Counts → Bool → List ℕ → List ℕ → List ℕ → Option Refusal
-plan-refusal w lent over lookups names tuples =
-    unless (counts-hold w lent) SizeAtOdds (or-else (widths-refusal (single-table (bus-lookups lookups names tuples))) (unless (not over) WeightTooLarge none))
+unfoldable pub plan-refusal : Bool → List ℕ → List ℕ → List ℕ → Option Refusal
+plan-refusal over lookups names tuples =
+    or-else (widths-refusal (single-table (bus-lookups lookups names tuples))) (unless (not over) WeightTooLarge none)
 
 -- the same, and the outcome, of a table that has none of 1 to 5
-unfoldable pub formed-refusal : ℕ → List ℕ → Lookups → Lookups → Option Refusal
-formed-refusal limit nodes l lent =
-    unless (holds lent (words-of (columns limit nodes l))) SizeAtOdds
-    (or-else (widths-refusal (single-table l)) (unless (not (overweight (columns limit nodes l))) WeightTooLarge none))
+unfoldable pub formed-refusal : ℕ → List ℕ → Lookups → Option Refusal
+formed-refusal limit nodes l =
+    or-else (widths-refusal (single-table l)) (unless (not (overweight (columns limit nodes l))) WeightTooLarge none)
 
 unfoldable pub formed-outcome : ℕ → List ℕ → Lookups → Lookups → Outcome
-formed-outcome limit nodes l lent = outcome (formed-refusal limit nodes l lent) (words-of (columns limit nodes l)) lent
+formed-outcome limit nodes l lent = outcome (formed-refusal limit nodes l) (words-of (columns limit nodes l)) lent
 
 -- numbers of the plan's arrays are lookups
 pub record PlanNumbers (r : Plan) (lookups : List ℕ) : Type 0 where

@@ -1,7 +1,6 @@
-use mathlib.Core.Path.{ap}
+use mathlib.Core.Path.{ap, _∙_}
 use Rattle.lookup_challenges.specs.Prefixes.{Outcome}
-use Rattle.delmatik.specs.Exports.{exported-prefixes, exported-verdict}
-use Rattle.delmatik.proofs.Answered.{verdict-is}
+use Rattle.delmatik.specs.Exports.{exported-prefixes}
 use borrow.Author.Needs.{needs}
 use Rattle.delmatik.proofs.challenges.delmatik_prefixes.Statement.{statement}
 use Rattle.delmatik.proofs.challenges.delmatik_prefixes.Tie as tie
@@ -16,11 +15,12 @@ same-length : tie.Need-same-length
 same-length c = search needs
 
 returns : tie.Need-returns
-unfolding exported-prefixes exported-verdict
+unfolding exported-prefixes
 returns c =
     let o = c .before .before .before .before .new .ensures in
-    let v = verdict-is (c .write-answer .ensures) (ap (λ (x : Outcome). x .refusal) o) in
-    λ i. record { number = v i .number; details = v i .details; out = o i .out }
+    let n = c .write-answer .ensures .0 ∙ ap (λ (x : Outcome). x .answer .number) o in
+    let d = c .write-answer .ensures .1 ∙ ap (λ (x : Outcome). x .answer .details) o in
+    λ i. record { number = n i; details = d i; out = o i .out }
 
 pub delmatik-prefixes-spec : {M : Type 1} → statement M
 delmatik-prefixes-spec = tie.close (tie.spec new-requires write-answer-requires same-length returns)

@@ -1,6 +1,7 @@
 use mathlib.Core.Path.{ap, _∙_}
 use Rattle.logup.specs.Constraints.{verdict}
 use Rattle.expression.specs.Refusal.{numbers}
+use Rattle.delmatik.specs.Exports.{exported-verdict}
 use Rattle.delmatik.proofs.Answered.{numbers-are}
 use borrow.Author.Needs.{needs}
 use Rattle.delmatik.proofs.eval_all.delmatik_constraints.Statement.{statement}
@@ -16,6 +17,7 @@ write-answer-requires : tie.Need-write-answer-requires
 write-answer-requires c κs = search needs
 
 returns : tie.Need-returns
+unfolding exported-verdict
 returns c =
     numbers-are (c .write-answer .ensures) (c .before .before .eval-all .ensures ∙ ap numbers (ap (verdict _ _ _ _ _ _ _) (c .before .before .before .marked-terminal .ensures)))
 

@@ -28,10 +28,12 @@ returns : tie.Need-returns
 unfolding exported-generation
 returns c =
     let at-4 = c .before .before .before .before in
-    let o = at-4 .before .before .before .before .generate .ensures in
+    let at-8 = at-4 .before .before .before .before in
+    let o = at-8 .generate .ensures in
     let n = c .generation-number .ensures ∙ ap (λ (x : Outcome). generation-number (x .answer)) o in
     let d = c .before .write-details .ensures ∙ c .before .before .before .generation-details .ensures ∙ ap (λ (x : Outcome). generation-details (x .answer)) o in
-    let t = at-4 .write-terminal .ensures ∙ ap (λ (x : Outcome). generation-terminal (x .answer)) o in
+    let lent = at-8 .before .before .before .before .before .before .before .before .before .before .before .before .before .before .args .terminal .now in
+    let t = at-4 .write-terminal .ensures ∙ ap (λ (x : Outcome). generation-terminal (x .answer) lent) o in
     λ i. record { number = n i; details = d i; terminal = t i; trace = o i .buffer }
 
 pub delmatik-generate-spec : {M : Type 1} → statement M

@@ -44,7 +44,8 @@ returns c =
     .before in
     let o = at-17 .pack-same-bus .ensures in
     let v = verdict-is (c .write-answer .ensures) (c .before .before .packing-verdict .ensures ∙ ap (λ (x : Outcome). packing-refused (x .answer)) o) in
-    let used = c .before .before .before .write-used .ensures ∙ ap (λ (x : Outcome). packing-used (x .answer)) o in
+    let lent = at-17 .before .before .before .before .before .before .before .before .before .before .before .before .before .before .before .before .before .before .before .before .args .used .now in
+    let used = c .before .before .before .write-used .ensures ∙ ap (λ (x : Outcome). packing-used (x .answer) lent) o in
     λ i. record { number = v i .number; details = v i .details; used = used i; lists = o i .lists }
 
 pub delmatik-pack-spec : {M : Type 1} → statement M

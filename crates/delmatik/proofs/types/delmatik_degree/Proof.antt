@@ -1,5 +1,6 @@
-use mathlib.Core.List.{[], _∷_}
+use Rattle.lookup_degree.specs.declared.constraint_degree.DegreeAnswer.{DegreeAnswer}
 use mathlib.Core.Path.{ap, _∙_}
+use Rattle.lookup_degree.specs.laws.ConstraintDegree.{in-numbers-injective}
 use Rattle.delmatik_answers.specs.Types.{degree-refused, degree-value}
 use Rattle.delmatik.specs.Exports.{exported-degree, exported-verdict}
 use Rattle.delmatik.proofs.Answered.{verdict-is}
@@ -10,11 +11,8 @@ use Rattle.delmatik.proofs.types.delmatik_degree.Tie as tie
 constraint-degree-requires : tie.Need-constraint-degree-requires
 constraint-degree-requires c κs = search needs
 
-degree-value-requires : tie.Need-degree-value-requires
-degree-value-requires c κs = search needs
-
-write-value-requires : tie.Need-write-value-requires
-write-value-requires c κs = search needs
+write-degree-requires : tie.Need-write-degree-requires
+write-degree-requires c κs = search needs
 
 degree-verdict-requires : tie.Need-degree-verdict-requires
 degree-verdict-requires c κs = search needs
@@ -26,10 +24,10 @@ returns : tie.Need-returns
 unfolding exported-degree exported-verdict
 returns c =
     let at-5 = c .before .before .before .before .before in
-    let a = at-5 .before .constraint-degree .ensures in
+    let a = in-numbers-injective _ _ (at-5 .constraint-degree .ensures) in
     let v = verdict-is (c .write-answer .ensures) (c .before .before .degree-verdict .ensures ∙ ap degree-refused a) in
-    let n = at-5 .degree-value .ensures ∙ ap degree-value a in
-    let written = c .before .before .before .write-value .ensures ∙ (λ i. n i ∷ []) in
+    let lent = at-5 .before .before .before .before .before .before .before .before .args .degree .now in
+    let written = c .before .before .before .write-degree .ensures ∙ ap (λ (x : DegreeAnswer). degree-value x lent) a in
     λ i. record { number = v i .number; details = v i .details; value = written i }
 
 pub delmatik-degree-spec : {M : Type 1} → statement M
@@ -37,8 +35,7 @@ delmatik-degree-spec =
     tie.close
     (tie.spec
     constraint-degree-requires
-    degree-value-requires
-    write-value-requires
+    write-degree-requires
     degree-verdict-requires
     write-answer-requires
     returns)

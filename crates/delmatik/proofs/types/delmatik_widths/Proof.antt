@@ -1,4 +1,4 @@
-use mathlib.Core.List.{[], _∷_}
+use Rattle.lookup_buses.specs.declared.check_bus_widths.WidthsAnswer.{WidthsAnswer}
 use mathlib.Core.Path.{ap, _∙_}
 use Rattle.delmatik_answers.specs.Types.{widths-refused, widest-value}
 use Rattle.delmatik.specs.Exports.{exported-widest, exported-verdict}
@@ -10,11 +10,8 @@ use Rattle.delmatik.proofs.types.delmatik_widths.Tie as tie
 check-bus-widths-requires : tie.Need-check-bus-widths-requires
 check-bus-widths-requires c κs = search needs
 
-widest-value-requires : tie.Need-widest-value-requires
-widest-value-requires c κs = search needs
-
-write-value-requires : tie.Need-write-value-requires
-write-value-requires c κs = search needs
+write-widest-requires : tie.Need-write-widest-requires
+write-widest-requires c κs = search needs
 
 widths-verdict-requires : tie.Need-widths-verdict-requires
 widths-verdict-requires c κs = search needs
@@ -26,10 +23,10 @@ returns : tie.Need-returns
 unfolding exported-widest exported-verdict
 returns c =
     let at-5 = c .before .before .before .before .before in
-    let a = at-5 .before .check-bus-widths .ensures in
+    let a = at-5 .check-bus-widths .ensures in
     let v = verdict-is (c .write-answer .ensures) (c .before .before .widths-verdict .ensures ∙ ap widths-refused a) in
-    let n = at-5 .widest-value .ensures ∙ ap widest-value a in
-    let written = c .before .before .before .write-value .ensures ∙ (λ i. n i ∷ []) in
+    let lent = at-5 .before .before .before .before .before .args .widest .now in
+    let written = c .before .before .before .write-widest .ensures ∙ ap (λ (x : WidthsAnswer). widest-value x lent) a in
     λ i. record { number = v i .number; details = v i .details; value = written i }
 
 pub delmatik-widths-spec : {M : Type 1} → statement M
@@ -37,8 +34,7 @@ delmatik-widths-spec =
     tie.close
     (tie.spec
     check-bus-widths-requires
-    widest-value-requires
-    write-value-requires
+    write-widest-requires
     widths-verdict-requires
     write-answer-requires
     returns)

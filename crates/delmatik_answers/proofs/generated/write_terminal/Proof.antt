@@ -1,25 +1,26 @@
+use Rattle.logup.specs.Generation.{answer-of}
+use Rattle.delmatik_answers.proofs.Untouched.{untouched, told}
 use borrow.Author.Needs.{needs}
 use Rattle.delmatik_answers.proofs.generated.write_terminal.Statement.{statement}
 use Rattle.delmatik_answers.proofs.generated.write_terminal.Tie as tie
 
-enum-known-g : tie.Need-enum-known-g
-enum-known-g c = search needs
-
-enum-told : tie.Need-enum-told
-enum-told c = search needs
-
-enum-told-2 : tie.Need-enum-told-2
-enum-told-2 c = search needs
+generation-number-requires : tie.Need-generation-number-requires
+generation-number-requires c κs = search needs
 
 returns : tie.Need-returns
-returns c = rw (c .before .before .before .g .given .1)
+returns c =
+    let start = c .before .before in
+    untouched (answer-of (start .args .g)) (start .args .out .now) (c .before .generation-number .ensures) (c .if1 .taken)
+
+put-terminal-requires : tie.Need-put-terminal-requires
+put-terminal-requires c κs = search needs
 
 returns-2 : tie.Need-returns-2
-returns-2 c = search needs
-
-returns-3 : tie.Need-returns-3
-returns-3 c = search needs
+returns-2 c =
+    let start = c .before .before .before .before in
+    told (answer-of (start .args .g)) (start .args .out .now) (c .before .before .before .generation-number .ensures) (c .before .before .if1 .left) (c
+    .put-terminal .ensures)
 
 pub write-terminal-spec : {M : Type 1} → statement M
 write-terminal-spec =
-    tie.close (tie.spec enum-known-g enum-told enum-told-2 returns returns-2 returns-3)
+    tie.close (tie.spec generation-number-requires returns put-terminal-requires returns-2)

@@ -1,5 +1,5 @@
 use Rattle.field.specs.Modulus.{babybear}
-use Rattle.lookup_builder.specs.FromInteractions.{lent-interactions}
+use Rattle.lookup_builder.specs.FromInteractions.{lent-interactions, in-numbers}
 use Rattle.lookup_builder.proofs.Answers.{cabinet-asks, at-cabinet}
 use borrow.Author.Needs.{needs}
 use Rattle.lookup_builder.proofs.builder.from_interactions.Statement.{statement}
@@ -21,7 +21,7 @@ returns c =
     let k = at-cabinet babybear (at-14 .args .columns) (at-14 .args .nodes .now) (at-14 .args .kinds) (lent-interactions (at-14 .args .interactions .now) (at-14
     .args .weights .now) (at-14 .args .names .now) (at-14 .args .tuples .now) (at-14 .args .multiplicities .now) (at-14 .args .flags .now) (at-14
     .args .elements .now)) (at-14 .args .lookups .now) (at-4 .cabinet .ensures) (c .before .before .build-within .ensures) in
-    λ i. record { answer = k .0 i; lookups = k .1 i }
+    λ i. in-numbers (record { answer = k .0 i; lookups = k .1 i })
 
 pub from-interactions-spec : {M : Type 1} → statement M
 from-interactions-spec =

@@ -23,22 +23,20 @@ write-all-requires : tie.Need-write-all-requires
 write-all-requires c κs =
     let at-6 = c .before .before .before .before .before .before in
     let at-8 = at-6 .before .before in
-    let at-9 = at-8 .before in
-    let at-10 = at-9 .before in
+    let at-10 = at-8 .before .before in
     let at-24 = at-10 .before .before .before .before .before .before .before .before .before .before .before .before .before .before in
     let args = at-24 .args in
     let lent = lent-lookups (args .lookups-out .now) (args .names-out .now) (args .tuples-out .now) (args .multiplicities-out .now) (args .flags-out
     .now) (args .elements-out .now) in
     let own = lent-lookups (args .lookups .now) (args .names .now) (args .tuples .now) (args .multiplicities .now) (args .flags .now) (args .elements
     .now) in
-    roomy (args .limit) (args .nodes .now) own lent (at-10 .plan-of .ensures) (at-24 .pre .0 .fitting) (accepted-is (args .limit) (args .nodes .now)
-    own lent (at-10 .plan-of .ensures) (at-8 .plan-refusal .result) (same-refusal (args .limit) (args .nodes .now) own lent (at-10 .plan-of .ensures)
-    (at-8 .plan-refusal .result) (at-9 .counts-of .ensures) (at-8 .plan-refusal .ensures)) (at-6 .enum-told .given .1))
+    roomy (args .limit) (args .nodes .now) own lent (at-10 .plan-of .ensures) (at-24 .pre .0 .fitting) (at-24 .pre .2) (accepted-is (args .limit)
+    (args .nodes .now) own lent (at-10 .plan-of .ensures) (at-8 .plan-refusal .result) (same-refusal (args .limit) (args .nodes .now) own lent (at-10
+    .plan-of .ensures) (at-8 .plan-refusal .result) (at-8 .plan-refusal .ensures)) (at-6 .enum-told .given .1))
 
 returns : tie.Need-returns
 returns c =
-    let at-4 = c .before .before .before .before in
-    let at-5 = at-4 .before in
+    let at-5 = c .before .before .before .before .before in
     let at-19 = at-5 .before .before .before .before .before .before .before .before .before .before .before .before .before .before in
     let args = at-19 .args in
     let lent = lent-lookups (args .lookups-out .now) (args .names-out .now) (args .tuples-out .now) (args .multiplicities-out .now) (args .flags-out
@@ -46,8 +44,8 @@ returns c =
     let own = lent-lookups (args .lookups .now) (args .names .now) (args .tuples .now) (args .multiplicities .now) (args .flags .now) (args .elements
     .now) in
     refused-is (args .limit) (args .nodes .now) own lent (at-5 .plan-of .ensures) (c .before .before .before .plan-refusal .result) (same-refusal
-    (args .limit) (args .nodes .now) own lent (at-5 .plan-of .ensures) (c .before .before .before .plan-refusal .result) (at-4 .counts-of .ensures) (c
-    .before .before .before .plan-refusal .ensures)) (c .before .verdict .given .1)
+    (args .limit) (args .nodes .now) own lent (at-5 .plan-of .ensures) (c .before .before .before .plan-refusal .result) (c .before .before .before
+    .plan-refusal .ensures)) (c .before .verdict .given .1)
 
 same-length : tie.Need-same-length
 same-length c = search needs
@@ -82,7 +80,7 @@ returns-2 c =
     .now) in
     packed-is (args .limit) (args .nodes .now) own lent (at-23 .plan-of .ensures) (at-22 .counts-of .ensures) (accepted-is (args .limit) (args .nodes
     .now) own lent (at-23 .plan-of .ensures) (at-21 .plan-refusal .result) (same-refusal (args .limit) (args .nodes .now) own lent (at-23 .plan-of
-    .ensures) (at-21 .plan-refusal .result) (at-22 .counts-of .ensures) (at-21 .plan-refusal .ensures)) (at-19 .enum-told .given .1)) (at-12
+    .ensures) (at-21 .plan-refusal .result) (at-21 .plan-refusal .ensures)) (at-19 .enum-told .given .1)) (at-12
     .write-all .ensures)
 
 pub pack-formed-spec : {M : Type 1} → statement M

@@ -1,4 +1,5 @@
-use Rattle.packing_entry.proofs.Answers.{whole, answer-refused, answer-formed}
+use Rattle.packing_entry.proofs.Answers.{held, whole, answer-small, answer-refused, answer-formed}
+use Rattle.lookup_degree.specs.Formed.{Formed}
 use Rattle.lookup_degree.specs.laws.Formed.{formed}
 use Rattle.lookup.specs.Lookups.{lent-lookups}
 use Rattle.expression.specs.Refusal.{refusal}
@@ -6,6 +7,19 @@ use mathlib.Core.Path.{_∙_, sym, ap}
 use borrow.Author.Needs.{needs}
 use Rattle.packing_entry.proofs.pack_same_bus.pack_within.Statement.{statement}
 use Rattle.packing_entry.proofs.pack_same_bus.pack_within.Tie as tie
+
+counts-hold-requires : tie.Need-counts-hold-requires
+counts-hold-requires c κs = search needs
+
+returns : tie.Need-returns
+returns c =
+    let at-15 = c .before .before .before .before .before .before .before .before .before .before .before .before .before .before .before in
+    let args = at-15 .args in
+    let lent = lent-lookups (args .lookups-out .now) (args .names-out .now) (args .tuples-out .now) (args .multiplicities-out .now) (args .flags-out
+    .now) (args .elements-out .now) in
+    let own = lent-lookups (args .lookups .now) (args .names .now) (args .tuples .now) (args .multiplicities .now) (args .flags .now) (args .elements
+    .now) in
+    answer-small (args .limits) (args .p) (args .limit) (args .columns) (args .nodes .now) own lent (c .before .counts-hold .ensures) (c .if1 .taken)
 
 form-refusal-requires : tie.Need-form-refusal-requires
 form-refusal-requires c κs = search needs
@@ -20,28 +34,34 @@ pack-formed-requires : tie.Need-pack-formed-requires
 pack-formed-requires c κs =
     let at-6 = c .before .before .before .before .before .before in
     let at-8 = at-6 .before .before in
-    let at-22 = at-8 .before .before .before .before .before .before .before .before .before .before .before .before .before .before in
-    let args = at-22 .args in
-    let own = lent-lookups (args .lookups .now) (args .names .now) (args .tuples .now) (args .multiplicities .now) (args .flags .now) (args .elements
-    .now) in (
-      formed (args .limits) (args .p) (args .columns) (args .nodes .now) own (at-22 .pre .0) (sym (at-8 .form-refusal .ensures) ∙ ap refusal (at-6
-          .enum-told .given .1)),
-      whole (args .limits) (args .p) (args .columns) (args .nodes .now) own (at-22 .pre .0) (at-22 .pre .1) (formed (args
-          .limits) (args .p) (args .columns) (args .nodes .now) own (at-22 .pre .0) (sym (at-8 .form-refusal .ensures) ∙ ap refusal (at-6 .enum-told .given
-          .1))) (sym (at-8 .form-refusal .ensures) ∙ ap refusal (at-6 .enum-told .given .1)),
-    )
-
-returns : tie.Need-returns
-returns c =
-    let at-17 = c .before .before .before .before .before .before .before .before .before .before .before .before .before .before .before .before
-    .before in
-    let args = at-17 .args in
+    let at-9 = at-8 .before in
+    let at-10 = at-9 .before in
+    let at-24 = at-10 .before .before .before .before .before .before .before .before .before .before .before .before .before .before in
+    let args = at-24 .args in
     let lent = lent-lookups (args .lookups-out .now) (args .names-out .now) (args .tuples-out .now) (args .multiplicities-out .now) (args .flags-out
     .now) (args .elements-out .now) in
     let own = lent-lookups (args .lookups .now) (args .names .now) (args .tuples .now) (args .multiplicities .now) (args .flags .now) (args .elements
     .now) in
-    answer-refused (args .limits) (args .p) (args .limit) (args .columns) (args .nodes .now) own lent (c .before .before .before .form-refusal
-    .ensures) (c .before .verdict .given .1)
+    let none-refused = sym (at-8 .form-refusal .ensures) ∙ ap refusal (at-6 .enum-told .given .1) in
+    let f : Formed (args .limits) (args .nodes .now) own = formed (args .limits) (args .p) (args .columns) (args .nodes .now) own (at-24 .pre .0) none-refused in (
+      f,
+      whole (args .limits) (args .p) (args .columns) (args .nodes .now) own (at-24 .pre .0) (at-24 .pre .1) f none-refused,
+      held own lent (at-10
+          .counts-hold .ensures) (at-9 .if1 .left),
+    )
+
+returns-2 : tie.Need-returns-2
+returns-2 c =
+    let at-4 = c .before .before .before .before in
+    let at-5 = at-4 .before in
+    let at-19 = at-5 .before .before .before .before .before .before .before .before .before .before .before .before .before .before in
+    let args = at-19 .args in
+    let lent = lent-lookups (args .lookups-out .now) (args .names-out .now) (args .tuples-out .now) (args .multiplicities-out .now) (args .flags-out
+    .now) (args .elements-out .now) in
+    let own = lent-lookups (args .lookups .now) (args .names .now) (args .tuples .now) (args .multiplicities .now) (args .flags .now) (args .elements
+    .now) in
+    answer-refused (args .limits) (args .p) (args .limit) (args .columns) (args .nodes .now) own lent (at-5 .counts-hold .ensures) (at-4 .if1 .left) (c
+    .before .before .before .form-refusal .ensures) (c .before .verdict .given .1)
 
 same-length : tie.Need-same-length
 same-length c = search needs
@@ -61,33 +81,37 @@ same-length-5 c = search needs
 same-length-6 : tie.Need-same-length-6
 same-length-6 c = search needs
 
-returns-2 : tie.Need-returns-2
-returns-2 c =
+returns-3 : tie.Need-returns-3
+returns-3 c =
     let at-12 = c .before .before .before .before .before .before .before .before .before .before .before .before in
     let at-19 = at-12 .before .before .before .before .before .before .before in
     let at-21 = at-19 .before .before in
-    let at-35 = at-21 .before .before .before .before .before .before .before .before .before .before .before .before .before .before in
-    let args = at-35 .args in
+    let at-22 = at-21 .before in
+    let at-23 = at-22 .before in
+    let at-37 = at-23 .before .before .before .before .before .before .before .before .before .before .before .before .before .before in
+    let args = at-37 .args in
     let lent = lent-lookups (args .lookups-out .now) (args .names-out .now) (args .tuples-out .now) (args .multiplicities-out .now) (args .flags-out
     .now) (args .elements-out .now) in
     let own = lent-lookups (args .lookups .now) (args .names .now) (args .tuples .now) (args .multiplicities .now) (args .flags .now) (args .elements
     .now) in
-    answer-formed (args .limits) (args .p) (args .limit) (args .columns) (args .nodes .now) own lent (at-21 .form-refusal .ensures) (at-19 .enum-told
-    .given .1) (at-12 .pack-formed .ensures)
+    answer-formed (args .limits) (args .p) (args .limit) (args .columns) (args .nodes .now) own lent (at-23 .counts-hold .ensures) (at-22 .if1 .left)
+    (at-21 .form-refusal .ensures) (at-19 .enum-told .given .1) (at-12 .pack-formed .ensures)
 
 pub pack-within-spec : {M : Type 1} → statement M
 pack-within-spec =
     tie.close
     (tie.spec
+    counts-hold-requires
+    returns
     form-refusal-requires
     enum-known-verdict
     enum-told
     pack-formed-requires
-    returns
+    returns-2
     same-length
     same-length-2
     same-length-3
     same-length-4
     same-length-5
     same-length-6
-    returns-2)
+    returns-3)
