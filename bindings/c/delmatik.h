@@ -9,8 +9,9 @@
  * - A list is a pointer and a length; the pointer of an empty list may be any that is not NULL. A function takes any words and lengths: it
  *   tests them itself, and reads and writes the lent lists alone.
  * - It returns the number of the refusal, 0 where nothing is refused, and writes three details, zero unless the table of refusals in
- *   docs/SPECIFICATION.md names them. Lists are untouched by refusals 1 to 12; a terminal and the numbers that are written beside the details
- *   are zero then.
+ *   docs/SPECIFICATION.md names them. These are the answer, and are written in any case. All else that is lent for writing - lists, a
+ *   terminal, a degree, a width, how much is used, a count - is untouched by refusals 1 to 12, word for word; the rooms of the functions on
+ *   bytes are working memory. What becomes of it after another refusal is said at the function.
  * - Everything above is proved; docs/PROMISES.md says what, and by which definitions.
  */
 #ifndef DELMATIK_H
@@ -35,7 +36,8 @@ extern "C" {
  */
 
 /* generate_permutation: two challenges for each lookup, alpha then beta, four words each. The trace takes height * (lookups + 1) * 4 words,
- * row by row: the accumulator, then the fractions. terminal: 1 and four words, or five zeros where there is none. */
+ * row by row: the accumulator, then the fractions; words past them are untouched. terminal: 1 and four words, or five zeros where there is
+ * none. Refusals 1 to 12 leave trace and terminal as they were; after 13 to 15 these words of the trace and the terminal are zeros. */
 uint32_t delmatik_generate(size_t main_width, size_t height, size_t pre_width, size_t pre_height,
     const uint32_t *main, size_t main_len, const uint32_t *preprocessed, size_t preprocessed_len,
     const uint32_t *public_values, size_t public_values_len, const uint32_t *nodes, size_t nodes_len,
@@ -55,14 +57,20 @@ uint32_t delmatik_constraints(size_t main_width, size_t height, size_t pre_width
     const uint32_t *challenges, size_t challenges_len, size_t trace_width, const uint32_t *trace, size_t trace_len,
     uint32_t terminal_present, uint32_t t0, uint32_t t1, uint32_t t2, uint32_t t3, uint64_t details[3]);
 
-/* constraint_degree_with_transition of one lookup; transition is 0 or 1. */
+/* Row `row` of a trace of so many lookups and rows: part is where it begins in the trace and how many words it has; 0 and 0 where it is
+ * empty: past the last row or the words, and without lookups. Nothing is refused. */
+void delmatik_row(const uint32_t *trace, size_t trace_len, size_t lookups, size_t height, uint64_t row, uint64_t part[2]);
+
+/* constraint_degree_with_transition of one lookup; transition is 0 or 1. A refusal leaves degree as it was. */
 uint32_t delmatik_degree(size_t main_width, size_t pre_width, size_t public_values, const uint32_t *nodes, size_t nodes_len,
     const uint32_t *lookups, size_t lookups_len, const uint8_t *names, size_t names_len,
     const uint32_t *tuples, size_t tuples_len, const uint32_t *multiplicities, size_t multiplicities_len,
     const uint32_t *flags, size_t flags_len, const uint32_t *elements, size_t elements_len,
     size_t lookup, uint32_t transition, uint64_t degree[1], uint64_t details[3]);
 
-/* pack_same_bus: the packed lookups into the front of six lists; used says how much of each was written. No list is longer than its input. */
+/* pack_same_bus: the packed lookups into the front of six lists; used says how much of each is used, and what lies past that is untouched.
+ * Each list must be as long as the table's own at least (refusal 1), and what is written then finds room: packing writes no more than it
+ * reads. A refusal leaves the lists and used as they were. */
 uint32_t delmatik_pack(uint64_t limit, size_t main_width, size_t pre_width, size_t public_values, const uint32_t *nodes, size_t nodes_len,
     const uint32_t *lookups, size_t lookups_len, const uint8_t *names, size_t names_len,
     const uint32_t *tuples, size_t tuples_len, const uint32_t *multiplicities, size_t multiplicities_len,
@@ -72,7 +80,8 @@ uint32_t delmatik_pack(uint64_t limit, size_t main_width, size_t pre_width, size
     uint32_t *flags_out, size_t flags_out_len, uint32_t *elements_out, size_t elements_out_len,
     uint64_t used[6], uint64_t details[3]);
 
-/* from_interactions: the words of the lookups into the front of lookups_out, eight each, in column order; used says how many were written.
+/* from_interactions: the words of the lookups into the front of lookups_out, eight each, in column order; used says how many are used, and
+ * what lies past them is untouched. A refusal leaves lookups_out and used as they were.
  * interactions has two words for each, locals first, then globals, then exclusives: the length of its name and the number of its tuples, one
  * for a global. weights has one for each tuple. The other lists are those that the lookups will have. */
 uint32_t delmatik_build(size_t main_width, size_t pre_width, size_t public_values, const uint32_t *nodes, size_t nodes_len,
@@ -82,25 +91,38 @@ uint32_t delmatik_build(size_t main_width, size_t pre_width, size_t public_value
     const uint32_t *flags, size_t flags_len, const uint32_t *elements, size_t elements_len,
     uint32_t *lookups_out, size_t lookups_out_len, uint64_t used[1], uint64_t details[3]);
 
-/* check_bus_widths over several tables, their lists one after the other; sizes has three for each table: lookups, bytes of names, tuples. */
+/* Counts (Count of count.rs): a count is a node and its weight, a bound on its magnitude. The table is the first `used` nodes of the list, which
+ * must have room for one more; from_i32 adds a constant, negated a negation, as node `used`. A refusal leaves nodes and count as they were.
+ * bounded is a count that the table's constraints keep within a bound, provided one that the height bound leaves out; they refuse nothing. */
+uint32_t delmatik_count_from_i32(uint32_t *nodes, size_t nodes_len, size_t used, int32_t x, uint32_t count[2], uint64_t details[3]);
+uint32_t delmatik_count_negated(uint32_t *nodes, size_t nodes_len, size_t used, uint32_t node, uint32_t weight, uint32_t count[2],
+    uint64_t details[3]);
+void delmatik_count_bounded(uint32_t node, uint32_t weight, uint32_t count[2]);
+void delmatik_count_provided(uint32_t node, uint32_t count[2]);
+
+/* check_bus_widths over several tables, their lists one after the other; sizes has three for each table: lookups, bytes of names, tuples. Of
+ * refusal 5 it tests what the lookups' words show: how many tuples, multiplicities and flags each has. A refusal leaves widest as it was. */
 uint32_t delmatik_widths(const uint32_t *lookups, size_t lookups_len, const uint8_t *names, size_t names_len,
     const uint32_t *tuples, size_t tuples_len, const uint32_t *sizes, size_t sizes_len, uint64_t widest[1], uint64_t details[3]);
 
-/* The height bound: the lookups of all tables, and for each table how many it has, and its height. */
+/* The height bound: the lookups of all tables, and for each table how many it has, and its height. Of refusal 5 it tests what the lookups'
+ * words show. */
 uint32_t delmatik_height_bound(const uint32_t *lookups, size_t lookups_len, const uint32_t *counts, size_t counts_len,
     const uint32_t *heights, size_t heights_len, uint64_t details[3]);
 
 /* verify_terminal_sum: five words for each terminal, a mark (0 where it is absent) and four words. */
 uint32_t delmatik_terminals(const uint32_t *terminals, size_t terminals_len, uint64_t details[3]);
 
-/* Challenges::new: prefix i is alpha + (i + 1) * beta^width, four words each. */
+/* Challenges::new: prefix i is alpha + (i + 1) * beta^width, four words each; what lies past them is untouched. A refusal leaves out as it
+ * was. */
 uint32_t delmatik_prefixes(const uint32_t *alpha, size_t alpha_len, const uint32_t *beta, size_t beta_len, size_t width, size_t count,
     uint32_t *out, size_t out_len, uint64_t details[3]);
 
 /* check_lookups over several tables, their lists one after the other; sizes has fourteen for each table: main width, height, preprocessed
  * width, preprocessed height, then how many main words, preprocessed words, public values, nodes, lookups, bytes of names, tuples,
  * multiplicities, flags and elements it has. seed: any number; draw it where traces come from others; it changes the time and never the
- * answer. A slot of the workspace is ten words: tuple width, eight words, net. */
+ * answer. A slot of the workspace is ten words: tuple width, eight words, net. Refusals 1 to 12 leave the workspace as it was; after 16 it is
+ * zero, after 18 it holds the slots of the group that is refused, and else those of the last group. */
 uint32_t delmatik_balance(const uint32_t *main, size_t main_len, const uint32_t *preprocessed, size_t preprocessed_len,
     const uint32_t *public_values, size_t public_values_len, const uint32_t *nodes, size_t nodes_len,
     const uint32_t *lookups, size_t lookups_len, const uint8_t *names, size_t names_len,
@@ -109,12 +131,12 @@ uint32_t delmatik_balance(const uint32_t *main, size_t main_len, const uint32_t 
     const uint32_t *sizes, size_t sizes_len, uint64_t seed, uint32_t *workspace, size_t workspace_len, uint64_t details[3]);
 
 /*
- * The same functions for a caller that holds bytes. Each list of words is a byte slice, four bytes a word, the least byte first; names are bytes in
- * any case. A function decodes the lists into two rooms of words that the caller lends as working memory: one for the lists that are read, and one for
- * those that are written. A room has exactly one word for each four bytes of its lists. A list whose length is no multiple of four, or a room of
- * another length, is refusal 1, and the lists and rooms stay as they were then. Otherwise the rooms hold the words of their lists afterwards, one list after the
- * other. What a function writes is encoded into the byte slice again; bytes past it come back as they were. Lengths are in elements: bytes for lists,
- * words for rooms.
+ * The same functions for a caller that holds bytes. Each list of words is a byte slice, four bytes a word, the least byte first; names are
+ * bytes in any case. A function decodes the lists into two rooms of words: one for the lists that are read, and one for those that are
+ * written. A room has exactly one word for each four bytes of its lists. A list whose length is no multiple of four, or a room of another
+ * length, is refusal 1, and then nothing at all is written but the details. Otherwise the rooms, which are working memory, hold the words of
+ * their lists afterwards, one list after the other, also after a refusal. What a function writes is encoded into the byte slice again; bytes
+ * past it come back as they were, and so do all bytes after refusals 1 to 12. Lengths are in elements: bytes for lists, words for rooms.
  */
 
 /* room: main, preprocessed, public values, nodes, challenges, lookups, tuples, multiplicities, flags, elements. trace_room: the trace. */
@@ -155,7 +177,8 @@ uint32_t delmatik_balance_bytes(
     uint32_t *room, size_t room_len, uint32_t *workspace_room, size_t workspace_room_len,
     uint64_t details[3]);
 
-/* One element: its power, and its inverse, 0 where it is 0. */
+/* One element: its power, and its inverse, 0 where it is 0. Refusal 1 where a or out is not four words, 2 where a word of a is not below p;
+ * there are no details, and out is as it was then. */
 uint32_t delmatik_power(const uint32_t *a, size_t a_len, uint32_t n, uint32_t *out, size_t out_len);
 uint32_t delmatik_inverse(const uint32_t *a, size_t a_len, uint32_t *out, size_t out_len);
 

@@ -75,6 +75,14 @@ static words list(int output) {
     return (words){at, many};
 }
 
+/* Small outputs, which a refusal leaves as they were. */
+static void *small(size_t n) {
+    void *at = place(n, 1);
+    memset(at, 7, n);
+    lent(at);
+    return at;
+}
+
 typedef struct {
     uint8_t *at;
     size_t n;
@@ -109,9 +117,9 @@ int LLVMFuzzerTestOneInput(const uint8_t *data, size_t n) {
     input = data;
     left = n;
     taken = 0;
-    uint64_t details[3] = {7, 7, 7}, used[6];
-    uint32_t terminal[5], number = 0;
-    uint8_t function = byte() % 10;
+    uint64_t details[3] = {7, 7, 7}, *used = small(6 * sizeof(uint64_t)), *one = small(sizeof(uint64_t)), *part = small(2 * sizeof(uint64_t));
+    uint32_t *terminal = small(5 * sizeof(uint32_t)), *count = small(2 * sizeof(uint32_t)), number = 0;
+    uint8_t function = byte() % 17;
     size_t a = size(), b = size(), c = size(), d = size();
     words nodes = list(0), lookups = list(0), tuples = list(0), multiplicities = list(0), flags = list(0), elements = list(0);
     names name = name_list(0);
@@ -125,7 +133,7 @@ int LLVMFuzzerTestOneInput(const uint8_t *data, size_t n) {
             word(), word(), word(), word(), details);
         break;
     case 2:
-        number = delmatik_degree(a, b, c, L(nodes), LOOKUPS, d, byte(), used, details);
+        number = delmatik_degree(a, b, c, L(nodes), LOOKUPS, d, byte(), one, details);
         break;
     case 3: {
         names o1 = name_list(1);
@@ -134,7 +142,7 @@ int LLVMFuzzerTestOneInput(const uint8_t *data, size_t n) {
         break;
     }
     case 4:
-        number = delmatik_widths(L(lookups), L(name), L(tuples), L(more), used, details);
+        number = delmatik_widths(L(lookups), L(name), L(tuples), L(more), one, details);
         break;
     case 5:
         number = delmatik_height_bound(L(lookups), L(more), L(publics), details);
@@ -147,10 +155,37 @@ int LLVMFuzzerTestOneInput(const uint8_t *data, size_t n) {
         break;
     case 8:
         number = delmatik_build(a, b, c, L(nodes), d, byte(), byte(), L(lookups), L(publics), L(name), L(tuples), L(multiplicities), L(flags),
-            L(elements), L(out), used, details);
+            L(elements), L(out), one, details);
+        break;
+    case 9:
+        number = delmatik_balance(L(main), L(preprocessed), L(publics), L(nodes), LOOKUPS, L(more), d, L(out), details);
+        break;
+    case 10:
+        number = delmatik_count_from_i32(L(out), a, (int32_t)word(), count, details);
+        break;
+    case 11:
+        number = delmatik_count_negated(L(out), a, word(), word(), count, details);
+        break;
+    case 12:
+        delmatik_count_bounded(word(), word(), count);
+        memset(details, 0, sizeof details);
+        break;
+    case 13:
+        delmatik_count_provided(word(), count);
+        memset(details, 0, sizeof details);
+        break;
+    case 14:
+        delmatik_row(L(main), a, b, c, part);
+        if (main.n < part[1] || main.n - part[1] < part[0]) abort();
+        memset(details, 0, sizeof details);
+        break;
+    case 15:
+        number = delmatik_power(L(main), word() % 1024, L(out));
+        memset(details, 0, sizeof details);
         break;
     default:
-        number = delmatik_balance(L(main), L(preprocessed), L(publics), L(nodes), LOOKUPS, L(more), d, L(out), details);
+        number = delmatik_inverse(L(main), L(out));
+        memset(details, 0, sizeof details);
     }
     check(number, details);
     return 0;

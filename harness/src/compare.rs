@@ -1,10 +1,14 @@
 //! Each function on one case: the model beside the crate, and beside the port where it is linked.
 use std::collections::BTreeMap;
+use std::fmt::Debug;
 
-use crate::generator::Case;
+use crate::exports::{Exports, Model, Rooms, built_words, marked};
+use crate::generator::{Case, List};
 use crate::model::{self, Answer};
 use crate::plain::{self, Ext, P};
 use crate::port::Port;
+use crate::table::{Plan, Table, bytes_of, word};
+use crate::wrapper::Wrapper;
 
 /// How a function's answer was compared.
 #[derive(Clone, Copy, Debug, PartialEq, Eq, PartialOrd, Ord)]
@@ -34,7 +38,7 @@ pub struct Tally {
 
 type Checked = Result<Compared, String>;
 
-pub fn check(case: &Case, port: Option<&dyn Port>, tally: &mut Tally) -> Result<(), Disagreement> {
+pub fn check(case: &Case, port: Option<Port>, tally: &mut Tally) -> Result<(), Disagreement> {
     let mut run = |function: &'static str, (answer, compared): (Answer, Checked)| match compared {
         Ok(compared) => {
             *tally.counts.entry((function, answer.number, compared)).or_default() += 1;
@@ -60,10 +64,6 @@ pub fn check(case: &Case, port: Option<&dyn Port>, tally: &mut Tally) -> Result<
         Some(port) => check_port(case, port, tally),
         None => Ok(()),
     }
-}
-
-fn equal<T: PartialEq + std::fmt::Debug>(what: &str, model: &T, other: &T) -> Result<(), String> {
-    if model == other { Ok(()) } else { Err(format!("{what}: {model:?} and {other:?}")) }
 }
 
 /// The trace and terminal that the constraints are asked about: what passes, where that can be made, with the case's changes.
@@ -135,17 +135,16 @@ mod against_crate {
     //! The model beside the crate's own source.
     use super::*;
     use crate::oracle::{self, Run};
-    use crate::table::Table;
 
     /// The crate must panic, with a message that holds this text.
-    fn panics<T: std::fmt::Debug>(run: Run<T>, text: &str) -> Checked {
+    fn panics<T: Debug>(run: Run<T>, text: &str) -> Checked {
         match run {
             Err(message) if message.contains(text) => Ok(Compared::Same),
             other => Err(format!("the crate, which should panic with {text:?}, gives {other:?}")),
         }
     }
 
-    fn answers<T: PartialEq + std::fmt::Debug>(run: Run<T>, expected: T) -> Checked {
+    fn answers<T: PartialEq + Debug>(run: Run<T>, expected: T) -> Checked {
         match run {
             Ok(answer) if answer == expected => Ok(Compared::Same),
             other => Err(format!("the crate, which should answer {expected:?}, gives {other:?}")),
@@ -267,32 +266,34 @@ mod against_crate {
 
     pub fn building(case: &Case) -> (Answer, Checked) {
         let t = &case.tables[0];
-        let (answer, built) = model::build(t, &case.interactions);
-        if !oracle::takes(t) || case.interactions.iter().any(|i| !nodes_of(i).iter().all(|n| (*n as usize) < t.node_count())) {
+        let plan = Plan::of(&case.interactions);
+        let (answer, built) = model::build(t, &plan, built_words(&plan));
+        if !oracle::takes(t) || case.interactions.iter().any(|i| !i.nodes().iter().all(|n| (*n as usize) < t.node_count())) {
             return (answer, Ok(Compared::Untaken));
         }
         let [_, expected, actual] = answer.details;
         let run = || oracle::build(t, &case.interactions);
         let checked = match answer.number {
-            0 => answers(run(), built),
+            0 => answers(run(), built.records()),
             6 => panics(run(), &format!("local lookup: tuple widths {expected} and {actual} differ")),
             _ => Ok(Compared::Limit),
         };
         (answer, checked)
     }
 
-    fn nodes_of(interaction: &crate::table::Interaction) -> Vec<u32> {
-        use crate::table::{Interaction, Part};
-        let nodes = |part: &Part| [&part.elements[..], &[part.multiplicity]].concat();
-        match interaction {
-            Interaction::Local(parts) => parts.iter().flat_map(nodes).collect(),
-            Interaction::Global(_, part) => nodes(part),
-            Interaction::Exclusive(_, branches) => branches.iter().flat_map(|(f, part)| [nodes(part), vec![*f]].concat()).collect(),
-        }
-    }
-
+    /// `Count` from a number, its negation, a bounded and a provided one: the node that is added, or the node itself, and the weight.
     pub fn count(case: &Case) -> (Answer, Checked) {
-        (model::ACCEPTED, answers(oracle::count_of(case.count), model::count_of(case.count)))
+        let t = &case.tables[0];
+        let [node, weight] = case.negated;
+        let (word, magnitude) = model::count_of(case.count);
+        let mut checked = answers(oracle::count_from(case.count), ([0, word, 0], magnitude));
+        if oracle::takes(t) && (node as usize) < t.node_count() {
+            let negated = answers(oracle::count_negated(t, node, weight), ([12, node, 0], weight));
+            let bounded = answers(oracle::count_bounded(t, node, weight), (node, weight));
+            let provided = answers(oracle::count_provided(t, node), (node, 0));
+            checked = checked.and(negated).and(bounded).and(provided);
+        }
+        (model::ACCEPTED, checked)
     }
 
     pub fn widths(case: &Case) -> (Answer, Checked) {
@@ -374,59 +375,289 @@ pub use against_crate::{
     balance, building, constraints, count, degree, generation, height_bound, narrow_constraints, packing, prefixes, terminals, widths,
 };
 
-/// The model beside the port, on every input.
-fn check_port(case: &Case, port: &dyn Port, tally: &mut Tally) -> Result<(), Disagreement> {
-    let t = &case.tables[0];
-    let mut run = |function: &'static str, compared: Option<Result<(), String>>| {
-        let Some(compared) = compared else { return Ok(()) };
-        *tally.ported.entry(function).or_default() += 1;
-        compared.map_err(|text| Disagreement { function, text: format!("model and port differ; {text}") })
-    };
+/// Lent words hold something before the call, each something else.
+fn lent(n: usize) -> Vec<u32> {
+    (0..n as u32).map(|i| (i + 1).wrapping_mul(0x9E3779B1)).collect()
+}
 
-    let (mut expected, mut trace, mut words) = (vec![7; case.buffer], vec![7; case.buffer], [7; 5]);
-    let (answer, terminal) = model::generate(t, &case.challenges, &mut expected);
-    let ported = port.generate(t, &case.challenges, &mut trace, &mut words).map(|ported| {
-        equal("answer", &answer, &ported)?;
-        equal("trace", &expected, &trace)?;
-        let given = match words {
-            [1, e @ ..] => Some(e),
-            _ => None,
+fn lent_bytes(n: usize) -> Vec<u8> {
+    lent(n).into_iter().map(|w| (w >> 24) as u8).collect()
+}
+
+fn lent_words<const N: usize>() -> [u32; N] {
+    lent(N).try_into().unwrap()
+}
+
+fn lent_numbers<const N: usize>() -> [u64; N] {
+    std::array::from_fn(|i| 0xFEDCBA9876543210 + i as u64)
+}
+
+/// The model and the port, beside each other.
+struct Beside<'a> {
+    case: &'a Case,
+    port: Port<'a>,
+    tally: &'a mut Tally,
+}
+
+/// The model beside the port, on every input: the answer, and every word that was lent to be written.
+pub fn check_port(case: &Case, port: Port, tally: &mut Tally) -> Result<(), Disagreement> {
+    let mut beside = Beside { case, port, tally };
+    beside.of_one_table()?;
+    beside.of_several_tables()?;
+    beside.of_words()?;
+    beside.on_bytes()?;
+    beside.wrapper()
+}
+
+impl Beside<'_> {
+    /// What an exported function answers, and all that was lent to it to be written, as it is afterwards.
+    fn exported<T: PartialEq + Debug>(&mut self, function: &'static str, call: impl Fn(&dyn Exports) -> T) -> Result<(), Disagreement> {
+        self.same(function, call(&Model), call(self.port.exports))
+    }
+
+    fn wrapped<T: PartialEq + Debug>(&mut self, function: &'static str, call: impl Fn(&dyn Wrapper) -> T) -> Result<(), Disagreement> {
+        self.same(function, call(&Model), call(self.port.wrapper))
+    }
+
+    fn same<T: PartialEq + Debug>(&mut self, function: &'static str, model: T, port: T) -> Result<(), Disagreement> {
+        *self.tally.ported.entry(function).or_default() += 1;
+        let text = || format!("model and port differ:\n{model:?}\n{port:?}");
+        if model == port { Ok(()) } else { Err(Disagreement { function, text: text() }) }
+    }
+
+    fn of_one_table(&mut self) -> Result<(), Disagreement> {
+        let (case, t) = (self.case, &self.case.tables[0]);
+        self.exported("generation", |port| {
+            let (mut trace, mut terminal) = (lent(case.buffer), lent_words());
+            let answer = port.generate(t, &case.challenges, &mut trace, &mut terminal);
+            (answer, terminal, trace)
+        })?;
+        for (width, trace, terminal) in [asked(case), asked_narrow(case)] {
+            // An absent terminal's words are not read; any mark but 0 says that it is there.
+            let mut terminal = terminal.map_or([0, P, 1, 2, 3], |t| marked(Some(t)));
+            terminal[0] *= case.seed as u32 | 1;
+            self.exported("constraints", |port| port.constraints(t, &case.challenges, width, &trace, terminal))?;
+        }
+        for lookup in 0..t.lookup_count() as u64 + 1 {
+            self.exported("degree", |port| {
+                let [mut degree] = lent_numbers();
+                (port.degree(t, lookup, word(case.transition), &mut degree), degree)
+            })?;
+        }
+        let [lookups, names, tuples, multiplicities, flags, elements] = t.lengths();
+        let packed = |i: usize, n: usize| case.edited(List::Packed(i), lent(n));
+        self.exported("packing", |port| {
+            let mut used = lent_numbers();
+            let mut out = Table {
+                lookups: packed(0, lookups),
+                names: case.edited(List::Packed(1), lent_bytes(names)),
+                tuples: packed(2, tuples),
+                multiplicities: packed(3, multiplicities),
+                flags: packed(4, flags),
+                elements: packed(5, elements),
+                ..Table::default()
+            };
+            (port.pack(t, case.limit, &mut out, &mut used), used, out)
+        })?;
+        let mut plan = Plan::of(&case.interactions);
+        let room = built_words(&plan);
+        plan.interactions = case.edited(List::Interactions, plan.interactions);
+        plan.weights = case.edited(List::Weights, plan.weights);
+        self.exported("building", |port| {
+            let (mut lookups, [mut used]) = (case.edited(List::Built, lent(room)), lent_numbers());
+            (port.build(t, &plan, &mut lookups, &mut used), used, lookups)
+        })
+    }
+
+    fn of_several_tables(&mut self) -> Result<(), Disagreement> {
+        let (case, tables) = (self.case, &self.case.tables);
+        let all = Table::joined(tables);
+        let three = |t: &Table| [t.lookup_count(), t.names.len(), t.tuples.len()].map(|n| n as u32);
+        let sizes = case.edited(List::BusSizes, tables.iter().flat_map(three).collect());
+        self.exported("widths", |port| {
+            let [mut widest] = lent_numbers();
+            (port.widths(&all, &sizes, &mut widest), widest)
+        })?;
+        let counts = case.edited(List::Counts, tables.iter().map(|t| t.lookup_count() as u32).collect());
+        let heights = case.edited(List::Heights, case.heights.iter().map(|h| word(*h)).collect());
+        self.exported("height bound", |port| port.height_bound(&all.lookups, &counts, &heights))?;
+        let sizes = case.edited(List::Sizes, tables.iter().flat_map(Table::sizes).collect());
+        self.exported("balance", |port| {
+            let mut workspace = lent(case.workspace);
+            (port.balance(&all, &sizes, case.seed, &mut workspace), workspace)
+        })
+    }
+
+    fn of_words(&mut self) -> Result<(), Disagreement> {
+        let case = self.case;
+        let mut given = case.edited(List::Terminals, case.terminals.iter().flat_map(|t| marked(*t)).collect());
+        // Any mark but 0 says that a terminal is there.
+        given.iter_mut().step_by(5).for_each(|mark| *mark = mark.wrapping_mul(case.seed as u32 | 1));
+        self.exported("terminals", |port| port.terminals(&given))?;
+
+        let (alpha, beta) = (case.edited(List::Alpha, case.challenge(0).into()), case.edited(List::Beta, case.challenge(1).into()));
+        let room = 4 * case.prefixes.min(model::PREFIXES + 1) as usize;
+        self.exported("prefixes", |port| {
+            let mut out = case.edited(List::Prefixes, lent(room));
+            (port.prefixes(&alpha, &beta, case.prefix_width, case.prefixes, &mut out), out)
+        })?;
+        let element = case.edited(List::Element, case.challenge(0).into());
+        self.exported("power", |port| {
+            let mut out = case.edited(List::ElementOut, lent(4));
+            (port.power(&element, case.exponent, &mut out), out)
+        })?;
+        self.exported("inverse", |port| {
+            let mut out = case.edited(List::ElementOut, lent(4));
+            (port.inverse(&element, &mut out), out)
+        })?;
+
+        let nodes = case.edited(List::Nodes, [&case.tables[0].nodes[..], &lent(3)].concat());
+        self.exported("count from a number", |port| {
+            let (mut nodes, mut count) = (nodes.clone(), lent_words());
+            (port.count_from_i32(&mut nodes, case.counted, case.count, &mut count), count, nodes)
+        })?;
+        self.exported("negated count", |port| {
+            let (mut nodes, mut count) = (nodes.clone(), lent_words());
+            (port.count_negated(&mut nodes, case.counted, case.negated, &mut count), count, nodes)
+        })?;
+        let [node, weight] = case.negated;
+        self.exported("bounded and provided counts", |port| {
+            let (mut bounded, mut provided) = (lent_words(), lent_words());
+            port.count_bounded(node, weight, &mut bounded);
+            port.count_provided(node, &mut provided);
+            (bounded, provided)
+        })?;
+        let (trace, [lookups, height, row]) = (lent(case.buffer), case.reader);
+        self.exported("row", |port| {
+            let mut part = lent_numbers();
+            port.row(&trace, lookups, height, row, &mut part);
+            part
+        })
+    }
+
+    fn on_bytes(&mut self) -> Result<(), Disagreement> {
+        let case = self.case;
+        let edited = |i: usize, words: &[u32]| case.edited(List::Bytes(i), bytes_of(words));
+        let rooms = |read: usize, written: usize| Rooms {
+            read: case.edited(List::Read, lent(read)),
+            written: case.edited(List::Written, lent(written)),
         };
-        if answer.number == 0 { equal("terminal", &terminal, &given) } else { Ok(()) }
-    });
-    run("generation", ported)?;
-
-    for (width, trace, terminal) in [asked(case), asked_narrow(case)] {
-        let answer = model::constraints(t, &case.challenges, width, &trace, terminal);
-        let ported = port.constraints(t, &case.challenges, width, &trace, terminal);
-        run("constraints", ported.map(|ported| equal("answer", &answer, &ported)))?;
+        let (t, challenges) = (table_bytes(case, &case.tables[0]), edited(9, &case.challenges));
+        self.exported("generation on bytes", |port| {
+            let (mut trace, mut terminal) = (edited(10, &lent(case.buffer)), lent_words());
+            let mut rooms = rooms(trace_words(&t) + t.nodes.len() / 4 + challenges.len() / 4 + lookup_words(&t), trace.len() / 4);
+            (port.generate_bytes(&t, &challenges, &mut trace, &mut rooms, &mut terminal), terminal, trace, rooms)
+        })?;
+        let lengths = case.tables[0].lengths();
+        self.exported("packing on bytes", |port| {
+            let mut used = lent_numbers();
+            let mut out = Table {
+                lookups: edited(11, &lent(lengths[0])),
+                names: case.edited(List::Packed(1), lent_bytes(lengths[1])),
+                tuples: bytes_of(&lent(lengths[2])),
+                multiplicities: bytes_of(&lent(lengths[3])),
+                flags: bytes_of(&lent(lengths[4])),
+                elements: bytes_of(&lent(lengths[5])),
+                ..Table::default()
+            };
+            let mut rooms = rooms(t.nodes.len() / 4 + lookup_words(&t), lookup_words(&out));
+            (port.pack_bytes(&t, case.limit, &mut out, &mut rooms, &mut used), used, out, rooms)
+        })?;
+        let all = table_bytes(case, &Table::joined(&case.tables));
+        let sizes = edited(9, case.tables.iter().map(Table::sizes).collect::<Vec<_>>().as_flattened());
+        self.exported("balance on bytes", |port| {
+            let mut workspace = edited(10, &lent(case.workspace));
+            let read = trace_words(&all) + all.nodes.len() / 4 + sizes.len() / 4 + lookup_words(&all);
+            let mut rooms = rooms(read, workspace.len() / 4);
+            (port.balance_bytes(&all, &sizes, case.seed, &mut workspace, &mut rooms), workspace, rooms)
+        })
     }
 
-    for lookup in 0..t.lookup_count() as u64 + 1 {
-        let answer = model::degree(t, lookup, case.transition);
-        run("degree", port.degree(t, lookup, case.transition).map(|ported| equal("answer", &answer, &ported)))?;
+    /// Every function of the safe wrapper: the value or the refusal, and what is lent to be written.
+    fn wrapper(&mut self) -> Result<(), Disagreement> {
+        let (case, t) = (self.case, &self.case.tables[0]);
+        let plan = Plan::of(&case.interactions);
+        let built = model::build(t, &plan, built_words(&plan)).1.records();
+        let records = if t.fits() { t.records() } else { built.clone() };
+        self.wrapped("wrapper: with", |w| (w.with(t, &records), w.with(t, &built)))?;
+        self.wrapped("wrapper: lookup_count", |w| w.lookup_count(t))?;
+        self.wrapped("wrapper: sizes", |w| w.sizes(t))?;
+        let (width, trace, terminal) = asked(case);
+        if let (challenges, []) = case.challenges.as_chunks() {
+            self.wrapped("wrapper: generate", |w| w.generate(t, challenges))?;
+            self.wrapped("wrapper: constraints", |w| w.constraints(t, challenges, width, &trace, terminal))?;
+        }
+        self.wrapped("wrapper: generate_into", |w| {
+            let mut trace = lent(case.buffer);
+            (w.generate_into(t, &case.challenges, &mut trace), trace)
+        })?;
+        self.wrapped("wrapper: constraints_on", |w| w.constraints_on(t, &case.challenges, width, &trace, terminal))?;
+        self.wrapped("wrapper: degree", |w| w.degree(t, case.seed % 3, word(case.transition)))?;
+        self.wrapped("wrapper: pack", |w| w.pack(t, case.limit))?;
+        self.wrapped("wrapper: build", |w| w.build(t, &case.interactions))?;
+        self.wrapped("wrapper: widths", |w| w.widths(&case.tables))?;
+        self.wrapped("wrapper: height_bound", |w| w.height_bound(&case.tables, &case.heights))?;
+        self.wrapped("wrapper: terminals", |w| w.terminals(&case.terminals))?;
+        let (alpha, beta) = (case.challenge(0), case.challenge(1));
+        self.wrapped("wrapper: prefixes", |w| w.prefixes(alpha, beta, case.prefix_width, case.prefixes))?;
+        self.wrapped("wrapper: power", |w| w.power(alpha, case.exponent))?;
+        self.wrapped("wrapper: inverse", |w| (w.inverse(alpha), w.inverse([0; 4])))?;
+        self.wrapped("wrapper: balance", |w| {
+            let mut workspace = lent(case.workspace);
+            (w.balance(&case.tables, &mut workspace), workspace)
+        })?;
+        self.wrapped("wrapper: balance_with_seed", |w| {
+            let mut workspace = lent(case.workspace);
+            (w.balance_with_seed(&case.tables, case.seed, &mut workspace), workspace)
+        })?;
+
+        let [node, weight] = case.negated;
+        self.wrapped("wrapper: Count::bounded", |w| w.count_bounded(node, weight))?;
+        self.wrapped("wrapper: Count::provided", |w| w.count_provided(node))?;
+        self.wrapped("wrapper: Count::from_i32", |w| {
+            let mut nodes = t.nodes.clone();
+            (w.count_from_i32(&mut nodes, case.count), nodes)
+        })?;
+        self.wrapped("wrapper: Count::negated", |w| {
+            let mut nodes = t.nodes.clone();
+            (w.count_negated(&mut nodes, case.negated), nodes)
+        })?;
+        let (trace, [lookups, height, row]) = (lent(case.buffer), case.reader);
+        self.wrapped("wrapper: row", |w| w.row(&trace, lookups, height, row))?;
+
+        let b = table_bytes(case, t);
+        self.wrapped("wrapper: bytes::of", |w| w.bytes_of(&case.challenges))?;
+        self.wrapped("wrapper: bytes::generate_into", |w| {
+            let mut trace = case.edited(List::Bytes(10), lent_bytes(4 * case.buffer));
+            (w.generate_bytes(&b, &bytes_of(&case.challenges), &mut trace), trace)
+        })?;
+        self.wrapped("wrapper: bytes::pack", |w| w.pack_bytes(&b, case.limit))?;
+        self.wrapped("wrapper: bytes::balance", |w| {
+            let mut workspace = case.edited(List::Bytes(10), lent_bytes(4 * case.workspace));
+            (w.balance_bytes(&case.tables, &mut workspace), workspace)
+        })?;
+        self.wrapped("wrapper: bytes::balance_with_seed", |w| {
+            let mut workspace = case.edited(List::Bytes(10), lent_bytes(4 * case.workspace));
+            (w.balance_bytes_with_seed(&case.tables, case.seed, &mut workspace), workspace)
+        })
     }
-    let answer = model::pack(t, case.limit);
-    run("packing", port.pack(t, case.limit).map(|ported| equal("answer", &answer, &ported)))?;
-    let answer = model::build(t, &case.interactions);
-    run("building", port.build(t, &case.interactions).map(|ported| equal("answer", &answer, &ported)))?;
-    let answer = model::widths(&case.tables);
-    run("widths", port.widths(&case.tables).map(|ported| equal("answer", &answer, &ported)))?;
-    let answer = model::height_bound(&case.tables, &case.heights);
-    run("height bound", port.height_bound(&case.tables, &case.heights).map(|ported| equal("answer", &answer, &ported)))?;
-    let answer = model::terminals(&case.terminals);
-    run("terminals", port.terminals(&case.terminals).map(|ported| equal("answer", &answer, &ported)))?;
+}
 
-    let (alpha, beta) = (case.challenge(0), case.challenge(1));
-    let answer = model::prefixes(alpha, beta, case.prefix_width, case.prefixes);
-    let ported = port.prefixes(alpha, beta, case.prefix_width, case.prefixes);
-    run("prefixes", ported.map(|ported| equal("answer", &answer, &ported)))?;
+/// The lists of a table as bytes, with the case's edits.
+fn table_bytes(case: &Case, t: &Table) -> Table<u8> {
+    let mut b = t.bytes();
+    let Table { main, preprocessed, public_values, nodes, lookups, tuples, multiplicities, flags, elements, .. } = &mut b;
+    for (i, list) in [main, preprocessed, public_values, nodes, lookups, tuples, multiplicities, flags, elements].into_iter().enumerate() {
+        *list = case.edited(List::Bytes(i), std::mem::take(list));
+    }
+    b
+}
 
-    let (mut expected, mut workspace) = (vec![7; case.workspace], vec![7; case.workspace]);
-    let answer = model::balance(&case.tables, &mut expected);
-    let ported = port.balance(&case.tables, &mut workspace).map(|ported| {
-        equal("answer", &answer, &ported)?;
-        equal("workspace", &expected, &workspace)
-    });
-    run("balance", ported)
+/// How many words the lists of bytes hold: those of the traces with the public values, and those of the lookups.
+fn trace_words(t: &Table<u8>) -> usize {
+    [&t.main, &t.preprocessed, &t.public_values].iter().map(|list| list.len() / 4).sum()
+}
+
+fn lookup_words(t: &Table<u8>) -> usize {
+    [&t.lookups, &t.tuples, &t.multiplicities, &t.flags, &t.elements].iter().map(|list| list.len() / 4).sum()
 }

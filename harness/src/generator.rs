@@ -30,10 +30,116 @@ pub struct Case {
     pub prefix_width: u64,
     pub prefixes: u64,
     pub interactions: Vec<Interaction>,
+    /// A count's number, and the count (node and weight) that is negated.
     pub count: i32,
+    pub negated: [u32; 2],
+    /// How many nodes the table of a count has.
+    pub counted: u64,
+    /// Lookups, height and row for the row reader.
+    pub reader: [u64; 3],
+    pub exponent: u32,
+    /// Balance's.
+    pub seed: u64,
+    /// What is at odds in the lists that a function is lent beside the tables' own.
+    pub edits: Vec<(List, Edit)>,
+}
+
+/// A list that a function is lent: one that is made of several tables, of words that stand for something else, or to be written to.
+#[derive(Clone, Copy, Debug, PartialEq, Eq)]
+pub enum List {
+    /// The 14 sizes of each table, the 3 of bus widths, and the height bound's lookup counts and heights.
+    Sizes,
+    BusSizes,
+    Counts,
+    Heights,
+    Terminals,
+    Alpha,
+    Beta,
+    Prefixes,
+    /// The operand and the output of powers and inverses.
+    Element,
+    ElementOut,
+    /// The six outputs of packing.
+    Packed(usize),
+    Interactions,
+    Weights,
+    Built,
+    /// The nodes that a count is added to.
+    Nodes,
+    /// A list of bytes, by its place among those of a function, and the two rooms.
+    Bytes(usize),
+    Read,
+    Written,
+}
+
+#[derive(Clone, Copy, Debug, PartialEq, Eq)]
+pub enum Edit {
+    Push(u32),
+    Pop,
+    Set(usize, u32),
+}
+
+/// How many lists of bytes a function has at most.
+pub const BYTE_LISTS: usize = 12;
+
+impl List {
+    fn any(random: &mut Random) -> List {
+        use List::*;
+        let single = [Sizes, Sizes, BusSizes, Counts, Heights, Terminals, Alpha, Beta, Prefixes, Element, ElementOut];
+        let more = [Interactions, Weights, Built, Nodes, Read, Written];
+        match random.below(4) {
+            0 => Packed(random.below(6) as usize),
+            1 => Bytes(random.below(BYTE_LISTS as u64) as usize),
+            _ => random.pick(&[&single[..], &more].concat()),
+        }
+    }
+}
+
+impl Edit {
+    fn any(random: &mut Random) -> Edit {
+        let word = random.pick(&[0, 1, 2, 3, 5, 16, 64, 65, P - 1, P, u32::MAX]);
+        match random.below(4) {
+            0 => Edit::Push(word),
+            1 => Edit::Pop,
+            _ => Edit::Set(random.draw() as usize, word),
+        }
+    }
+}
+
+/// Words, and bytes as the least of a word's.
+pub trait OfWord {
+    fn of_word(word: u32) -> Self;
+}
+
+impl OfWord for u32 {
+    fn of_word(word: u32) -> u32 {
+        word
+    }
+}
+
+impl OfWord for u8 {
+    fn of_word(word: u32) -> u8 {
+        word as u8
+    }
 }
 
 impl Case {
+    /// A list with this case's edits of it.
+    pub fn edited<W: OfWord>(&self, list: List, mut words: Vec<W>) -> Vec<W> {
+        for (_, edit) in self.edits.iter().filter(|(edited, _)| *edited == list) {
+            match edit {
+                Edit::Push(word) => words.push(W::of_word(*word)),
+                Edit::Pop => shorten(&mut words),
+                Edit::Set(..) if words.is_empty() => (),
+                Edit::Set(place, word) => {
+                    let place = place % words.len();
+                    words[place] = W::of_word(*word);
+                }
+            }
+        }
+        words
+    }
+
     /// Challenge i, or some element where there is none.
     pub fn challenge(&self, i: usize) -> Ext {
         self.challenges.get(4 * i..4 * i + 4).map_or([1, 2, 3, 4], |words| words.try_into().unwrap())
@@ -53,7 +159,9 @@ impl fmt::Display for Case {
             "constraints: {extra_columns} more columns, {missing_words} words less, changes {changes:?}, misplaced {terminal_misplaced}"
         )?;
         writeln!(f, "terminals {:?}", self.terminals)?;
-        writeln!(f, "prefixes {} of width {}, count {}", self.prefixes, self.prefix_width, self.count)?;
+        writeln!(f, "prefixes {} of width {}, exponent {}, seed {}", self.prefixes, self.prefix_width, self.exponent, self.seed)?;
+        let Case { count, negated, counted, reader, .. } = self;
+        writeln!(f, "count {count} or the negation of {negated:?} after {counted} nodes; reader {reader:?}; edits {:?}", self.edits)?;
         writeln!(f, "interactions {:?}", self.interactions)
     }
 }
@@ -391,6 +499,22 @@ fn meet_tuple(random: &mut Random, t: &Table, challenges: &mut [u32]) {
     }
 }
 
+/// Mostly a row of the table's trace; now and then past its end, or of another width.
+fn reader(random: &mut Random, t: &Table) -> [u64; 3] {
+    let extremes = [0, 1, t.height, t.height.wrapping_sub(1), 1 << 32, 1 << 61, 1 << 62, 1 << 63, u64::MAX - 1, u64::MAX];
+    let mut reader = [t.lookup_count() as u64, t.height, random.below(t.height + 2)];
+    if random.one_in(4) {
+        reader[random.below(3) as usize] = random.pick(&extremes);
+    }
+    reader
+}
+
+/// An output that is longer than what is written to it.
+fn longer(random: &mut Random) -> (List, Edit) {
+    let packed = List::Packed(random.below(6) as usize);
+    (random.pick(&[packed, packed, List::Built, List::Prefixes, List::Nodes]), Edit::Push(random.draw() as u32))
+}
+
 /// The tables with inputs for each function that none of refusals 1 to 12 meets.
 fn case_of(random: &mut Random, tables: Vec<Table>) -> Case {
     let n = tables[0].lookup_count();
@@ -401,6 +525,8 @@ fn case_of(random: &mut Random, tables: Vec<Table>) -> Case {
         meet_tuple(random, &tables[0], &mut challenges);
     }
     let workspace = if random.one_in(6) { random.below(60) } else { 640 + random.below(12) };
+    // Numbers of its own, so that the tables that are drawn do not depend on these.
+    let apart = &mut Random(random.0 ^ 0x9E3779B97F4A7C15 | 1);
     Case {
         buffer: used(&tables[0]) + random.below(8).saturating_sub(5) as usize,
         challenges,
@@ -420,8 +546,15 @@ fn case_of(random: &mut Random, tables: Vec<Table>) -> Case {
             0 => i32::MIN,
             1 => i32::MAX,
             2 => -(random.below(4) as i32),
+            3 => random.pick(&[P as i32, -(P as i32), P as i32 - 1, 1 - P as i32, P as i32 + 1]),
             _ => random.draw() as i32,
         },
+        negated: [apart.below(tables[0].node_count() as u64 + 1) as u32, apart.weight()],
+        counted: tables[0].node_count() as u64,
+        reader: reader(apart, &tables[0]),
+        exponent: if apart.one_in(8) { apart.below(5_000) as u32 } else { apart.below(40) as u32 },
+        seed: apart.pick(&[0, 1, (1 << 31) - 1, u64::MAX, apart.0, apart.0, apart.0]),
+        edits: if apart.one_in(2) { vec![longer(apart)] } else { vec![] },
         tables,
     }
 }
@@ -444,7 +577,7 @@ pub fn shorten<T>(list: &mut Vec<T>) {
 /// Breaks something: a word, a length, a size, or one of the functions' own inputs.
 pub fn damage(random: &mut Random, case: &mut Case) {
     for _ in 0..1 + random.below(2) {
-        match random.below(16) {
+        match random.below(24) {
             0..=8 => {
                 let table = random.below(case.tables.len() as u64) as usize;
                 damage_table(random, &mut case.tables[table]);
@@ -461,6 +594,9 @@ pub fn damage(random: &mut Random, case: &mut Case) {
                 case.limit = random.pick(&[0, 1, u64::MAX]);
             }
             12 => case.workspace = random.below(40) as usize,
+            16..=20 => case.edits.push((List::any(random), Edit::any(random))),
+            21 => case.counted = random.pick(&[0, 1, case.counted.saturating_sub(1), case.counted + 1, 1023, 1024, u64::MAX]),
+            22 => case.negated[0] = random.pick(&[0, case.counted as u32, 1023, 1024, u32::MAX]),
             13 => {
                 // Whole challenges more or fewer.
                 let words = (case.challenges.len() + 12).saturating_sub(4 * random.below(6) as usize);
@@ -690,6 +826,13 @@ pub fn boundaries() -> Vec<(String, Case)> {
         );
         for (name, interactions) in to_build(over) {
             add(name, table(&|_| ()), &|c| c.interactions = interactions.clone());
+        }
+        // A lent list that is too short is found before a node that is absent.
+        for (i, absent) in (0..6).flat_map(|i| [(i, 0), (i, 9)]) {
+            let flagged = Lookup { exclusive: true, flags: vec![1 + absent], ..on_bus(1, vec![0], 1) };
+            let short = move |c: &mut Case| c.edits = vec![(List::Packed(i), if over == 1 { Edit::Pop } else { Edit::Push(5) })];
+            let name = format!("packed list {i} short by {over}, flag {}", 1 + absent);
+            add(name, table(&|t| t.set_records(&[on_bus(0, vec![0], 1), flagged.clone()])), &short);
         }
         let sum = P - 1 + over as u32;
         add(

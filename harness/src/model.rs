@@ -1,7 +1,9 @@
 //! The specification once more, as a plain program: an independent reading, to which the port and the crate are compared. It is written for
 //! reading, not for speed.
+use std::ops::Range;
+
 use crate::plain::{self, Ext, P};
-use crate::table::{Entry, Interaction, LOOKUP_WORDS, Lookup, NODE_WORDS, Part, Table, Widths};
+use crate::table::{Entry, LOOKUP_WORDS, Lookup, NODE_WORDS, Plan, SIZES, Table, Widths, front};
 
 /// A refusal's number and three details; number 0 where the call is accepted.
 #[derive(Clone, Copy, Debug, Default, PartialEq, Eq)]
@@ -516,52 +518,49 @@ pub fn pack(t: &Table, limit: u64) -> (Answer, Vec<Lookup>) {
     (ACCEPTED, columns)
 }
 
-/// Building for a table: what is built is tested by 1 to 5 as the table's own lookups are, then its locals by 6.
-pub fn build(t: &Table, interactions: &[Interaction]) -> (Answer, Vec<Lookup>) {
-    let built = lookups_of(interactions);
-    let mut table = t.clone();
-    table.set_records(&built);
-    let number = plan_refusal(&table);
-    if number != 0 {
-        return (refused(number), vec![]);
+/// Building for a table, into a list of so many words: the lists of the lookups that are built, which are tested by 1 to 5 as the table's own
+/// are, then the locals by 6.
+pub fn build(t: &Table, plan: &Plan, room: usize) -> (Answer, Table) {
+    let Plan { kinds: [locals, globals, exclusives], interactions, weights, lists } = plan;
+    let count = kinds_sum(plan);
+    let tuples = |i: usize| u64::from(interactions[2 * i + 1]);
+    let fits = count <= LOOKUPS as u128
+        && interactions.len() as u128 == 2 * count
+        && (0..count as usize).map(tuples).sum::<u64>() == lists.tuples.len() as u64
+        && weights.len() == lists.tuples.len()
+        && (*locals..locals + globals).all(|i| tuples(i as usize) == 1)
+        && LOOKUP_WORDS as u128 * count <= room as u128;
+    if !fits {
+        return (refused(1), Table::default());
     }
-    for (i, local) in built.iter().enumerate().filter(|(_, l)| l.bus.is_none()) {
+    let mut built = Table { main_width: t.main_width, pre_width: t.pre_width, nodes: t.nodes.clone(), ..lists.clone() };
+    built.public_values = t.public_values.clone();
+    built.lookups = vec![];
+    let mut weights = &weights[..];
+    for i in 0..(locals + globals + exclusives) as u32 {
+        let (local, exclusive) = (u64::from(i) < *locals, locals + globals <= u64::from(i));
+        let (name, tuples) = (interactions[2 * i as usize], interactions[2 * i as usize + 1]);
+        let own = front(&mut weights, tuples).iter().map(|w| u64::from(*w));
+        let weight = if local { own.sum::<u64>().min(u32::MAX.into()) } else { own.max().unwrap_or(0) };
+        let name = if local { 0 } else { name };
+        let flags = if exclusive { tuples } else { 0 };
+        built.lookups.extend([u32::from(!local), name, weight as u32, i, exclusive.into(), tuples, tuples, flags]);
+    }
+    let number = plan_refusal(&built);
+    if number != 0 {
+        return (refused(number), Table::default());
+    }
+    for (i, local) in built.records().iter().enumerate().take(*locals as usize) {
         let widths: Vec<usize> = local.tuples.iter().map(Vec::len).collect();
         if let Some(other) = widths.iter().find(|w| **w != widths[0]) {
-            return (with_details(6, [i, widths[0], *other]), vec![]);
+            return (with_details(6, [i, widths[0], *other]), Table::default());
         }
     }
     (ACCEPTED, built)
 }
 
-/// The lookups of locals, then globals, then exclusives.
-fn lookups_of(interactions: &[Interaction]) -> Vec<Lookup> {
-    let locals = interactions.iter().filter(|i| matches!(i, Interaction::Local(_)));
-    let globals = interactions.iter().filter(|i| matches!(i, Interaction::Global(..)));
-    let exclusives = interactions.iter().filter(|i| matches!(i, Interaction::Exclusive(..)));
-    let mut built = vec![];
-    for (column, interaction) in locals.chain(globals).chain(exclusives).enumerate() {
-        let (bus, flags, parts): (Option<&Vec<u8>>, Vec<u32>, Vec<&Part>) = match interaction {
-            Interaction::Local(parts) => (None, vec![], parts.iter().collect()),
-            Interaction::Global(bus, part) => (Some(bus), vec![], vec![part]),
-            Interaction::Exclusive(bus, branches) => {
-                (Some(bus), branches.iter().map(|(f, _)| *f).collect(), branches.iter().map(|(_, part)| part).collect())
-            }
-        };
-        let weights = parts.iter().map(|part| u64::from(part.weight));
-        let exclusive = matches!(interaction, Interaction::Exclusive(..));
-        let weight = if exclusive { weights.max().unwrap_or(0) } else { weights.sum() };
-        built.push(Lookup {
-            bus: bus.cloned(),
-            weight: weight.min(u32::MAX.into()) as u32,
-            column: column as u32,
-            exclusive,
-            tuples: parts.iter().map(|part| part.elements.clone()).collect(),
-            multiplicities: parts.iter().map(|part| part.multiplicity).collect(),
-            flags,
-        });
-    }
-    built
+fn kinds_sum(plan: &Plan) -> u128 {
+    plan.kinds.iter().map(|n| u128::from(*n)).sum()
 }
 
 /// The word of a count's constant node, and its weight.
@@ -570,11 +569,42 @@ pub fn count_of(n: i32) -> (u32, u32) {
     (((i64::from(n) % p + p) % p) as u32, n.unsigned_abs())
 }
 
-/// The widest bus tuple. Only the lookups of the tables are read.
-/// The widest bus tuple. The function has the lookups' words, names and widths only, so that 5 does not apply.
+/// Whether node `used` can be added to a list of so many words.
+pub fn room_for_node(nodes: usize, used: u64) -> bool {
+    used < NODES as u64 && used < (nodes / NODE_WORDS) as u64
+}
+
+/// Where a row of the trace begins and how many words it has; zeros where it is not there.
+pub fn row(trace: usize, lookups: u64, height: u64, row: u64) -> [u64; 2] {
+    let width = 4 * (u128::from(lookups) + 1);
+    let start = u128::from(row) * width;
+    let there = lookups != 0 && row < height && start + width <= trace as u128;
+    if there { [start as u64, width as u64] } else { [0; 2] }
+}
+
+/// a to the power n, by squares.
+pub fn power(a: Ext, n: u128) -> Ext {
+    let square = |e: Ext| plain::mul(e, e);
+    match n {
+        0 => plain::lift(1),
+        _ if n.is_multiple_of(2) => square(power(a, n / 2)),
+        _ => plain::mul(a, square(power(a, n / 2))),
+    }
+}
+
+/// The inverse, after Fermat; 0 where a is 0.
+pub fn inverse(a: Ext) -> Ext {
+    power(a, u128::from(P).pow(4) - 2)
+}
+
+/// The widest bus tuple. The function has the lookups' words, names and widths only: of 5 it tests what these words show.
 pub fn widths(tables: &[Table]) -> (Answer, u64) {
-    if TABLES < tables.len() || !tables.iter().all(widths_within) {
-        return (refused(1), 0);
+    let number = first_refused(&[
+        (1, &|| tables.len() <= TABLES && tables.iter().all(widths_within)),
+        (5, &|| tables.iter().all(list_lengths_agree)),
+    ]);
+    if number != 0 {
+        return (refused(number), 0);
     }
     let mut seen = vec![];
     for t in tables {
@@ -587,10 +617,13 @@ pub fn widths(tables: &[Table]) -> (Answer, u64) {
 
 /// The sum of weight × height. The function has the lookups' words only.
 pub fn height_bound(tables: &[Table], heights: &[u64]) -> Answer {
-    let fit =
-        tables.len() <= TABLES && heights.len() == tables.len() && heights.iter().all(|h| *h <= HEIGHT) && tables.iter().all(words_within);
-    if !fit {
-        return refused(1);
+    let fit = || heights.len() == tables.len() && heights.iter().all(|h| *h <= HEIGHT);
+    let number = first_refused(&[
+        (1, &|| tables.len() <= TABLES && fit() && tables.iter().all(words_within)),
+        (5, &|| tables.iter().all(list_lengths_agree)),
+    ]);
+    if number != 0 {
+        return refused(number);
     }
     let weight = |t: &Table| t.entries().iter().map(|e| u64::from(e.weight)).sum::<u64>();
     let sum: u64 = tables.iter().zip(heights).map(|(t, h)| weight(t) * h).sum();
@@ -624,6 +657,92 @@ pub fn prefixes(alpha: Ext, beta: Ext, width: u64, count: u64) -> (Answer, Vec<E
 // Balance.
 
 pub const SLOT_WORDS: usize = 10;
+
+// The tables that flat lists of several tables hold.
+
+/// The sizes of a table's shape, and the part of each list that is its own.
+struct Own<const LISTS: usize> {
+    shape: Vec<u32>,
+    parts: [Range<usize>; LISTS],
+}
+
+/// The sizes of each table: those of its shape, then how many records of each list it has. A list is given by the words of a record and its
+/// length. Nothing, where the tables' parts are not the whole lists.
+fn split<const LISTS: usize>(sizes: &[u32], shape: usize, lists: [(usize, usize); LISTS]) -> Option<Vec<Own<LISTS>>> {
+    let mut ends = [0; LISTS];
+    let mut tables = vec![];
+    if !sizes.len().is_multiple_of(shape + LISTS) {
+        return None;
+    }
+    for record in sizes.chunks_exact(shape + LISTS) {
+        let starts = ends;
+        for (end, (n, (words, length))) in ends.iter_mut().zip(record[shape..].iter().zip(lists)) {
+            *end += *n as usize * words;
+            if length < *end {
+                return None;
+            }
+        }
+        tables.push(Own { shape: record[..shape].to_vec(), parts: std::array::from_fn(|i| starts[i]..ends[i]) });
+    }
+    (ends == lists.map(|(_, length)| length)).then_some(tables)
+}
+
+/// The tables of bus widths, of which there are lookups, names and tuples.
+pub fn bus_tables(all: &Table, sizes: &[u32]) -> Option<Vec<Table>> {
+    let own = split(sizes, 0, [(LOOKUP_WORDS, all.lookups.len()), (1, all.names.len()), (1, all.tuples.len())])?;
+    let table = |Own { parts: [lookups, names, tuples], .. }| Table {
+        lookups: all.lookups[lookups].to_vec(),
+        names: all.names[names].to_vec(),
+        tuples: all.tuples[tuples].to_vec(),
+        ..Table::default()
+    };
+    Some(own.into_iter().map(table).collect())
+}
+
+/// The tables of the height bound, of which there are lookups.
+pub fn weighed_tables(lookups: &[u32], counts: &[u32]) -> Option<Vec<Table>> {
+    let own = split(counts, 0, [(LOOKUP_WORDS, lookups.len())])?;
+    let table = |Own { parts: [part], .. }| Table { lookups: lookups[part].to_vec(), ..Table::default() };
+    Some(own.into_iter().map(table).collect())
+}
+
+/// The tables of balance.
+pub fn whole_tables(all: &Table, sizes: &[u32]) -> Option<Vec<Table>> {
+    let [lookups, names, tuples, multiplicities, flags, elements] = all.lengths();
+    let lists = [
+        (1, all.main.len()),
+        (1, all.preprocessed.len()),
+        (1, all.public_values.len()),
+        (NODE_WORDS, all.nodes.len()),
+        (LOOKUP_WORDS, lookups),
+        (1, names),
+        (1, tuples),
+        (1, multiplicities),
+        (1, flags),
+        (1, elements),
+    ];
+    const LISTS: usize = SIZES - 4;
+    let table = |Own { shape, parts }: Own<LISTS>| {
+        let [main, preprocessed, public_values, nodes, lookups, names, tuples, multiplicities, flags, elements] = parts;
+        Table {
+            main_width: shape[0].into(),
+            height: shape[1].into(),
+            pre_width: shape[2].into(),
+            pre_height: shape[3].into(),
+            main: all.main[main].to_vec(),
+            preprocessed: all.preprocessed[preprocessed].to_vec(),
+            public_values: all.public_values[public_values].to_vec(),
+            nodes: all.nodes[nodes].to_vec(),
+            lookups: all.lookups[lookups].to_vec(),
+            names: all.names[names].to_vec(),
+            tuples: all.tuples[tuples].to_vec(),
+            multiplicities: all.multiplicities[multiplicities].to_vec(),
+            flags: all.flags[flags].to_vec(),
+            elements: all.elements[elements].to_vec(),
+        }
+    };
+    Some(split(sizes, 4, lists)?.into_iter().map(table).collect())
+}
 
 /// A group's lookups as (table, lookup): each local alone, then each bus over all tables by first appearance.
 pub fn groups(tables: &[Table]) -> Vec<Vec<(usize, usize)>> {

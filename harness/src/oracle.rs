@@ -134,8 +134,7 @@ fn lookups(t: &Table, nodes: &[Expression]) -> Vec<types::Lookup<BabyBear>> {
 
 /// Back again: an expression is the node that it was made from.
 fn records(lookups: &[types::Lookup<BabyBear>], nodes: &[Expression]) -> Vec<Lookup> {
-    let number = |e: &Expression| nodes.iter().position(|node| node.is(e)).expect("an expression of the table") as u32;
-    let numbers = |list: &[Expression]| -> Vec<u32> { list.iter().map(number).collect() };
+    let numbers = |list: &[Expression]| -> Vec<u32> { list.iter().map(|e| node_of(nodes, e)).collect() };
     let record = |l: &types::Lookup<BabyBear>| Lookup {
         bus: match &l.kind {
             Kind::Local => None,
@@ -387,13 +386,41 @@ pub fn build(t: &Table, interactions: &[Interaction]) -> Run<Vec<Lookup>> {
     caught(|| records(&Lookups::from_air::<Quartic, _>(&air), &nodes))
 }
 
-/// `Count` from a number: its constant's word and its weight; then the same of its negation, which must negate just that constant.
-pub fn count_of(n: i32) -> Run<(u32, u32)> {
+/// `Count` from a number: the words of its constant's node, and its weight.
+pub fn count_from(n: i32) -> Run<([u32; 3], u32)> {
     caught(|| {
         let (expression, weight) = Count::<Expression>::from(n).into_parts();
-        let (negated, same) = (-Count::bounded(expression.clone(), weight)).into_parts();
-        assert!(negated.as_negation().is_some_and(|e| e.is(&expression)) && same == weight);
-        (expression.as_constant().expect("a constant").word(), weight)
+        ([0, expression.as_constant().expect("a constant").word(), 0], weight)
+    })
+}
+
+/// The number of the node that an expression is.
+fn node_of(nodes: &[Expression], expression: &Expression) -> u32 {
+    nodes.iter().position(|node| node.is(expression)).expect("an expression of the table") as u32
+}
+
+/// The negation of a count: the words of its node, and its weight.
+pub fn count_negated(t: &Table, node: u32, weight: u32) -> Run<([u32; 3], u32)> {
+    let nodes = expressions(t);
+    caught(|| {
+        let (negated, weight) = (-Count::bounded(nodes[node as usize].clone(), weight)).into_parts();
+        ([12, node_of(&nodes, negated.as_negation().expect("a negation")), 0], weight)
+    })
+}
+
+pub fn count_bounded(t: &Table, node: u32, weight: u32) -> Run<(u32, u32)> {
+    let nodes = expressions(t);
+    caught(|| {
+        let (expression, weight) = Count::bounded(nodes[node as usize].clone(), weight).into_parts();
+        (node_of(&nodes, &expression), weight)
+    })
+}
+
+pub fn count_provided(t: &Table, node: u32) -> Run<(u32, u32)> {
+    let nodes = expressions(t);
+    caught(|| {
+        let (expression, weight) = Count::provided(nodes[node as usize].clone()).into_parts();
+        (node_of(&nodes, &expression), weight)
     })
 }
 

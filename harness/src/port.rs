@@ -1,88 +1,231 @@
-//! The port's exported functions over tables, by one trait. Each gives the refusal's number and details; what it lends is written in place.
-#[cfg(feature = "port")]
-use crate::model::ACCEPTED;
-use crate::model::Answer;
-use crate::plain::Ext;
-use crate::table::{Interaction, Lookup, Table};
+//! The port: its exported functions as they are declared in bindings/rust, which the harness calls with words of its own in all that is lent,
+//! and the safe wrapper of the same.
+use crate::exports::Exports;
+use crate::wrapper::Wrapper;
 
-/// What a port does not have gives `None`.
-pub trait Port {
-    /// The first word of `terminal` is 1 where there is one; its four words follow.
-    fn generate(&self, t: &Table, challenges: &[u32], trace: &mut [u32], terminal: &mut [u32; 5]) -> Option<Answer>;
-    fn constraints(&self, t: &Table, challenges: &[u32], width: u64, trace: &[u32], terminal: Option<Ext>) -> Option<Answer>;
-
-    fn degree(&self, _t: &Table, _lookup: u64, _transition: u64) -> Option<(Answer, u64)> {
-        None
-    }
-
-    fn pack(&self, _t: &Table, _limit: u64) -> Option<(Answer, Vec<Lookup>)> {
-        None
-    }
-
-    fn build(&self, _t: &Table, _interactions: &[Interaction]) -> Option<(Answer, Vec<Lookup>)> {
-        None
-    }
-
-    fn widths(&self, _tables: &[Table]) -> Option<(Answer, u64)> {
-        None
-    }
-
-    fn height_bound(&self, _tables: &[Table], _heights: &[u64]) -> Option<Answer> {
-        None
-    }
-
-    fn terminals(&self, _terminals: &[Option<Ext>]) -> Option<Answer> {
-        None
-    }
-
-    fn prefixes(&self, _alpha: Ext, _beta: Ext, _width: u64, _count: u64) -> Option<(Answer, Vec<Ext>)> {
-        None
-    }
-
-    fn balance(&self, _tables: &[Table], _workspace: &mut [u32]) -> Option<Answer> {
-        None
-    }
+/// What is compared with the model.
+#[derive(Clone, Copy)]
+pub struct Port<'a> {
+    pub exports: &'a dyn Exports,
+    pub wrapper: &'a dyn Wrapper,
 }
 
-/// A size that is no number of this machine is over every limit all the same.
-#[cfg(feature = "port")]
-fn size(n: u64) -> usize {
-    n.try_into().unwrap_or(usize::MAX)
-}
-
-/// The same table as the wrapper has it.
-#[cfg(feature = "port")]
-pub fn wrapped(t: &Table) -> delmatik::Table {
-    delmatik::Table {
-        main_width: size(t.main_width),
-        height: size(t.height),
-        pre_width: size(t.pre_width),
-        pre_height: size(t.pre_height),
-        main: t.main.clone(),
-        preprocessed: t.preprocessed.clone(),
-        public_values: t.public_values.clone(),
-        nodes: t.nodes.clone(),
-        lookups: t.lookups.clone(),
-        names: t.names.clone(),
-        tuples: t.tuples.clone(),
-        multiplicities: t.multiplicities.clone(),
-        flags: t.flags.clone(),
-        elements: t.elements.clone(),
-    }
-}
-
-/// The functions of the static libraries, by the wrapper in bindings/rust.
+/// The static libraries.
 #[cfg(feature = "port")]
 pub struct Exported;
 
 #[cfg(feature = "port")]
-mod exported {
-    use std::hash::{DefaultHasher, Hash, Hasher};
+pub const EXPORTED: Port<'static> = Port { exports: &Exported, wrapper: &Exported };
 
-    use delmatik::{LookupTerminal, Refusal, bytes};
+#[cfg(feature = "port")]
+pub use exported::wrapped;
+
+#[cfg(feature = "port")]
+mod exported {
+    use bytes::Table as Bytes;
+    use delmatik::{Count, LookupTerminal, Refusal, Table as Words, bytes, sys};
 
     use super::*;
-    use crate::table::Part;
+    use crate::exports::Rooms;
+    use crate::model::Answer;
+    use crate::plain::Ext;
+    use crate::table::{Interaction, Lookup, Part, Plan, SIZES, Table};
+    use crate::wrapper::Refused;
+
+    /// A size that is no number of this machine is over every limit all the same.
+    fn size(n: u64) -> usize {
+        n.try_into().unwrap_or(usize::MAX)
+    }
+
+    /// Calls an exported function: `[list]` is lent as a pointer and a length, `[mut list]` to be written. The details hold other numbers before.
+    macro_rules! call {
+        ($function:ident($($arguments:tt)*)) => {{
+            let mut details = [7; 3];
+            let number = call!(@ $function details () $($arguments)*);
+            Answer { number, details }
+        }};
+        (@ $function:ident $details:ident ($($done:tt)*) [mut $list:expr], $($rest:tt)*) => {
+            call!(@ $function $details ($($done)* $list.as_mut_ptr(), $list.len(),) $($rest)*)
+        };
+        (@ $function:ident $details:ident ($($done:tt)*) [$list:expr], $($rest:tt)*) => {
+            call!(@ $function $details ($($done)* $list.as_ptr(), $list.len(),) $($rest)*)
+        };
+        (@ $function:ident $details:ident ($($done:tt)*) $argument:expr, $($rest:tt)*) => {
+            call!(@ $function $details ($($done)* $argument,) $($rest)*)
+        };
+        (@ $function:ident $details:ident ($($done:tt)*)) => { unsafe { sys::$function($($done)* &mut $details) } };
+    }
+
+    impl Exports for Exported {
+        fn generate(&self, t: &Table, challenges: &[u32], trace: &mut [u32], terminal: &mut [u32; 5]) -> Answer {
+            call! { delmatik_generate(
+                size(t.main_width), size(t.height), size(t.pre_width), size(t.pre_height), [t.main], [t.preprocessed], [t.public_values],
+                [t.nodes], [t.lookups], [t.names], [t.tuples], [t.multiplicities], [t.flags], [t.elements], [challenges], [mut trace],
+                terminal,
+            ) }
+        }
+
+        fn constraints(&self, t: &Table, challenges: &[u32], width: u64, trace: &[u32], [mark, t0, t1, t2, t3]: [u32; 5]) -> Answer {
+            call! { delmatik_constraints(
+                size(t.main_width), size(t.height), size(t.pre_width), size(t.pre_height), [t.main], [t.preprocessed], [t.public_values],
+                [t.nodes], [t.lookups], [t.names], [t.tuples], [t.multiplicities], [t.flags], [t.elements], [challenges], size(width),
+                [trace], mark, t0, t1, t2, t3,
+            ) }
+        }
+
+        fn degree(&self, t: &Table, lookup: u64, transition: u32, degree: &mut u64) -> Answer {
+            call! { delmatik_degree(
+                size(t.main_width), size(t.pre_width), t.public_values.len(), [t.nodes], [t.lookups], [t.names], [t.tuples],
+                [t.multiplicities], [t.flags], [t.elements], size(lookup), transition, degree,
+            ) }
+        }
+
+        fn pack(&self, t: &Table, limit: u64, out: &mut Table, used: &mut [u64; 6]) -> Answer {
+            call! { delmatik_pack(
+                limit, size(t.main_width), size(t.pre_width), t.public_values.len(), [t.nodes], [t.lookups], [t.names], [t.tuples],
+                [t.multiplicities], [t.flags], [t.elements], [mut out.lookups], [mut out.names], [mut out.tuples],
+                [mut out.multiplicities], [mut out.flags], [mut out.elements], used,
+            ) }
+        }
+
+        fn build(&self, t: &Table, plan: &Plan, lookups: &mut [u32], used: &mut u64) -> Answer {
+            let Plan { kinds: [locals, globals, exclusives], interactions, weights, lists } = plan;
+            call! { delmatik_build(
+                size(t.main_width), size(t.pre_width), t.public_values.len(), [t.nodes], size(*locals), size(*globals), size(*exclusives),
+                [interactions], [weights], [lists.names], [lists.tuples], [lists.multiplicities], [lists.flags], [lists.elements],
+                [mut lookups], used,
+            ) }
+        }
+
+        fn widths(&self, all: &Table, sizes: &[u32], widest: &mut u64) -> Answer {
+            call! { delmatik_widths([all.lookups], [all.names], [all.tuples], [sizes], widest,) }
+        }
+
+        fn height_bound(&self, lookups: &[u32], counts: &[u32], heights: &[u32]) -> Answer {
+            call! { delmatik_height_bound([lookups], [counts], [heights],) }
+        }
+
+        fn terminals(&self, terminals: &[u32]) -> Answer {
+            call! { delmatik_terminals([terminals],) }
+        }
+
+        fn prefixes(&self, alpha: &[u32], beta: &[u32], width: u64, count: u64, out: &mut [u32]) -> Answer {
+            call! { delmatik_prefixes([alpha], [beta], size(width), size(count), [mut out],) }
+        }
+
+        fn balance(&self, all: &Table, sizes: &[u32], seed: u64, workspace: &mut [u32]) -> Answer {
+            call! { delmatik_balance(
+                [all.main], [all.preprocessed], [all.public_values], [all.nodes], [all.lookups], [all.names], [all.tuples],
+                [all.multiplicities], [all.flags], [all.elements], [sizes], seed, [mut workspace],
+            ) }
+        }
+
+        fn generate_bytes(&self, t: &Table<u8>, challenges: &[u8], trace: &mut [u8], rooms: &mut Rooms, terminal: &mut [u32; 5]) -> Answer {
+            call! { delmatik_generate_bytes(
+                size(t.main_width), size(t.height), size(t.pre_width), size(t.pre_height), [t.main], [t.preprocessed], [t.public_values],
+                [t.nodes], [t.lookups], [t.names], [t.tuples], [t.multiplicities], [t.flags], [t.elements], [challenges], [mut trace],
+                [mut rooms.read], [mut rooms.written], terminal,
+            ) }
+        }
+
+        fn pack_bytes(&self, t: &Table<u8>, limit: u64, out: &mut Table<u8>, rooms: &mut Rooms, used: &mut [u64; 6]) -> Answer {
+            call! { delmatik_pack_bytes(
+                limit, size(t.main_width), size(t.pre_width), t.public_values.len() / 4, [t.nodes], [t.lookups], [t.names], [t.tuples],
+                [t.multiplicities], [t.flags], [t.elements], [mut out.lookups], [mut out.names], [mut out.tuples],
+                [mut out.multiplicities], [mut out.flags], [mut out.elements], [mut rooms.read], [mut rooms.written], used,
+            ) }
+        }
+
+        fn balance_bytes(&self, all: &Table<u8>, sizes: &[u8], seed: u64, workspace: &mut [u8], rooms: &mut Rooms) -> Answer {
+            call! { delmatik_balance_bytes(
+                [all.main], [all.preprocessed], [all.public_values], [all.nodes], [all.lookups], [all.names], [all.tuples],
+                [all.multiplicities], [all.flags], [all.elements], [sizes], seed, [mut workspace], [mut rooms.read], [mut rooms.written],
+            ) }
+        }
+
+        fn count_from_i32(&self, nodes: &mut [u32], used: u64, x: i32, count: &mut [u32; 2]) -> Answer {
+            call! { delmatik_count_from_i32([mut nodes], size(used), x, count,) }
+        }
+
+        fn count_negated(&self, nodes: &mut [u32], used: u64, [node, weight]: [u32; 2], count: &mut [u32; 2]) -> Answer {
+            call! { delmatik_count_negated([mut nodes], size(used), node, weight, count,) }
+        }
+
+        fn count_bounded(&self, node: u32, weight: u32, count: &mut [u32; 2]) {
+            unsafe { sys::delmatik_count_bounded(node, weight, count) }
+        }
+
+        fn count_provided(&self, node: u32, count: &mut [u32; 2]) {
+            unsafe { sys::delmatik_count_provided(node, count) }
+        }
+
+        fn row(&self, trace: &[u32], lookups: u64, height: u64, row: u64, part: &mut [u64; 2]) {
+            unsafe { sys::delmatik_row(trace.as_ptr(), trace.len(), size(lookups), size(height), row, part) }
+        }
+
+        fn power(&self, a: &[u32], n: u32, out: &mut [u32]) -> u32 {
+            unsafe { sys::delmatik_power(a.as_ptr(), a.len(), n, out.as_mut_ptr(), out.len()) }
+        }
+
+        fn inverse(&self, a: &[u32], out: &mut [u32]) -> u32 {
+            unsafe { sys::delmatik_inverse(a.as_ptr(), a.len(), out.as_mut_ptr(), out.len()) }
+        }
+    }
+
+    /// A table of one crate as a table of another: their fields have the same names.
+    macro_rules! moved {
+        ($table:expr, $size:expr, $into:ident) => {{
+            let (t, size) = ($table, $size);
+            $into {
+                main_width: size(t.main_width),
+                height: size(t.height),
+                pre_width: size(t.pre_width),
+                pre_height: size(t.pre_height),
+                main: t.main,
+                preprocessed: t.preprocessed,
+                public_values: t.public_values,
+                nodes: t.nodes,
+                lookups: t.lookups,
+                names: t.names,
+                tuples: t.tuples,
+                multiplicities: t.multiplicities,
+                flags: t.flags,
+                elements: t.elements,
+            }
+        }};
+    }
+
+    /// The same table as the wrapper has it.
+    pub fn wrapped(t: &Table) -> Words {
+        moved!(t.clone(), size, Words)
+    }
+
+    fn all_wrapped(tables: &[Table]) -> Vec<Words> {
+        tables.iter().map(wrapped).collect()
+    }
+
+    fn unwrapped(t: Words) -> Table {
+        moved!(t, |n| n as u64, Table)
+    }
+
+    fn wrapped_bytes(t: &Table<u8>) -> Bytes {
+        moved!(t.clone(), size, Bytes)
+    }
+
+    fn unwrapped_bytes(t: Bytes) -> Table<u8> {
+        moved!(t, |n| n as u64, Table)
+    }
+
+    /// The tables as bytes, by the wrapper's own conversion, and the bytes of their sizes.
+    fn all_bytes(tables: &[Table]) -> (Vec<Bytes>, Vec<u8>) {
+        let tables = all_wrapped(tables);
+        (tables.iter().map(Bytes::from).collect(), tables.iter().flat_map(|t| bytes::of(&t.sizes())).collect())
+    }
+
+    fn lookup(l: &Lookup) -> delmatik::Lookup {
+        let Lookup { bus, weight, column, exclusive, tuples, multiplicities, flags } = l.clone();
+        delmatik::Lookup { bus, weight, column, exclusive, tuples, multiplicities, flags }
+    }
 
     fn interaction(i: &Interaction) -> delmatik::Interaction {
         let part = |p: &Part| delmatik::Part { elements: p.elements.clone(), multiplicity: p.multiplicity, weight: p.weight };
@@ -95,103 +238,132 @@ mod exported {
         }
     }
 
-    /// The lookups of a table as records.
-    fn records(t: delmatik::Table) -> Vec<Lookup> {
-        let delmatik::Table { lookups, names, tuples, multiplicities, flags, elements, .. } = t;
-        Table { lookups, names, tuples, multiplicities, flags, elements, ..Table::default() }.records()
+    fn answer(Refusal { number, details }: Refusal) -> Answer {
+        Answer { number, details }
     }
 
-    fn tables(tables: &[Table]) -> Vec<delmatik::Table> {
-        tables.iter().map(wrapped).collect()
+    fn count(Count { node, weight }: Count) -> [u32; 2] {
+        [node, weight]
     }
 
-    /// A seed of balance, the same at each run: another one for each trace, and now and then one with the point 0 or an extreme one.
-    fn seed(tables: &[delmatik::Table]) -> u64 {
-        let mut hasher = DefaultHasher::new();
-        tables.iter().for_each(|t| t.main.hash(&mut hasher));
-        let seed = hasher.finish();
-        [0, (1 << 31) - 1, u64::MAX].get(seed as usize % 8).copied().unwrap_or(seed)
+    fn element(terminal: Option<LookupTerminal>) -> Option<Ext> {
+        terminal.map(|LookupTerminal(e)| e)
     }
 
-    /// The number and details, and the value, or what stands for it where the function refuses.
-    fn answer<T: Default>(result: Result<T, Refusal>) -> (Answer, T) {
-        match result {
-            Ok(value) => (ACCEPTED, value),
-            Err(Refusal { number, details }) => (Answer { number, details }, T::default()),
-        }
-    }
-
-    /// The answer on words where the function on bytes agrees with it in all that it gives; else one that none gives, so that the comparison
-    /// reports the table.
-    fn agreed(answer: Answer, same: bool) -> Answer {
-        if same { answer } else { Answer { number: u32::MAX, details: [0; 3] } }
-    }
-
-    impl Port for Exported {
-        fn generate(&self, t: &Table, challenges: &[u32], trace: &mut [u32], terminal: &mut [u32; 5]) -> Option<Answer> {
-            let t = wrapped(t);
-            let mut held = bytes::of(trace);
-            let on_bytes = bytes::Table::from(&t).generate_into(&bytes::of(challenges), &mut held);
-            let on_words = t.generate_into(challenges, trace);
-            let same = on_bytes == on_words && held == bytes::of(trace);
-            let (answer, given) = answer(on_words);
-            *terminal = given.map_or([0; 5], |LookupTerminal([a, b, c, d])| [1, a, b, c, d]);
-            Some(agreed(answer, same))
+    impl Wrapper for Exported {
+        fn with(&self, t: &Table, lookups: &[Lookup]) -> Table {
+            unwrapped(wrapped(t).with(&lookups.iter().map(lookup).collect::<Vec<_>>()))
         }
 
-        fn constraints(&self, t: &Table, challenges: &[u32], width: u64, trace: &[u32], terminal: Option<Ext>) -> Option<Answer> {
-            Some(answer(wrapped(t).constraints_on(challenges, size(width), trace, terminal.map(LookupTerminal))).0)
+        fn lookup_count(&self, t: &Table) -> usize {
+            wrapped(t).lookup_count()
         }
 
-        fn degree(&self, t: &Table, lookup: u64, transition: u64) -> Option<(Answer, u64)> {
-            Some(answer(wrapped(t).degree(size(lookup), transition.try_into().unwrap_or(u32::MAX))))
+        fn sizes(&self, t: &Table) -> [u32; SIZES] {
+            wrapped(t).sizes()
         }
 
-        fn pack(&self, t: &Table, limit: u64) -> Option<(Answer, Vec<Lookup>)> {
-            let t = wrapped(t);
-            let on_words = t.pack(limit);
-            let same = bytes::Table::from(&t).pack(limit) == on_words.as_ref().map(bytes::Table::from).map_err(|r| *r);
-            let (answer, packed) = answer(on_words);
-            Some((agreed(answer, same), records(packed)))
+        fn generate(&self, t: &Table, challenges: &[Ext]) -> Refused<(Vec<u32>, Option<Ext>)> {
+            let generated = wrapped(t).generate(challenges).map_err(answer)?;
+            Ok((generated.trace, element(generated.terminal)))
         }
 
-        fn build(&self, t: &Table, interactions: &[Interaction]) -> Option<(Answer, Vec<Lookup>)> {
-            let interactions: Vec<delmatik::Interaction> = interactions.iter().map(interaction).collect();
-            let (answer, built) = answer(wrapped(t).build(&interactions));
-            Some((answer, records(built)))
+        fn generate_into(&self, t: &Table, challenges: &[u32], trace: &mut [u32]) -> Refused<Option<Ext>> {
+            wrapped(t).generate_into(challenges, trace).map(element).map_err(answer)
         }
 
-        fn widths(&self, all: &[Table]) -> Option<(Answer, u64)> {
-            Some(answer(delmatik::widths(&tables(all))))
+        fn constraints(&self, t: &Table, challenges: &[Ext], width: u64, trace: &[u32], terminal: Option<Ext>) -> Refused<()> {
+            wrapped(t).constraints(challenges, size(width), trace, terminal.map(LookupTerminal)).map_err(answer)
         }
 
-        fn height_bound(&self, all: &[Table], heights: &[u64]) -> Option<Answer> {
-            let heights: Vec<usize> = heights.iter().map(|h| size(*h)).collect();
-            Some(answer(delmatik::height_bound(&tables(all), &heights)).0)
+        fn constraints_on(&self, t: &Table, challenges: &[u32], width: u64, trace: &[u32], terminal: Option<Ext>) -> Refused<()> {
+            wrapped(t).constraints_on(challenges, size(width), trace, terminal.map(LookupTerminal)).map_err(answer)
         }
 
-        fn terminals(&self, terminals: &[Option<Ext>]) -> Option<Answer> {
-            let terminals: Vec<Option<LookupTerminal>> = terminals.iter().map(|t| t.map(LookupTerminal)).collect();
-            Some(answer(delmatik::terminals(&terminals)).0)
+        fn degree(&self, t: &Table, lookup: u64, transition: u32) -> Refused<u64> {
+            wrapped(t).degree(size(lookup), transition).map_err(answer)
         }
 
-        fn prefixes(&self, alpha: Ext, beta: Ext, width: u64, count: u64) -> Option<(Answer, Vec<Ext>)> {
-            Some(answer(delmatik::prefixes(alpha, beta, size(width), size(count))))
+        fn pack(&self, t: &Table, limit: u64) -> Refused<Table> {
+            wrapped(t).pack(limit).map(unwrapped).map_err(answer)
         }
 
-        fn balance(&self, all: &[Table], workspace: &mut [u32]) -> Option<Answer> {
-            // Fourteen sizes say nothing of words past the last whole node or lookup: the model has such a table's sizes at odds, as the function.
-            let all = tables(all);
-            let mut held = bytes::of(workspace);
-            let sizes: Vec<u8> = all.iter().flat_map(|t| bytes::of(&t.sizes())).collect();
-            let (mut words_drawn, mut bytes_drawn) = (workspace.to_vec(), held.clone());
-            let lent: Vec<bytes::Table> = all.iter().map(bytes::Table::from).collect();
-            let seed = seed(&all);
-            let on_words = delmatik::balance_with_seed(&all, seed, workspace);
-            let on_bytes = bytes::balance_with_seed(&lent, &sizes, !seed, &mut held);
-            let drawn = [delmatik::balance(&all, &mut words_drawn), bytes::balance(&lent, &sizes, &mut bytes_drawn)];
-            let same = on_bytes == on_words && held == bytes::of(workspace) && drawn == [on_words; 2];
-            Some(agreed(answer(on_words).0, same && words_drawn == *workspace && bytes_drawn == held))
+        fn build(&self, t: &Table, interactions: &[Interaction]) -> Refused<Table> {
+            wrapped(t).build(&interactions.iter().map(interaction).collect::<Vec<_>>()).map(unwrapped).map_err(answer)
+        }
+
+        fn widths(&self, tables: &[Table]) -> Refused<u64> {
+            delmatik::widths(&all_wrapped(tables)).map_err(answer)
+        }
+
+        fn height_bound(&self, tables: &[Table], heights: &[u64]) -> Refused<()> {
+            delmatik::height_bound(&all_wrapped(tables), &heights.iter().map(|h| size(*h)).collect::<Vec<_>>()).map_err(answer)
+        }
+
+        fn terminals(&self, terminals: &[Option<Ext>]) -> Refused<()> {
+            delmatik::terminals(&terminals.iter().map(|t| t.map(LookupTerminal)).collect::<Vec<_>>()).map_err(answer)
+        }
+
+        fn prefixes(&self, alpha: Ext, beta: Ext, width: u64, count: u64) -> Refused<Vec<Ext>> {
+            delmatik::prefixes(alpha, beta, size(width), size(count)).map_err(answer)
+        }
+
+        fn balance(&self, tables: &[Table], workspace: &mut [u32]) -> Refused<()> {
+            delmatik::balance(&all_wrapped(tables), workspace).map_err(answer)
+        }
+
+        fn balance_with_seed(&self, tables: &[Table], seed: u64, workspace: &mut [u32]) -> Refused<()> {
+            delmatik::balance_with_seed(&all_wrapped(tables), seed, workspace).map_err(answer)
+        }
+
+        fn power(&self, a: Ext, n: u32) -> Refused<Ext> {
+            delmatik::power(a, n).map_err(answer)
+        }
+
+        fn inverse(&self, a: Ext) -> Refused<Ext> {
+            delmatik::inverse(a).map_err(answer)
+        }
+
+        fn count_bounded(&self, node: u32, weight: u32) -> [u32; 2] {
+            count(Count::bounded(node, weight))
+        }
+
+        fn count_provided(&self, node: u32) -> [u32; 2] {
+            count(Count::provided(node))
+        }
+
+        fn count_from_i32(&self, nodes: &mut Vec<u32>, x: i32) -> Refused<[u32; 2]> {
+            Count::from_i32(nodes, x).map(count).map_err(answer)
+        }
+
+        fn count_negated(&self, nodes: &mut Vec<u32>, [node, weight]: [u32; 2]) -> Refused<[u32; 2]> {
+            Count { node, weight }.negated(nodes).map(count).map_err(answer)
+        }
+
+        fn row(&self, trace: &[u32], lookups: u64, height: u64, row: u64) -> Vec<u32> {
+            delmatik::row(trace, size(lookups), size(height), row).to_vec()
+        }
+
+        fn bytes_of(&self, words: &[u32]) -> Vec<u8> {
+            bytes::of(words)
+        }
+
+        fn generate_bytes(&self, t: &Table<u8>, challenges: &[u8], trace: &mut [u8]) -> Refused<Option<Ext>> {
+            wrapped_bytes(t).generate_into(challenges, trace).map(element).map_err(answer)
+        }
+
+        fn pack_bytes(&self, t: &Table<u8>, limit: u64) -> Refused<Table<u8>> {
+            wrapped_bytes(t).pack(limit).map(unwrapped_bytes).map_err(answer)
+        }
+
+        fn balance_bytes(&self, tables: &[Table], workspace: &mut [u8]) -> Refused<()> {
+            let (tables, sizes) = all_bytes(tables);
+            bytes::balance(&tables, &sizes, workspace).map_err(answer)
+        }
+
+        fn balance_bytes_with_seed(&self, tables: &[Table], seed: u64, workspace: &mut [u8]) -> Refused<()> {
+            let (tables, sizes) = all_bytes(tables);
+            bytes::balance_with_seed(&tables, &sizes, seed, workspace).map_err(answer)
         }
     }
 }

@@ -60,7 +60,12 @@ fn smaller_cases(case: &Case) -> Vec<Case> {
     with(&|c| shorten(&mut c.terminals));
     with(&|c| (c.prefixes, c.prefix_width) = (0, 1));
     with(&|c| c.extra_columns = 0);
-    with(&|c| c.count = 0);
+    with(&|c| c.edits.clear());
+    for i in 0..case.edits.len() {
+        with(&|c| _ = c.edits.remove(i));
+    }
+    with(&|c| (c.count, c.negated, c.counted) = (0, [0; 2], 0));
+    with(&|c| (c.reader, c.exponent, c.seed) = ([0; 3], 0, 0));
     with(&|c| c.limit /= 2);
     with(&|c| c.workspace = 640);
     with(&|c| c.heights = c.tables.iter().map(|t| t.height).collect());

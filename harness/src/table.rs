@@ -1,25 +1,26 @@
 //! A table in the port's flat words, and its lookups as records.
 use std::fmt;
 
+/// The lists are words, or the bytes of words.
 #[derive(Clone, Debug, Default, PartialEq, Eq)]
-pub struct Table {
+pub struct Table<W = u32> {
     pub main_width: u64,
     pub height: u64,
     pub pre_width: u64,
     pub pre_height: u64,
-    pub main: Vec<u32>,
-    pub preprocessed: Vec<u32>,
-    pub public_values: Vec<u32>,
+    pub main: Vec<W>,
+    pub preprocessed: Vec<W>,
+    pub public_values: Vec<W>,
     /// kind, a, b of each node
-    pub nodes: Vec<u32>,
+    pub nodes: Vec<W>,
     /// scope (0 local, else bus), name length, weight, column, exclusive, tuples, multiplicities, flags of each lookup
-    pub lookups: Vec<u32>,
+    pub lookups: Vec<W>,
     pub names: Vec<u8>,
     /// the width of each tuple
-    pub tuples: Vec<u32>,
-    pub multiplicities: Vec<u32>,
-    pub flags: Vec<u32>,
-    pub elements: Vec<u32>,
+    pub tuples: Vec<W>,
+    pub multiplicities: Vec<W>,
+    pub flags: Vec<W>,
+    pub elements: Vec<W>,
 }
 
 /// One lookup, its nodes by number.
@@ -55,6 +56,71 @@ pub struct Part {
     pub elements: Vec<u32>,
     pub multiplicity: u32,
     pub weight: u32,
+}
+
+/// What building is lent to read: how many locals, globals and exclusives there are, two words for each (length of its name, number of its
+/// tuples), a weight for each tuple, and the lists that the lookups will have.
+#[derive(Clone, Debug, Default, PartialEq, Eq)]
+pub struct Plan {
+    pub kinds: [u64; 3],
+    pub interactions: Vec<u32>,
+    pub weights: Vec<u32>,
+    pub lists: Table,
+}
+
+impl Interaction {
+    /// Its place in the order of building.
+    fn kind(&self) -> usize {
+        match self {
+            Interaction::Local(_) => 0,
+            Interaction::Global(..) => 1,
+            Interaction::Exclusive(..) => 2,
+        }
+    }
+
+    fn name(&self) -> &[u8] {
+        match self {
+            Interaction::Local(_) => &[],
+            Interaction::Global(name, _) | Interaction::Exclusive(name, _) => name,
+        }
+    }
+
+    /// Its tuples, each with its flag in an exclusive.
+    fn parts(&self) -> Vec<(Option<u32>, &Part)> {
+        match self {
+            Interaction::Local(parts) => parts.iter().map(|part| (None, part)).collect(),
+            Interaction::Global(_, part) => vec![(None, part)],
+            Interaction::Exclusive(_, branches) => branches.iter().map(|(flag, part)| (Some(*flag), part)).collect(),
+        }
+    }
+
+    /// Every node that it names.
+    pub fn nodes(&self) -> Vec<u32> {
+        self.parts().into_iter().flat_map(|(flag, part)| part.elements.iter().copied().chain([part.multiplicity]).chain(flag)).collect()
+    }
+}
+
+impl Plan {
+    /// The words of some interactions: locals first, then globals, then exclusives.
+    pub fn of(interactions: &[Interaction]) -> Plan {
+        let mut sorted: Vec<&Interaction> = interactions.iter().collect();
+        sorted.sort_by_key(|i| i.kind());
+        let mut plan = Plan::default();
+        let Plan { kinds, interactions, weights, lists } = &mut plan;
+        for i in sorted {
+            kinds[i.kind()] += 1;
+            interactions.extend([i.name().len() as u32, i.parts().len() as u32]);
+            lists.names.extend(i.name());
+            for (flag, part) in i.parts() {
+                weights.push(part.weight);
+                lists.tuples.push(part.elements.len() as u32);
+                lists.multiplicities.push(part.multiplicity);
+                lists.flags.extend(flag);
+                lists.elements.extend(&part.elements);
+            }
+        }
+        plan
+    }
 }
 
 pub const LOOKUP_WORDS: usize = 8;
@@ -173,6 +239,98 @@ impl Table {
     }
 }
 
+/// The sizes of a table that balance takes, as words: one that is no word is over every limit all the same.
+pub const SIZES: usize = 14;
+
+impl Table {
+    pub fn sizes(&self) -> [u32; SIZES] {
+        let Table { main, preprocessed, public_values, names, tuples, multiplicities, flags, elements, .. } = self;
+        let shape = [self.main_width, self.height, self.pre_width, self.pre_height];
+        let lists = [main.len(), preprocessed.len(), public_values.len(), self.node_count(), self.lookup_count(), names.len()];
+        let more = [tuples.len(), multiplicities.len(), flags.len(), elements.len()];
+        let mut sizes = shape.into_iter().chain(lists.into_iter().chain(more).map(|n| n as u64));
+        std::array::from_fn(|_| word(sizes.next().unwrap()))
+    }
+
+    /// The lengths of the six lists of the lookups, in the order in which they are lent.
+    pub fn lengths(&self) -> [usize; 6] {
+        let Table { lookups, names, tuples, multiplicities, flags, elements, .. } = self;
+        [lookups.len(), names.len(), tuples.len(), multiplicities.len(), flags.len(), elements.len()]
+    }
+
+    /// The lists of all tables, one table after the other.
+    pub fn joined(tables: &[Table]) -> Table {
+        let words = |list: fn(&Table) -> &[u32]| tables.iter().flat_map(list).copied().collect();
+        Table {
+            main: words(|t| &t.main),
+            preprocessed: words(|t| &t.preprocessed),
+            public_values: words(|t| &t.public_values),
+            nodes: words(|t| &t.nodes),
+            lookups: words(|t| &t.lookups),
+            names: tables.iter().flat_map(|t| &t.names).copied().collect(),
+            tuples: words(|t| &t.tuples),
+            multiplicities: words(|t| &t.multiplicities),
+            flags: words(|t| &t.flags),
+            elements: words(|t| &t.elements),
+            ..Table::default()
+        }
+    }
+
+    /// The bytes of each list, the least byte of a word first.
+    pub fn bytes(&self) -> Table<u8> {
+        Table {
+            main_width: self.main_width,
+            height: self.height,
+            pre_width: self.pre_width,
+            pre_height: self.pre_height,
+            main: bytes_of(&self.main),
+            preprocessed: bytes_of(&self.preprocessed),
+            public_values: bytes_of(&self.public_values),
+            nodes: bytes_of(&self.nodes),
+            lookups: bytes_of(&self.lookups),
+            names: self.names.clone(),
+            tuples: bytes_of(&self.tuples),
+            multiplicities: bytes_of(&self.multiplicities),
+            flags: bytes_of(&self.flags),
+            elements: bytes_of(&self.elements),
+        }
+    }
+}
+
+impl Table<u8> {
+    /// The words of each list; bytes past the last whole word are left out.
+    pub fn words(&self) -> Table {
+        Table {
+            main_width: self.main_width,
+            height: self.height,
+            pre_width: self.pre_width,
+            pre_height: self.pre_height,
+            main: words_of(&self.main),
+            preprocessed: words_of(&self.preprocessed),
+            public_values: words_of(&self.public_values),
+            nodes: words_of(&self.nodes),
+            lookups: words_of(&self.lookups),
+            names: self.names.clone(),
+            tuples: words_of(&self.tuples),
+            multiplicities: words_of(&self.multiplicities),
+            flags: words_of(&self.flags),
+            elements: words_of(&self.elements),
+        }
+    }
+}
+
+pub fn word(n: u64) -> u32 {
+    n.try_into().unwrap_or(u32::MAX)
+}
+
+pub fn bytes_of(words: &[u32]) -> Vec<u8> {
+    words.iter().flat_map(|w| w.to_le_bytes()).collect()
+}
+
+pub fn words_of(bytes: &[u8]) -> Vec<u32> {
+    bytes.as_chunks().0.iter().map(|b| u32::from_le_bytes(*b)).collect()
+}
+
 /// A key and numbers, separated by blanks; nothing for an empty list.
 pub fn line<T: fmt::Display>(key: &str, numbers: &[T]) -> String {
     if numbers.is_empty() {
@@ -213,7 +371,7 @@ impl fmt::Display for Table {
 }
 
 /// Takes so many words from the front of a list.
-fn front<'a, T>(list: &mut &'a [T], n: u32) -> &'a [T] {
+pub fn front<'a, T>(list: &mut &'a [T], n: u32) -> &'a [T] {
     let (taken, rest) = list.split_at(n as usize);
     *list = rest;
     taken

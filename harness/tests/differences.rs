@@ -1,10 +1,65 @@
-//! Where crate and specification differ: one smallest example for each line of docs/DIFFERENCES.md that a run can show.
+//! Where crate and specification differ: a test for each line of docs/DIFFERENCES.md, which names it, with the smallest example. The crate's own source
+//! runs beside the port's exported functions, or, without the feature `port`, beside the model.
 #![cfg(source)]
+use harness::exports::{Exports, marked};
 use harness::generator;
-use harness::model::{self, Answer};
-use harness::oracle;
-use harness::plain::{P, lift};
-use harness::table::{Interaction, Lookup, Part, Table};
+use harness::model::{ACCEPTED, Answer};
+use harness::oracle::{self, Run};
+use harness::plain::{Ext, P, lift};
+use harness::table::{Interaction, Lookup, Part, Plan, Table};
+
+#[cfg(feature = "port")]
+const PORT: &dyn Exports = &harness::port::Exported;
+#[cfg(not(feature = "port"))]
+const PORT: &dyn Exports = &harness::exports::Model;
+
+// The port's functions, with room for all that they write.
+
+fn generate(t: &Table, challenges: &[u32]) -> Answer {
+    PORT.generate(t, challenges, &mut vec![7; 12_000], &mut [7; 5])
+}
+
+fn constraints(t: &Table, challenges: &[u32], width: u64, trace: &[u32], terminal: Option<Ext>) -> Answer {
+    PORT.constraints(t, challenges, width, trace, marked(terminal))
+}
+
+fn degree(t: &Table, lookup: u64, transition: u32) -> Result<u64, u32> {
+    let mut degree = 7;
+    let answer = PORT.degree(t, lookup, transition, &mut degree);
+    if answer == ACCEPTED { Ok(degree) } else { Err(answer.number) }
+}
+
+fn pack(t: &Table, limit: u64) -> Answer {
+    PORT.pack(t, limit, &mut t.clone(), &mut [7; 6])
+}
+
+fn build(t: &Table, interactions: &[Interaction]) -> Answer {
+    PORT.build(t, &Plan::of(interactions), &mut [7; 1000], &mut 7)
+}
+
+fn widths(tables: &[Table]) -> Answer {
+    let sizes: Vec<u32> = tables.iter().flat_map(|t| [t.lookup_count(), t.names.len(), t.tuples.len()]).map(|n| n as u32).collect();
+    PORT.widths(&Table::joined(tables), &sizes, &mut 7)
+}
+
+fn height_bound(tables: &[Table], heights: &[u32]) -> Answer {
+    let counts: Vec<u32> = tables.iter().map(|t| t.lookup_count() as u32).collect();
+    PORT.height_bound(&Table::joined(tables).lookups, &counts, heights)
+}
+
+fn terminals(given: &[Option<Ext>]) -> Answer {
+    PORT.terminals(given.iter().map(|t| marked(*t)).collect::<Vec<_>>().as_flattened())
+}
+
+fn prefixes(width: u64, count: u64) -> Answer {
+    PORT.prefixes(&lift(1), &lift(2), width, count, &mut [7; 4 * 257])
+}
+
+fn balance(tables: &[Table], workspace: &mut [u32]) -> Answer {
+    PORT.balance(&Table::joined(tables), tables.iter().map(Table::sizes).collect::<Vec<_>>().as_flattened(), 1, workspace)
+}
+
+// The examples.
 
 fn refused(number: u32, details: [u64; 3]) -> Answer {
     Answer { number, details }
@@ -28,142 +83,541 @@ fn flagged(column: u32, flag: u32) -> Lookup {
     Lookup { exclusive: true, flags: vec![flag], ..once(column) }
 }
 
+fn wide(column: u32) -> Lookup {
+    Lookup { tuples: vec![vec![0, 0]], ..once(column) }
+}
+
+/// A preprocessed trace of one column.
+fn with_preprocessed(mut t: Table, rows: usize) -> Table {
+    (t.pre_width, t.pre_height, t.preprocessed) = (1, rows as u64, vec![0; rows]);
+    t
+}
+
+fn squared(times: usize, mut t: Table) -> Table {
+    let mut last = 0;
+    for _ in 0..times {
+        last = t.add_node(11, last, last);
+    }
+    t
+}
+
 fn pairs(n: usize) -> Vec<u32> {
     [lift(5), lift(0)].concat().repeat(n)
 }
 
-fn says<T: std::fmt::Debug>(run: oracle::Run<T>, text: &str) {
+/// The fraction of `once` on the row 3, with alpha 5.
+const HALF: u32 = 1006632961;
+
+fn trace() -> Vec<u32> {
+    [0, HALF].map(lift).concat()
+}
+
+fn says<T: std::fmt::Debug>(run: Run<T>, text: &str) {
     let message = run.expect_err("a panic");
     assert!(message.contains(text), "{message}");
 }
 
-/// Generation's answer beside the crate's.
-fn generated(t: &Table, challenges: &[u32]) -> (Answer, oracle::Run<usize>) {
-    let answer = model::generate(t, challenges, &mut vec![0; 1000]).0;
-    (answer, oracle::generate(t, challenges).map(|(trace, _)| trace.len()))
+/// The words of the crate's trace.
+fn generated(t: &Table, challenges: &[u32]) -> Run<usize> {
+    oracle::generate(t, challenges).map(|(trace, _)| trace.len())
 }
 
-#[test]
-fn several_faults() {
-    // A zero denominator in lookup 0, a flag 2 in lookup 1: the crate tests the flags of 1,024 rows before it inverts.
-    let (answer, run) = generated(&table(&[5], &[once(0), flagged(1, 3)]), &pairs(2));
-    assert_eq!(answer, refused(15, [0, 0, 0]));
-    says(run, "exclusive flag must be boolean");
-    // The same over rows: the flag is twice the last row's mark.
-    let mut t = table(&[5, 2], &[once(0), flagged(1, 5)]);
-    t.add_node(7, 0, 0);
-    t.add_node(9, 4, 4);
-    let (answer, run) = generated(&t, &pairs(2));
-    assert_eq!(answer, refused(15, [0, 0, 0]));
-    says(run, "exclusive flag must be boolean");
-}
+// Refusal 1.
 
 #[test]
-fn limits() {
-    // What passes a limit by one is refused with 1 (4 for a degree); the crate answers.
-    let mut passed = 0;
-    for (name, case) in generator::boundaries() {
+fn limits_of_a_table() {
+    let cases = generator::boundaries();
+    let names = [
+        "65 lookups",
+        "65 tuples",
+        "9 words a tuple",
+        "1025 nodes",
+        "257 main columns",
+        "65 preprocessed columns",
+        "65 public values",
+        "height 1048577",
+        "preprocessed height 1048577",
+        "17 bytes a name",
+    ];
+    for name in names {
+        let (_, case) = cases.iter().find(|(other, _)| other == name).unwrap();
         let t = &case.tables[0];
-        let number = model::generate(t, &case.challenges, &mut vec![0; case.buffer]).0.number;
-        if matches!(number, 1 | 4) && oracle::takes(t) {
-            assert!(oracle::generate(t, &case.challenges).is_ok(), "{name}");
-            passed += 1;
-        }
+        assert_eq!(generate(t, &case.challenges).number, 1, "{name}");
+        assert!(oracle::generate(t, &case.challenges).is_ok(), "{name}");
     }
-    assert_eq!(passed, 12);
-    assert_eq!(model::prefixes(lift(1), lift(2), 256, 257).0, refused(1, [0; 3]));
-    assert_eq!(oracle::prefixes(lift(1), lift(2), 256, 257).map(|p| p.len()), Ok(257));
+}
+
+#[test]
+fn seventeen_tables() {
     let many = vec![table(&[1], &[]); 17];
-    assert_eq!(model::balance(&many, &mut []), refused(1, [0; 3]));
-    assert_eq!(oracle::balance(&many), Ok(()));
+    assert_eq!((balance(&many, &mut []).number, oracle::balance(&many)), (1, Ok(())));
+    assert_eq!((widths(&many).number, oracle::widths(&many)), (1, Ok(Ok(0))));
+    assert_eq!((height_bound(&many, &[1; 17]).number, oracle::height_bound(&many, &[1; 17])), (1, Ok(Ok(()))));
 }
 
 #[test]
-fn lists_of_a_lookup() {
-    // Columns 0, 5: generation panics, the constraints read columns 1 and 6 of a trace that has them.
+fn seventeen_terminals() {
+    assert_eq!((terminals(&[None; 17]).number, oracle::terminals(&[None; 17])), (1, Ok(true)));
+}
+
+#[test]
+fn many_and_wide_prefixes() {
+    for (width, count) in [(1, 257), (256, 1)] {
+        assert_eq!(prefixes(width, count).number, 1);
+        assert_eq!(oracle::prefixes(lift(1), lift(2), width, count).map(|p| p.len() as u64), Ok(count));
+    }
+}
+
+#[test]
+fn limits_of_building() {
+    let part = |width: usize| Part { elements: vec![0; width], multiplicity: 2, weight: 1 };
+    let global = |bytes: usize, width: usize| Interaction::Global(vec![b'x'; bytes], part(width));
+    let t = table(&[3], &[]);
+    for interactions in [vec![global(1, 1); 65], vec![Interaction::Local(vec![part(1); 65])], vec![global(1, 9)], vec![global(17, 1)]] {
+        assert_eq!(build(&t, &interactions).number, 1);
+        assert_eq!(oracle::build(&t, &interactions).map(|built| built.len()), Ok(interactions.len()));
+    }
+}
+
+#[test]
+fn full_table_of_nodes() {
+    let (mut nodes, mut count) = (vec![0; 3 * 1025], [7; 2]);
+    assert_eq!(PORT.count_from_i32(&mut nodes, 1024, 1, &mut count).number, 1);
+    assert_eq!(PORT.count_negated(&mut nodes, 1024, [0, 1], &mut count).number, 1);
+    assert_eq!(oracle::count_from(1), Ok(([0, 1, 0], 1)));
+}
+
+#[test]
+fn transition_degree_2() {
+    let mut t = table(&[3], &[once(0)]);
+    t.nodes[..3].copy_from_slice(&[8, 0, 0]);
+    assert_eq!((degree(&t, 0, 1), oracle::degree(&t, 0, 1)), (Ok(2), Ok(2)));
+    assert_eq!((degree(&t, 0, 2), oracle::degree(&t, 0, 2)), (Err(1), Ok(3)));
+}
+
+#[test]
+fn main_width_0() {
+    let t = Table { main_width: 0, height: 0, ..table(&[], &[]) };
+    assert_eq!((generate(&t, &[]).number, generated(&t, &[])), (1, Ok(0)));
+    assert_eq!((balance(std::slice::from_ref(&t), &mut []).number, oracle::balance(&[t])), (1, Ok(())));
+}
+
+#[test]
+fn tests_without_lookups() {
+    let mut wide = table(&[3; 257], &[]);
+    (wide.main_width, wide.height) = (257, 1);
+    let mut absent = table(&[3], &[]);
+    absent.add_node(1, 1, 0);
+    for (t, number) in [(wide, 1), (absent, 3), (squared(8, table(&[3], &[])), 4)] {
+        assert_eq!((generate(&t, &[]).number, generated(&t, &[])), (number, Ok(0)));
+        assert_eq!(constraints(&t, &[], 0, &[], None).number, number);
+        assert_eq!(oracle::constraints(&t, &[], 0, &[], None), Ok(None));
+        assert_eq!((balance(std::slice::from_ref(&t), &mut []).number, oracle::balance(&[t])), (number, Ok(())));
+    }
+}
+
+#[test]
+fn sizes_at_odds() {
+    let mut t = table(&[3, 4], &[]);
+    t.main.pop();
+    assert_eq!(generate(&t, &[]).number, 1);
+    assert_eq!(generate(&table(&[3], &[]), &[1, 2, 3]).number, 1);
+}
+
+#[test]
+fn heights_missing() {
+    let t = table(&[3], &[]);
+    assert_eq!(height_bound(std::slice::from_ref(&t), &[]).number, 1);
+    says(oracle::height_bound(&[t], &[]), "aligned per AIR");
+}
+
+// Refusals 2 to 5.
+
+#[test]
+fn word_too_large() {
+    assert_eq!(generate(&table(&[P], &[]), &[]).number, 2);
+    // A challenge and a constant; preprocessed rows past main's height and constants that nothing uses are tested too.
+    assert_eq!(generate(&table(&[3], &[]), &[P, 0, 0, 0]).number, 2);
+    let mut t = table(&[3], &[]);
+    t.add_node(0, P, 0);
+    assert_eq!(generate(&t, &[]).number, 2);
+    let mut t = with_preprocessed(table(&[3], &[once(0)]), 2);
+    assert_eq!(generate(&t, &pairs(1)).number, 0);
+    t.preprocessed[1] = P;
+    assert_eq!(generate(&t, &pairs(1)).number, 2);
+}
+
+#[test]
+fn malformed_nodes() {
+    for node in [[9, 4, 1], [12, 4, 0], [13, 0, 0]] {
+        let mut t = table(&[3], &[once(0)]);
+        t.nodes.extend(node);
+        assert_eq!(generate(&t, &pairs(1)).number, 3);
+    }
+    assert_eq!(PORT.count_negated(&mut [0; 9], 2, [2, 1], &mut [7; 2]).number, 3);
+}
+
+#[test]
+fn absent_column_or_public_value() {
+    let part = Part { elements: vec![0], multiplicity: 2, weight: 1 };
+    for node in [[1, 1, 0], [2, 1, 0], [3, 0, 0], [4, 0, 0], [5, 0, 0]] {
+        let mut t = table(&[3], &[once(0)]);
+        t.nodes[..3].copy_from_slice(&node);
+        assert_eq!((pack(&t, 9).number, oracle::pack(&t, 9)), (3, Ok(t.records())));
+        assert_eq!((degree(&t, 0, 0), oracle::degree(&t, 0, 0)), (Err(3), Ok(if node[0] == 5 { 1 } else { 2 })));
+        let interactions = [Interaction::Global(b"mem".to_vec(), part.clone())];
+        assert_eq!((build(&t, &interactions).number, oracle::build(&t, &interactions)), (3, Ok(t.records())));
+        // Generation and balance read the column.
+        assert_eq!(generate(&t, &pairs(1)).number, 3);
+        says(generated(&t, &pairs(1)), "index out of bounds");
+        assert_eq!(balance(std::slice::from_ref(&t), &mut []).number, 3);
+        says(oracle::balance(&[t]), "index out of bounds");
+        // In a node that nothing uses, they do not.
+        let mut t = table(&[3], &[once(0)]);
+        t.nodes.extend(node);
+        assert_eq!((generate(&t, &pairs(1)).number, generated(&t, &pairs(1))), (3, Ok(8)));
+    }
+}
+
+#[test]
+fn degree_over_255() {
+    // In a node that nothing uses.
+    let t = squared(8, table(&[3], &[once(0)]));
+    assert_eq!((generate(&t, &pairs(1)).number, generated(&t, &pairs(1))), (4, Ok(8)));
+    // In a tuple.
+    let mut t = t;
+    t.elements = vec![11];
+    assert_eq!((degree(&t, 0, 0), oracle::degree(&t, 0, 0)), (Err(4), Ok(257)));
+    assert_eq!((pack(&t, 9).number, oracle::pack(&t, 9)), (4, Ok(t.records())));
+}
+
+#[test]
+fn columns_0_and_5() {
     let t = table(&[3], &[once(0), once(5)]);
-    let (answer, run) = generated(&t, &pairs(6));
-    assert_eq!(answer.number, 5);
-    says(run, "lookup slot index");
-    let half = 1006632961;
-    let trace = [0, half, 9, 9, 9, 9, half].map(lift).concat();
-    assert_eq!(model::constraints(&t, &pairs(6), 7, &trace, Some(lift(1))).number, 5);
+    assert_eq!(generate(&t, &pairs(6)).number, 5);
+    says(generated(&t, &pairs(6)), "lookup slot index");
+    // The constraints read columns 1 and 6 of a trace that has them.
+    let trace = [0, HALF, 9, 9, 9, 9, HALF].map(lift).concat();
+    assert_eq!(constraints(&t, &pairs(6), 7, &trace, Some(lift(1))).number, 5);
     assert_eq!(oracle::constraints(&t, &pairs(6), 7, &trace, Some(lift(1))), Ok(None));
-    // One multiplicity too many: generation passes over it, the constraints panic.
-    let t = table(&[3], &[Lookup { multiplicities: vec![2, 2], ..once(0) }]);
-    let (answer, run) = generated(&t, &pairs(1));
-    assert_eq!((answer.number, run), (5, Ok(8)));
-    says(oracle::constraints(&t, &pairs(1), 2, &[0, half].map(lift).concat(), Some(lift(half))), "Mismatched lengths");
-    // Exclusive without its flag: generation panics, the constraints take it as additive.
-    let t = table(&[3], &[Lookup { exclusive: true, ..once(0) }]);
-    let (answer, run) = generated(&t, &pairs(1));
-    assert_eq!(answer.number, 5);
-    says(run, "index out of bounds");
-    assert_eq!(oracle::constraints(&t, &pairs(1), 2, &[0, half].map(lift).concat(), Some(lift(half))), Ok(None));
+}
+
+/// Bus widths, height bound and packing of one lookup: the crate looks at none of the three numbers.
+fn passed_on(t: &Table) {
+    assert_eq!((pack(t, 9).number, oracle::pack(t, 9)), (5, Ok(t.records())));
+    assert_eq!((widths(std::slice::from_ref(t)).number, oracle::widths(std::slice::from_ref(t))), (5, Ok(Ok(1))));
+    let bound = oracle::height_bound(std::slice::from_ref(t), &[1]);
+    assert_eq!((height_bound(std::slice::from_ref(t), &[1]).number, bound), (5, Ok(Ok(()))));
 }
 
 #[test]
-fn challenges_and_rows() {
+fn one_multiplicity_too_many() {
+    let t = table(&[3], &[Lookup { multiplicities: vec![2, 2], ..once(0) }]);
+    // Generation and balance pass over it, constraints and degree panic.
+    assert_eq!((generate(&t, &pairs(1)).number, generated(&t, &pairs(1))), (5, Ok(8)));
+    assert_eq!(constraints(&t, &pairs(1), 2, &trace(), Some(lift(HALF))).number, 5);
+    says(oracle::constraints(&t, &pairs(1), 2, &trace(), Some(lift(HALF))), "Mismatched lengths");
+    assert_eq!(degree(&t, 0, 0), Err(5));
+    says(oracle::degree(&t, 0, 0), "assertion failed");
+    passed_on(&t);
+    let t = table(&[3], &[Lookup { multiplicities: vec![1, 2], ..once(0) }]);
+    assert_eq!((balance(std::slice::from_ref(&t), &mut []).number, oracle::balance(&[t])), (5, Ok(())));
+    // Merged with a lookup that has one too few, the numbers are right.
+    let two = [Lookup { multiplicities: vec![2, 2], ..once(0) }, Lookup { multiplicities: vec![], ..once(1) }];
+    let t = table(&[3], &two);
+    assert_eq!((pack(&t, 9).number, oracle::pack(&t, 9).map(|packed| packed.len())), (5, Ok(1)));
+}
+
+#[test]
+fn one_multiplicity_too_few() {
+    let t = table(&[3], &[Lookup { multiplicities: vec![], ..once(0) }]);
+    assert_eq!(generate(&t, &pairs(1)).number, 5);
+    says(generated(&t, &pairs(1)), "index out of bounds");
+    assert_eq!(constraints(&t, &pairs(1), 2, &trace(), Some(lift(HALF))).number, 5);
+    says(oracle::constraints(&t, &pairs(1), 2, &trace(), Some(lift(HALF))), "Mismatched lengths");
+    assert_eq!(degree(&t, 0, 0), Err(5));
+    says(oracle::degree(&t, 0, 0), "assertion failed");
+    passed_on(&t);
+    assert_eq!(balance(std::slice::from_ref(&t), &mut []).number, 5);
+    says(oracle::balance(&[t]), "index out of bounds");
+}
+
+#[test]
+fn exclusive_without_its_flag() {
+    let t = table(&[3], &[Lookup { exclusive: true, ..once(0) }]);
+    assert_eq!(generate(&t, &pairs(1)).number, 5);
+    says(generated(&t, &pairs(1)), "index out of bounds");
+    // The constraints take it as additive.
+    assert_eq!(constraints(&t, &pairs(1), 2, &trace(), Some(lift(HALF))).number, 5);
+    assert_eq!(oracle::constraints(&t, &pairs(1), 2, &trace(), Some(lift(HALF))), Ok(None));
+    assert_eq!(degree(&t, 0, 0), Err(5));
+    says(oracle::degree(&t, 0, 0), "zip_eq");
+    passed_on(&t);
+    assert_eq!(balance(std::slice::from_ref(&t), &mut []).number, 5);
+    says(oracle::balance(&[t]), "index out of bounds");
+}
+
+#[test]
+fn absent_node_or_additive_with_flags() {
+    for lookup in [Lookup { multiplicities: vec![4], ..once(0) }, Lookup { flags: vec![2], ..once(0) }] {
+        let t = table(&[3], &[lookup]);
+        assert_eq!(generate(&t, &pairs(1)).number, 5);
+        assert_eq!(pack(&t, 9).number, 5);
+    }
+}
+
+// Refusals 6 to 12.
+
+#[test]
+fn widths_differ() {
+    let t = table(&[3], &[once(0), wide(1)]);
+    assert_eq!(pack(&t, 9), refused(6, [1, 1, 2]));
+    says(oracle::pack(&t, 9), "tuple widths 1 and 2 differ");
+    assert_eq!(widths(std::slice::from_ref(&t)), refused(6, [1, 1, 2]));
+    assert_eq!(oracle::widths(&[t]), Ok(Err((1, 2))));
+    let part = |width| Part { elements: vec![0; width], multiplicity: 2, weight: u32::MAX };
+    let local = |widths: [usize; 2]| [Interaction::Local(widths.map(part).to_vec())];
+    let t = table(&[3], &[]);
+    assert_eq!(build(&t, &local([2, 3])), refused(6, [0, 2, 3]));
+    says(oracle::build(&t, &local([2, 3])), "local lookup: tuple widths 2 and 3 differ");
+}
+
+#[test]
+fn weight_too_large() {
+    let t = table(&[3], &[Lookup { weight: u32::MAX, ..once(0) }, once(1)]);
+    assert_eq!(pack(&t, 9).number, 7);
+    says(oracle::pack(&t, 9), "count_weight overflow");
+}
+
+#[test]
+fn challenges_too_many() {
     let t = table(&[3], &[once(0)]);
-    // More challenges than two for each lookup: the crate leaves them aside. Fewer: it panics.
-    let (answer, run) = generated(&t, &pairs(2));
-    assert_eq!((answer.number, run), (8, Ok(8)));
-    let (answer, run) = generated(&t, &pairs(1)[..4]);
-    assert_eq!(answer.number, 8);
-    says(run, "index out of bounds");
-    // No rows; a preprocessed trace with fewer rows than main.
-    let (answer, run) = generated(&table(&[], &[once(0)]), &pairs(1));
-    assert_eq!(answer.number, 9);
-    says(run, "");
-    let mut t = table(&[3, 4], &[once(0)]);
-    (t.pre_width, t.pre_height, t.preprocessed) = (1, 1, vec![0]);
-    let (answer, run) = generated(&t, &pairs(1));
-    assert_eq!(answer.number, 9);
-    says(run, "unwrap");
-    assert_eq!(model::balance(std::slice::from_ref(&t), &mut []).number, 9);
+    assert_eq!((generate(&t, &pairs(2)).number, generated(&t, &pairs(2))), (8, Ok(8)));
+}
+
+#[test]
+fn challenges_too_few() {
+    let t = table(&[3], &[once(0)]);
+    assert_eq!(generate(&t, &pairs(1)[..4]).number, 8);
+    says(generated(&t, &pairs(1)[..4]), "index out of bounds");
+    assert_eq!(constraints(&t, &pairs(1)[..4], 2, &trace(), Some(lift(HALF))).number, 8);
+    says(oracle::constraints(&t, &pairs(1)[..4], 2, &trace(), Some(lift(HALF))), "Insufficient permutation challenges");
+}
+
+#[test]
+fn rows_missing() {
+    let t = table(&[], &[once(0)]);
+    assert_eq!(generate(&t, &pairs(1)).number, 9);
+    says(generated(&t, &pairs(1)), "");
+    let t = with_preprocessed(table(&[3, 4], &[once(0)]), 1);
+    assert_eq!(generate(&t, &pairs(1)).number, 9);
+    says(generated(&t, &pairs(1)), "unwrap");
+    assert_eq!(balance(std::slice::from_ref(&t), &mut []).number, 9);
     says(oracle::balance(&[t]), "unwrap");
 }
 
 #[test]
-fn panics_of_the_other_functions() {
+fn short_buffer() {
     let t = table(&[3], &[once(0)]);
-    let trace = [0, 1006632961].map(lift).concat();
-    assert_eq!(model::constraints(&t, &pairs(1), 2, &trace, None).number, 11);
-    says(oracle::constraints(&t, &pairs(1), 2, &trace, None), "permutation values count mismatch");
-    assert_eq!(model::constraints(&t, &pairs(1), 1, &trace[..4], Some(lift(0))).number, 10);
-    says(oracle::constraints(&t, &pairs(1), 1, &trace[..4], Some(lift(0))), "unwrap");
-    let wide = Lookup { tuples: vec![vec![0, 0]], ..once(1) };
-    let t = table(&[3], &[once(0), wide]);
-    assert_eq!(model::pack(&t, 9).0, refused(6, [1, 1, 2]));
-    says(oracle::pack(&t, 9), "tuple widths 1 and 2 differ");
-    assert_eq!(model::widths(std::slice::from_ref(&t)).0, refused(6, [1, 1, 2]));
-    assert_eq!(oracle::widths(&[t]), Ok(Err((1, 2))));
-    let t = table(&[3], &[Lookup { weight: u32::MAX, ..once(0) }, once(1)]);
-    assert_eq!(model::pack(&t, 9).0.number, 7);
-    says(oracle::pack(&t, 9), "count_weight overflow");
-    assert_eq!(model::height_bound(std::slice::from_ref(&t), &[]).number, 1);
-    says(oracle::height_bound(&[t], &[]), "aligned per AIR");
-    let part = |width| Part { elements: vec![0; width], multiplicity: 2, weight: u32::MAX };
-    let local = |widths: [usize; 2]| [Interaction::Local(widths.map(part).to_vec())];
-    let t = table(&[3], &[]);
-    assert_eq!(model::build(&t, &local([2, 3])).0, refused(6, [0, 2, 3]));
-    says(oracle::build(&t, &local([2, 3])), "local lookup: tuple widths 2 and 3 differ");
-    assert_eq!(oracle::build(&t, &local([2, 2])), Ok(model::build(&t, &local([2, 2])).1));
-    assert_eq!(model::prefixes(lift(1), lift(2), 0, 1).0.number, 12);
-    says(oracle::prefixes(lift(1), lift(2), 0, 1), "max_message_width must be non-zero");
+    assert_eq!(PORT.generate(&t, &pairs(1), &mut [7; 7], &mut [7; 5]).number, 10);
+    assert_eq!(generated(&t, &pairs(1)), Ok(8));
 }
 
 #[test]
-fn workspace() {
-    // (9) and (10) are both unbalanced: the panic names (10). The crate has no slots to run out of.
+fn narrow_trace() {
+    let t = table(&[3], &[once(0)]);
+    assert_eq!(constraints(&t, &pairs(1), 1, &lift(0), Some(lift(0))).number, 10);
+    says(oracle::constraints(&t, &pairs(1), 1, &lift(0), Some(lift(0))), "unwrap");
+}
+
+#[test]
+fn terminal_misplaced() {
+    let t = table(&[3], &[once(0)]);
+    assert_eq!(constraints(&t, &pairs(1), 2, &trace(), None).number, 11);
+    says(oracle::constraints(&t, &pairs(1), 2, &trace(), None), "permutation values count mismatch");
+    let t = table(&[3], &[]);
+    assert_eq!(constraints(&t, &[], 0, &[], Some(lift(0))).number, 11);
+    says(oracle::constraints(&t, &[], 0, &[], Some(lift(0))), "permutation values count mismatch");
+}
+
+#[test]
+fn prefixes_of_width_0() {
+    assert_eq!(prefixes(0, 1).number, 12);
+    says(oracle::prefixes(lift(1), lift(2), 0, 1), "max_message_width must be non-zero");
+}
+
+// Refusals 13 to 20.
+
+#[test]
+fn faults_of_a_row() {
+    let two = Lookup { exclusive: true, tuples: vec![vec![0]; 2], multiplicities: vec![2; 2], flags: vec![2; 2], ..once(0) };
+    let cases = [
+        (table(&[3], &[flagged(0, 3)]), 13, "exclusive flag must be boolean"),
+        (table(&[3], &[two]), 14, "exclusive flags must sum to at most one per row"),
+        (table(&[5], &[once(0)]), 15, "Tried to invert zero"),
+    ];
+    for (t, number, text) in cases {
+        assert_eq!(generate(&t, &pairs(1)), refused(number, [0; 3]));
+        says(generated(&t, &pairs(1)), text);
+    }
+    // On row 1, in lookup 1.
+    assert_eq!(generate(&table(&[3, 5], &[flagged(0, 1), once(1)]), &pairs(2)), refused(15, [1, 1, 0]));
+}
+
+#[test]
+fn workspace_full() {
+    // Each row's tuple with 1, and with -1.
+    let mut t = table(&[9, 10], &[Lookup { tuples: vec![vec![0]; 2], multiplicities: vec![2, 4], ..once(0) }]);
+    t.add_node(12, 2, 0);
+    let tables = [t];
+    assert_eq!((balance(&tables, &mut [7; 19]), oracle::balance(&tables)), (refused(16, [0; 3]), Ok(())));
+    assert_eq!(balance(&tables, &mut [7; 20]), ACCEPTED);
+}
+
+#[test]
+fn unbalanced() {
+    // (9) and (10) are both unbalanced: both name (10).
     let tables = [table(&[9, 10], &[once(0)])];
     let mut workspace = [7; 25];
-    assert_eq!(model::balance(&tables, &mut workspace), refused(18, [0, 1, 1]));
+    assert_eq!(balance(&tables, &mut workspace), refused(18, [0, 1, 1]));
     assert_eq!(workspace, [1, 9, 0, 0, 0, 0, 0, 0, 0, 1, 1, 10, 0, 0, 0, 0, 0, 0, 0, 1, 0, 0, 0, 0, 0]);
+    says(oracle::balance(&tables), "(global lookup 'mem'): tuple [\"10\"] has net multiplicity 1.");
+}
+
+#[test]
+fn sums() {
+    let t = [table(&[3], &[Lookup { weight: P, ..once(0) }])];
+    assert_eq!((height_bound(&t, &[1]), oracle::height_bound(&t, &[1])), (refused(19, [P.into(), 0, 0]), Ok(Err(P.into()))));
+    let ones = [Some(lift(1)); 2];
+    assert_eq!((terminals(&ones).number, oracle::terminals(&ones)), (20, Ok(false)));
+}
+
+// Which of several faults is named.
+
+#[test]
+fn flags_before_denominators() {
+    // A zero denominator in lookup 0, a flag 2 in lookup 1: the crate tests the flags of 1,024 rows before it inverts.
+    let t = table(&[5], &[once(0), flagged(1, 3)]);
+    assert_eq!(generate(&t, &pairs(2)), refused(15, [0, 0, 0]));
+    says(generated(&t, &pairs(2)), "exclusive flag must be boolean");
+    // The same over rows: the flag is twice the last row's mark.
+    let mut t = table(&[5, 2], &[once(0), flagged(1, 5)]);
+    t.add_node(7, 0, 0);
+    t.add_node(9, 4, 4);
+    assert_eq!(generate(&t, &pairs(2)), refused(15, [0, 0, 0]));
+    says(generated(&t, &pairs(2)), "exclusive flag must be boolean");
+}
+
+#[test]
+fn faults_before_missing_rows() {
+    // Row 0 has both of its preprocessed rows.
+    let t = with_preprocessed(table(&[3; 3], &[flagged(0, 3)]), 2);
+    assert_eq!(generate(&t, &pairs(1)).number, 9);
+    says(generated(&t, &pairs(1)), "exclusive flag must be boolean");
+    // So have the first 1,024 rows, whose denominators are inverted before the next are looked at.
+    let t = with_preprocessed(table(&[5; 1026], &[once(0)]), 1025);
+    assert_eq!(generate(&t, &pairs(1)).number, 9);
+    says(generated(&t, &pairs(1)), "Tried to invert zero");
+}
+
+#[test]
+fn terminal_before_other_faults() {
+    // No terminal, and one challenge; a trace of one column; one multiplicity too many.
+    let t = table(&[3], &[once(0)]);
+    let many = table(&[3], &[Lookup { multiplicities: vec![2, 2], ..once(0) }]);
+    for (t, challenges, width, number) in [(&t, &pairs(1)[..4], 2, 8), (&t, &pairs(1), 1, 10), (&many, &pairs(1), 2, 5)] {
+        let trace = &trace()[..4 * width as usize];
+        assert_eq!(constraints(t, challenges, width, trace, None).number, number);
+        says(oracle::constraints(t, challenges, width, trace, None), "permutation values count mismatch");
+    }
+}
+
+#[test]
+fn narrow_trace_before_challenges() {
+    // Lookup 0 has no column, lookup 1 one challenge.
+    let t = table(&[3], &[once(0), once(1)]);
+    let challenges = &pairs(2)[..12];
+    assert_eq!(constraints(&t, challenges, 1, &lift(0), Some(lift(0))).number, 8);
+    says(oracle::constraints(&t, challenges, 1, &lift(0), Some(lift(0))), "unwrap");
+}
+
+#[test]
+fn challenges_before_lists() {
+    let t = table(&[3], &[Lookup { multiplicities: vec![], ..once(0) }]);
+    assert_eq!(generate(&t, &pairs(1)[..4]).number, 5);
+    says(generated(&t, &pairs(1)[..4]), "the len is 1 but the index is 1");
+}
+
+#[test]
+fn widths_and_weights_before_nodes_and_lists() {
+    // Two widths, or two weights that are too large together, with an absent column, a degree that is too high, or a multiplicity too many.
+    let many = Lookup { multiplicities: vec![2, 2], ..once(0) };
+    let heavy = [Lookup { weight: u32::MAX, ..once(0) }, once(1)];
+    for (lookups, text) in [([once(0), wide(1)], "tuple widths 1 and 2 differ"), (heavy, "count_weight overflow")] {
+        let mut absent = table(&[3], &lookups);
+        absent.add_node(1, 1, 0);
+        for (t, number) in [(absent, 3), (squared(8, table(&[3], &lookups)), 4)] {
+            assert_eq!(pack(&t, 9).number, number);
+            says(oracle::pack(&t, 9), text);
+        }
+    }
+    let t = table(&[3], &[many, wide(1)]);
+    assert_eq!(pack(&t, 9).number, 5);
+    says(oracle::pack(&t, 9), "tuple widths 1 and 2 differ");
+    assert_eq!((widths(std::slice::from_ref(&t)).number, oracle::widths(&[t])), (5, Ok(Err((1, 2)))));
+    let heavy = [table(&[3], &[Lookup { weight: P, multiplicities: vec![2, 2], ..once(0) }])];
+    assert_eq!((height_bound(&heavy, &[1]).number, oracle::height_bound(&heavy, &[1])), (5, Ok(Err(P.into()))));
+    // A local of two widths, built for a table with an absent column.
+    let part = |width| Part { elements: vec![0; width], multiplicity: 2, weight: 1 };
+    let mut t = table(&[3], &[]);
+    t.add_node(1, 1, 0);
+    assert_eq!(build(&t, &[Interaction::Local(vec![part(1), part(2)])]).number, 3);
+    says(oracle::build(&t, &[Interaction::Local(vec![part(1), part(2)])]), "tuple widths 1 and 2 differ");
+}
+
+#[test]
+fn width_0_before_many_prefixes() {
+    assert_eq!(prefixes(0, 257).number, 1);
+    says(oracle::prefixes(lift(1), lift(2), 0, 257), "max_message_width must be non-zero");
+}
+
+#[test]
+fn unbalanced_local_before_missing_rows() {
+    let local = table(&[3], &[Lookup { bus: None, ..once(0) }]);
+    let short = with_preprocessed(table(&[3, 4], &[once(0)]), 1);
+    let tables = [local, short];
+    assert_eq!(balance(&tables, &mut [7; 10]).number, 9);
+    says(oracle::balance(&tables), "(instance 0 local lookup 0): tuple [\"3\"] has net multiplicity 1.");
+}
+
+#[test]
+fn workspace_before_nets() {
+    // Two tuples, both unbalanced, and one slot.
+    let tables = [table(&[9, 10], &[once(0)])];
+    assert_eq!(balance(&tables, &mut [7; 19]).number, 16);
     says(oracle::balance(&tables), "tuple [\"10\"] has net multiplicity 1.");
-    assert_eq!(model::balance(&tables, &mut [7; 19]), refused(16, [0; 3]));
-    // Sums are compared with the prime in both.
-    let t = table(&[3], &[Lookup { weight: P, ..once(0) }]);
-    assert_eq!(model::height_bound(std::slice::from_ref(&t), &[1]), refused(19, [P.into(), 0, 0]));
-    assert_eq!(oracle::height_bound(&[t], &[1]), Ok(Err(P.into())));
+}
+
+// What the page says beside the table.
+
+#[test]
+fn degrees_are_not_folded() {
+    // The column times 0.
+    let mut t = table(&[3], &[once(0)]);
+    t.elements = vec![t.add_node(11, 0, 1)];
+    assert_eq!((degree(&t, 0, 0), oracle::degree(&t, 0, 0)), (Ok(2), Ok(2)));
+}
+
+#[test]
+fn names_are_bytes() {
+    let named = |name: &[u8], column| Lookup { bus: Some(name.to_vec()), ..once(column) };
+    let t = table(&[3], &[named(b"a", 0), named(b"a\0", 1), named(b"\xff", 2), named(b"", 3)]);
+    assert_eq!(pack(&t, 9).number, 0);
+    assert_eq!(oracle::pack(&t, 9), Ok(t.records()));
+}
+
+#[test]
+fn inverse_of_zero() {
+    let mut out = [7; 4];
+    assert_eq!((PORT.inverse(&[0; 4], &mut out), out), (0, [0; 4]));
 }

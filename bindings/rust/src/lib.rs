@@ -55,6 +55,25 @@ pub struct Lookup {
     pub flags: Vec<u32>,
 }
 
+/// A signed multiplicity (`Count`): the node that has it, and its weight, a bound on its magnitude.
+///
+/// ```
+/// use delmatik::Count;
+///
+/// // A node is three words: kind, a, b. The constant -2, and its negation.
+/// let mut nodes = vec![];
+/// let minus_two = Count::from_i32(&mut nodes, -2).unwrap();
+/// assert_eq!(minus_two, Count { node: 0, weight: 2 });
+/// let two = minus_two.negated(&mut nodes).unwrap();
+/// assert_eq!(two, Count { node: 1, weight: 2 });
+/// assert_eq!(nodes, [0, 2013265919, 0, 12, 0, 0]);
+/// ```
+#[derive(Clone, Copy, Debug, PartialEq, Eq)]
+pub struct Count {
+    pub node: u32,
+    pub weight: u32,
+}
+
 /// A tuple before its lookup is built: its nodes, its multiplicity's node and its weight.
 #[derive(Clone, Debug, Default, PartialEq, Eq)]
 pub struct Part {
@@ -121,6 +140,55 @@ macro_rules! call {
 }
 #[cfg(feature = "bytes")]
 pub(crate) use call;
+
+impl Count {
+    /// A count that the table's constraints keep within a bound.
+    pub fn bounded(node: u32, weight: u32) -> Count {
+        let mut count = [0; 2];
+        unsafe { sys::delmatik_count_bounded(node, weight, &mut count) };
+        Count::of(count)
+    }
+
+    /// A provided entry, which the height bound leaves out.
+    pub fn provided(node: u32) -> Count {
+        let mut count = [0; 2];
+        unsafe { sys::delmatik_count_provided(node, &mut count) };
+        Count::of(count)
+    }
+
+    /// The count of a number: a constant is added to the table's nodes, three words each.
+    pub fn from_i32(nodes: &mut Vec<u32>, x: i32) -> Result<Count, Refusal> {
+        with_node(nodes, |nodes, used| {
+            let mut count = [0; 2];
+            call! { delmatik_count_from_i32([mut nodes], used, x, &mut count,) }?;
+            Ok(Count::of(count))
+        })
+    }
+
+    /// The count with the other sign: a negation is added to the table's nodes, three words each.
+    pub fn negated(self, nodes: &mut Vec<u32>) -> Result<Count, Refusal> {
+        with_node(nodes, |nodes, used| {
+            let mut count = [0; 2];
+            call! { delmatik_count_negated([mut nodes], used, self.node, self.weight, &mut count,) }?;
+            Ok(Count::of(count))
+        })
+    }
+
+    fn of([node, weight]: [u32; 2]) -> Count {
+        Count { node, weight }
+    }
+}
+
+/// Lends a function the nodes with room for one more, and how many there are. Where it refuses, they are what they were.
+fn with_node<T>(nodes: &mut Vec<u32>, add: impl FnOnce(&mut [u32], usize) -> Result<T, Refusal>) -> Result<T, Refusal> {
+    let (words, used) = (nodes.len(), nodes.len() / 3);
+    nodes.resize(3 * used + 3, 0);
+    let added = add(nodes, used);
+    if added.is_err() {
+        nodes.truncate(words);
+    }
+    added
+}
 
 impl Interaction {
     /// Its place in the order of building.
@@ -303,6 +371,22 @@ impl Table {
         }
         sizes
     }
+}
+
+/// Row `row` of a trace of so many lookups and rows: its accumulator and its fractions, four words each. It is empty past the last row or the
+/// words, and without lookups.
+///
+/// ```
+/// // One lookup, two rows: fractions 6 and 7.
+/// let trace = [0, 0, 0, 0, 6, 0, 0, 0, 6, 0, 0, 0, 7, 0, 0, 0];
+/// assert_eq!(delmatik::row(&trace, 1, 2, 1), [6, 0, 0, 0, 7, 0, 0, 0]);
+/// assert_eq!(delmatik::row(&trace, 1, 2, 2), []);
+/// ```
+pub fn row(trace: &[u32], lookups: usize, height: usize, row: u64) -> &[u32] {
+    let mut part = [0; 2];
+    unsafe { sys::delmatik_row(trace.as_ptr(), trace.len(), lookups, height, row, &mut part) };
+    let [start, words] = part.map(|n: u64| n as usize);
+    &trace[start..start + words]
 }
 
 /// A number as a word; one that is no word is over every limit all the same.

@@ -1,5 +1,6 @@
 //! The functions as they are exported. Each gives the number of a refusal (docs/SPECIFICATION.md), 0 where nothing is refused, and writes
-//! three details. It takes any words and lengths: it tests them itself, and reads and writes the lent slices alone.
+//! three details; what else is lent for writing is untouched by refusals 1 to 12, but the rooms of the functions on bytes, which are working
+//! memory. It takes any words and lengths: it tests them itself, and reads and writes the lent slices alone.
 
 /// The declaration of an exported function: `[name: type]` is a slice, which is lent as a pointer and a length.
 macro_rules! export {
@@ -44,6 +45,10 @@ export!(delmatik_build(
     [interactions: u32], [weights: u32], [names: u8], [tuples: u32], [multiplicities: u32], [flags: u32], [elements: u32],
     [lookups_out: mut u32], used: *mut u64, details: *mut [u64; 3],
 ));
+export!(delmatik_count_from_i32([nodes: mut u32], used: usize, x: i32, count: *mut [u32; 2], details: *mut [u64; 3],));
+export!(delmatik_count_negated(
+    [nodes: mut u32], used: usize, node: u32, weight: u32, count: *mut [u32; 2], details: *mut [u64; 3],
+));
 export!(delmatik_widths([lookups: u32], [names: u8], [tuples: u32], [sizes: u32], widest: *mut u64, details: *mut [u64; 3],));
 export!(delmatik_height_bound([lookups: u32], [counts: u32], [heights: u32], details: *mut [u64; 3],));
 export!(delmatik_terminals([terminals: u32], details: *mut [u64; 3],));
@@ -71,3 +76,10 @@ export!(delmatik_balance_bytes(
 ));
 export!(delmatik_power([a: u32], n: u32, [out: mut u32],));
 export!(delmatik_inverse([a: u32], [out: mut u32],));
+
+// These refuse nothing, and return nothing.
+unsafe extern "C" {
+    pub fn delmatik_count_bounded(node: u32, weight: u32, count: *mut [u32; 2]);
+    pub fn delmatik_count_provided(node: u32, count: *mut [u32; 2]);
+    pub fn delmatik_row(trace: *const u32, _: usize, lookups: usize, height: usize, row: u64, part: *mut [u64; 2]);
+}

@@ -3,13 +3,14 @@ use mathlib.Core.Path.{_≡_, refl, sym, ap, ap₂, _∙_}
 use mathlib.Core.Bool.{Bool, true, false, cond}
 use mathlib.Core.List.{List}
 use Prim.Native.Nat.{ℕ, suc, _+_, _*_, _-_, _/_, _%_, _<_, _≤_, zero-le}
-use native.Mathlib.Nat.{zero-add, mul-le-mul}
+use native.Mathlib.Nat.{zero-add, mul-le-mul, mod-add-mod}
 use native.Mathlib.Numerals.{add-one}
 use native.Mathlib.Omega.{arith}
 use lib.Dec.{eqb, leb, ltb}
 use lib.ListN.{length, take, drop, getD, set, replicate, length-set}
 use lib.Seq.{getD-set-other}
 use borrow.Author.Tests.{eq-eqb, ne-eqb, lt-ltb, le-ltb, le-leb, lt-leb}
+use Rattle.algebra.specs.laws.Remainder.{mod-mul-mod}
 use Rattle.lists.specs.Same.{same-list}
 use Rattle.field.specs.Word.{addM}
 use Rattle.expression.specs.Words.{word}
@@ -25,47 +26,71 @@ use Rattle.balance_slots.specs.laws.Plain.{plain-length, plain-none, pla
 use Rattle.balance_slots.specs.laws.Chained.{chained-none, Alike, chained-alike, chained-next, match-linked, find-past, find-step, find-skips}
 use Rattle.balance_slots.specs.Workspace.{slot-words, tuple-word, net-word}
 
--- the polynomial of words, from the front
+-- 2^31 is 1 modulo the prime
+abbrev folded : ℕ → ℕ
+folded x = x % 2147483648 + x / 2147483648
+
+folded-same : (x : ℕ) → folded x % hash-prime ≡ x % hash-prime
+folded-same x = omega arith
+
+-- what 64 bits hold of a step, once folded and twice
+pub once-low : (x : ℕ) → x ≤ 9223372051887161340 → folded x ≤ 6442450949
+once-low x h = omega arith
+
+pub twice-low : (y : ℕ) → y ≤ 6442450949 → folded y ≤ 2147483651
+twice-low y h = omega arith
+
+-- the polynomial of words, from the front; h is the value plus a multiple of the prime
 pub record HashLoop (point factor : ℕ) (s : List ℕ) (at n j h : ℕ) : Type 0 where
-  pub is : h ≡ polynomial point (λ j. word s (at + j)) j
-  pub small : h ≤ 2147483646
+  pub is : h % hash-prime ≡ polynomial point (λ j. word s (at + j)) j
+  pub small : h ≤ 2147483651
   pub point-low : point ≤ 4294967295
   pub factor-low : factor ≤ 4294967295
   pub within : j ≤ n
 
--- a value below the prime times a number of 32 bits
-times-low : {h b : ℕ} → h ≤ 2147483646 → b ≤ 4294967295 → h * b ≤ 2147483646 * 4294967295
+-- a value of the loop times a number of 32 bits
+times-low : {h b : ℕ} → h ≤ 2147483651 → b ≤ 4294967295 → h * b ≤ 2147483651 * 4294967295
 times-low l m = mul-le-mul l m
+
+-- and a word
+pub step-fits : {x w : ℕ} → x ≤ 2147483651 * 4294967295 → w ≤ 4294967295 → x + w ≤ 9223372051887161340
+step-fits h b = omega arith
 
 module _ {point factor : ℕ} {s : List ℕ} {at n : ℕ} where
   pub hash-loop-begins : point ≤ 4294967295 → factor ≤ 4294967295 → HashLoop point factor s at n 0 1
   unfolding polynomial
   hash-loop-begins p f = record { is = refl; small = omega arith; point-low = p; factor-low = f; within = zero-le }
 
-  pub hash-loop-turn : {j h w : ℕ} → HashLoop point factor s at n j h → j < n → w ≡ word s (at + j) → HashLoop point factor s at n (j + 1) ((h * point + w) % hash-prime)
+  -- the products fit 64 bits
+  pub point-fits : {j h : ℕ} → HashLoop point factor s at n j h → h * point ≤ 2147483651 * 4294967295
+  point-fits m = times-low (m .small) (m .point-low)
+
+  pub factor-fits : {j h : ℕ} → HashLoop point factor s at n j h → h * factor ≤ 2147483651 * 4294967295
+  factor-fits m = times-low (m .small) (m .factor-low)
+
+  pub hash-loop-turn : {j h w : ℕ} → HashLoop point factor s at n j h → j < n → w ≤ 4294967295 → w ≡ word s (at + j) → HashLoop point factor s at n (j + 1) (folded (folded (h * point + w)))
   unfolding polynomial
-  hash-loop-turn {j} {h} {w} m l e =
+  hash-loop-turn {j} {h} {w} m l b e =
       record {
-        is = rw (add-one j) (ap₂ (λ (x y : ℕ). (x * point + y) % hash-prime) (m .is) e);
-        small = omega arith;
+        is =
+            folded-same (folded (h * point + w)) ∙ folded-same (h * point + w) ∙ sym (mod-add-mod (h * point) hash-prime w)
+            ∙ ap (λ (x : ℕ). (x + w) % hash-prime) (sym (mod-mul-mod h point hash-prime)) ∙ mod-add-mod (h % hash-prime * point) hash-prime w
+            ∙ rw (add-one j) (ap₂ (λ (x y : ℕ). (x * point + y) % hash-prime) (m .is) e);
+        small = twice-low (folded (h * point + w)) (once-low (h * point + w) (step-fits (point-fits m) b));
         point-low = m .point-low;
         factor-low = m .factor-low;
         within = omega arith;
       }
 
-  -- the products fit 64 bits
-  pub point-fits : {j h : ℕ} → HashLoop point factor s at n j h → h * point ≤ 2147483646 * 4294967295
-  point-fits m = times-low (m .small) (m .point-low)
-
-  pub factor-fits : {j h : ℕ} → HashLoop point factor s at n j h → h * factor ≤ 2147483646 * 4294967295
-  factor-fits m = times-low (m .small) (m .factor-low)
-
   pub hash-loop-ends : {j h : ℕ} (seed : Seed) → HashLoop point factor s at n j h → n ≤ j → point ≡ seed .point → factor ≡ seed .factor
       → (h * factor % hash-prime % chains ≡ hash seed (λ j. word s (at + j)) n) × (h * factor % hash-prime % chains < chains)
   unfolding hash
   hash-loop-ends {j} {h} seed m l ep ef =
-      let e : j ≡ n = omega (arith, m .within) in
-      (ap₂ (λ (x y : ℕ). x * y % hash-prime % chains) (m .is ∙ ap₂ (λ (x i : ℕ). polynomial x (λ j. word s (at + j)) i) ep e) ef, omega arith)
+      let e : j ≡ n = omega (arith, m .within) in (
+        ap (λ (x : ℕ). x % chains) (sym (mod-mul-mod h factor hash-prime))
+            ∙ ap₂ (λ (x y : ℕ). x * y % hash-prime % chains) (m .is ∙ ap₂ (λ (x i : ℕ). polynomial x (λ j. word s (at + j)) i) ep e) ef,
+        omega arith,
+      )
 
 -- links taken out from the front
 pub record UnlinkLoop (d : List ℕ) (n i : ℕ) (workspace : List ℕ) : Type 0 where

@@ -38,7 +38,10 @@ pub fn hash(seed: Seed, s: &[u32], at: usize, n: usize) -> usize
     let mut h: u64 = 1;
     let mut j = 0;
     while j < n {
-        h = (h * point + to_u64(s[at + j])) % HASH_PRIME;
+        // 2^31 is 1 modulo the prime: what is above 31 bits is added to what is below, twice, in place of a division.
+        let x = h * point + to_u64(s[at + j]);
+        let y = x % 2147483648 + x / 2147483648;
+        h = y % 2147483648 + y / 2147483648;
         j += 1;
     }
     (h * factor % HASH_PRIME % CHAINS) as usize

@@ -18,16 +18,17 @@ pub record Generation : Type 0 where
   pub terminal : List ℕ
   -- the bytes of the trace buffer
   pub trace : List ℕ
-  -- the words in the two rooms
+  -- the words in the two rooms, which are working memory: no refusal but the 1 below leaves them as they were
   pub room : List ℕ
   pub trace-room : List ℕ
 
-abbrev pub answered : Answer → List ℕ → List ℕ → List ℕ → Generation
-answered a trace room trace-room =
+-- an answer, and the lent terminal
+abbrev pub answered : Answer → List ℕ → List ℕ → List ℕ → List ℕ → Generation
+answered a terminal trace room trace-room =
     record {
       number = generation-number a;
       details = generation-details a;
-      terminal = generation-terminal a;
+      terminal = generation-terminal a terminal;
       trace = trace;
       room = room;
       trace-room = trace-room;
@@ -38,12 +39,12 @@ abbrev pub lists-of : Table → List ℕ → List (List ℕ)
 lists-of t challenges = t .traces .main ∷ t .traces .preprocessed ∷ t .traces .public-values ∷ t .nodes ∷ challenges ∷ lookup-lists (t .lookups)
 
 -- the outcome on words, its buffer as bytes
-abbrev pub in-bytes : Outcome → List ℕ → Generation
-in-bytes o room = answered (o .answer) (bytes-of (o .buffer)) room (o .buffer)
+abbrev pub in-bytes : Outcome → List ℕ → List ℕ → Generation
+in-bytes o terminal room = answered (o .answer) terminal (bytes-of (o .buffer)) room (o .buffer)
 
 -- refusal 1, and nothing is written, where bytes are not whole words or a room has another number of words
-unfoldable pub generation-on-bytes : Table → List ℕ → List ℕ → List ℕ → List ℕ → Generation
-generation-on-bytes t challenges trace room trace-room =
+unfoldable pub generation-on-bytes : Table → List ℕ → List ℕ → List ℕ → List ℕ → List ℕ → Generation
+generation-on-bytes t challenges trace terminal room trace-room =
     cond (fit (lists-of t challenges) room && fit (trace ∷ []) trace-room)
-    (in-bytes (generation cabinet babybear babybear-w (decoded-table t) (words-of challenges) (words-of trace)) (all-words (lists-of t challenges)))
-    (answered (refused SizeAtOdds) trace room trace-room)
+    (in-bytes (generation cabinet babybear babybear-w (decoded-table t) (words-of challenges) (words-of trace)) terminal (all-words (lists-of t challenges)))
+    (answered (refused SizeAtOdds) terminal trace room trace-room)

@@ -19,32 +19,33 @@ use Rattle.delmatik_bytes.specs.Bytes.{decoded-lookups, encoded-lookups,
 pub record Packing : Type 0 where
   pub number : ℕ
   pub details : List ℕ
-  -- how many words, or bytes of names, of each list were written
+  -- how many words, or bytes of names, of each list are used
   pub used : List ℕ
   -- the bytes of the lists that are written
   pub lists : Lookups
-  -- the words in the two rooms
+  -- the words in the two rooms, which are working memory: no refusal but the 1 below leaves them as they were
   pub room : List ℕ
   pub out-room : List ℕ
 
-abbrev pub answered : PackingAnswer → Lookups → List ℕ → List ℕ → Packing
-answered a lists room out-room =
+-- an answer, and what was lent for `used`
+abbrev pub answered : PackingAnswer → List ℕ → Lookups → List ℕ → List ℕ → Packing
+answered a used lists room out-room =
     record {
       number = answer-number (packing-refused a);
       details = answer-details (packing-refused a);
-      used = packing-used a;
+      used = packing-used a used;
       lists = lists;
       room = room;
       out-room = out-room;
     }
 
 -- the outcome on words, its lists as bytes
-abbrev pub in-bytes : Outcome → List ℕ → Packing
-in-bytes o room = answered (o .answer) (encoded-lookups (o .lists)) room (flat (lookup-lists (o .lists)))
+abbrev pub in-bytes : Outcome → List ℕ → List ℕ → Packing
+in-bytes o used room = answered (o .answer) used (encoded-lookups (o .lists)) room (flat (lookup-lists (o .lists)))
 
 -- refusal 1, and nothing is written, where bytes are not whole words or a room has another number of words
-unfoldable pub packing-on-bytes : ℕ → Columns → List ℕ → Lookups → Lookups → List ℕ → List ℕ → Packing
-packing-on-bytes limit columns nodes l lent room out-room =
+unfoldable pub packing-on-bytes : ℕ → Columns → List ℕ → Lookups → Lookups → List ℕ → List ℕ → List ℕ → Packing
+packing-on-bytes limit columns nodes l lent used room out-room =
     cond (fit (nodes ∷ lookup-lists l) room && fit (lookup-lists lent) out-room)
-    (in-bytes (packing cabinet babybear limit columns (words-of nodes) (decoded-lookups l) (decoded-lookups lent)) (all-words (nodes ∷ lookup-lists l)))
-    (answered (Refused SizeAtOdds) lent room out-room)
+    (in-bytes (packing cabinet babybear limit columns (words-of nodes) (decoded-lookups l) (decoded-lookups lent)) used (all-words (nodes ∷ lookup-lists l)))
+    (answered (Refused SizeAtOdds) used lent room out-room)

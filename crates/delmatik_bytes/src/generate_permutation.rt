@@ -27,7 +27,7 @@ ghost use Rattle.delmatik_bytes.specs.inner.Words.{generation-on-words};
 
 // The number of an answer; its details and the terminal are written.
 fn tell_generated(g: Generated, terminal: &mut [u32; 5], details_out: &mut [u64; 3]) -> u32
-    ensures { λ r. ⌜ (r ≡ generation-number (answer-of g)) × (now («details_out» .exit) ≡ generation-details (answer-of g)) × (now (terminal .exit) ≡ generation-terminal (answer-of g)) ⌝ }
+    ensures { λ r. ⌜ (r ≡ generation-number (answer-of g)) × (now («details_out» .exit) ≡ generation-details (answer-of g)) × (now (terminal .exit) ≡ generation-terminal (answer-of g) (now (terminal .entry))) ⌝ }
 {
     write_terminal(g, terminal);
     write_details(generation_details(g), details_out);
@@ -74,7 +74,8 @@ fn generate_in(
 }
 
 // `delmatik_generate` on bytes: the trace buffer is bytes too. The number of the refusal is returned, 0 where there is none; its details and the
-// terminal are written.
+// terminal are written. Refusals 1 to 12 leave terminal and trace as they were. The rooms are working memory, and hold the words of their lists also
+// where generation is refused.
 #[no_mangle]
 pub extern "C" fn delmatik_generate_bytes(
     main_width: usize,
@@ -102,7 +103,7 @@ pub extern "C" fn delmatik_generate_bytes(
         ≡ generation-on-bytes
         (lent-table (shape-of «main_width» height «pre_width» «pre_height») (now (main .entry)) (now (preprocessed .entry)) (now («public_values» .entry)) (now (nodes .entry))
         (lent-lookups (now (lookups .entry)) (now (names .entry)) (now (tuples .entry)) (now (multiplicities .entry)) (now (flags .entry)) (now (elements .entry))))
-        (now (challenges .entry)) (now (trace .entry)) (now (room .entry)) (now («trace_room» .entry)) ⌝ }
+        (now (challenges .entry)) (now (trace .entry)) (now (terminal .entry)) (now (room .entry)) (now («trace_room» .entry)) ⌝ }
 {
     let left = less_five(
         Left {

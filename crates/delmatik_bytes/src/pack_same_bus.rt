@@ -13,6 +13,7 @@ use lookup::types::LOOKUP_WORDS;
 use packing::answer::Counts;
 use packing::answer::PackingAnswer;
 use packing_columns::columns::Plan;
+use packing_columns::layout::counts_hold;
 use packing_columns::layout::counts_of;
 use packing_columns::layout::plan_of;
 use packing_columns::layout::plan_refusal;
@@ -29,6 +30,7 @@ use wire::room::less;
 use wire::room::less_five;
 use wire::words::encode;
 ghost use mathlib.Core.Path.{_≡_};
+ghost use mathlib.Core.Bool.{true};
 ghost use Prim.Native.Nat.{_-_, _≤_};
 ghost use mathlib.Core.List.{[], _∷_, map};
 ghost use lib.ListN.{length, take, drop};
@@ -38,7 +40,7 @@ ghost use Rattle.packing_columns.specs.inner.LookupLists.{list-start, list-part
 ghost use Rattle.packing_columns.specs.inner.LookupListsRequires.{LookupNumbers, FewTuples};
 ghost use Rattle.packing.specs.Written.{written};
 ghost use Rattle.lookup_degree.specs.Formed.{Formed};
-ghost use Rattle.packing.specs.PackSameBus.{all-written};
+ghost use Rattle.packing.specs.PackSameBus.{holds, all-written};
 ghost use Rattle.packing_columns.specs.inner.Layout.{plan-words, formed-outcome, ListsExact, OutputsHold};
 ghost use Rattle.delmatik_answers.specs.Types.{columns-of};
 ghost use Rattle.delmatik_answers.specs.Packing.{packing-refused, packing-used};
@@ -134,7 +136,7 @@ fn write_in(
     );
 }
 
-// Packing of a table that has none of refusals 1 to 5. Nothing is written before the last refusal is known.
+// Packing of a table that has none of refusals 1 to 5, into parts that hold it. Nothing is written before the last refusal is known.
 fn pack_formed(
     limit: u64,
     nodes: &[u32],
@@ -149,7 +151,8 @@ fn pack_formed(
     room: &mut [u32],
 ) -> PackingAnswer
     requires { ⌜ Formed Sizes.cabinet (now nodes) (lent-lookups (now lookups) (now names) (now tuples) (now multiplicities) (now flags) (now elements))
-        × ListsExact (now lookups) (now names) (now tuples) × Split ends (length (now room)) ⌝ }
+        × ListsExact (now lookups) (now names) (now tuples) × Split ends (length (now room))
+        × (holds (lookups-in (now «names_out») (parts (now room) 0 (five-ends ends))) (lent-lookups (now lookups) (now names) (now tuples) (now multiplicities) (now flags) (now elements)) ≡ true) ⌝ }
     ensures { λ r. ⌜ record { answer = r; lists = lookups-in (now («names_out» .exit)) (parts (now (room .exit)) 0 (five-ends ends)) }
         ≡ formed-outcome limit (now (nodes .entry))
         (lent-lookups (now (lookups .entry)) (now (names .entry)) (now (tuples .entry)) (now (multiplicities .entry)) (now (flags .entry)) (now (elements .entry)))
@@ -167,15 +170,7 @@ fn pack_formed(
         elements,
     );
     let counts = counts_of(plan, lookups, tuples);
-    let lent = Counts {
-        lookups: ends.first,
-        names: names_out.len(),
-        tuples: ends.second - ends.first,
-        multiplicities: ends.third - ends.second,
-        flags: ends.fourth - ends.third,
-        elements: ends.fifth - ends.fourth,
-    };
-    let v = plan_refusal(counts, lent, plan.over, lookups, names, tuples);
+    let v = plan_refusal(plan.over, lookups, names, tuples);
     match v {
         Verdict::Refused(f) => PackingAnswer::Refused(f),
         Verdict::Accepted => {
@@ -224,6 +219,25 @@ fn pack_in(
     let multiplicities = &room[b..c];
     let flags = &room[c..d];
     let elements = &room[d..e];
+    let own = Counts {
+        lookups: lookups.len(),
+        names: names.len(),
+        tuples: tuples.len(),
+        multiplicities: multiplicities.len(),
+        flags: flags.len(),
+        elements: elements.len(),
+    };
+    let lent = Counts {
+        lookups: out_ends.first,
+        names: names_out.len(),
+        tuples: out_ends.second - out_ends.first,
+        multiplicities: out_ends.third - out_ends.second,
+        flags: out_ends.fourth - out_ends.third,
+        elements: out_ends.fifth - out_ends.fourth,
+    };
+    if !counts_hold(own, lent) {
+        return PackingAnswer::Refused(Refusal::SizeAtOdds);
+    }
     let v = form_refusal(
         cabinet(),
         BABYBEAR,
@@ -280,16 +294,18 @@ fn encode_five(
     encode(&room[d..e], elements_out);
 }
 
-// The number of an answer; its details are written, and how many words, or bytes of names, of each list were written.
+// The number of an answer; its details are written, and how many words, or bytes of names, of each list are used. A refusal leaves these numbers as
+// they were.
 fn tell_packed(a: PackingAnswer, used: &mut [u64; 6], details: &mut [u64; 3]) -> u32
-    ensures { λ r. ⌜ (r ≡ answer-number (packing-refused a)) × (now (details .exit) ≡ answer-details (packing-refused a)) × (now (used .exit) ≡ packing-used a) ⌝ }
+    ensures { λ r. ⌜ (r ≡ answer-number (packing-refused a)) × (now (details .exit) ≡ answer-details (packing-refused a)) × (now (used .exit) ≡ packing-used a (now (used .entry))) ⌝ }
 {
     write_used(a, used);
     write_answer(packing_verdict(a), details)
 }
 
 // `delmatik_pack` on bytes. The number of the refusal is returned, 0 where there is none; its details are written, and in `used` how many words, or
-// bytes of names, of each list were written.
+// bytes of names, of each list are used. A refusal leaves the lists and these numbers as they were. The rooms are working memory, and hold the words
+// of their lists also where packing is refused.
 #[no_mangle]
 pub extern "C" fn delmatik_pack_bytes(
     limit: u64,
@@ -325,7 +341,7 @@ pub extern "C" fn delmatik_pack_bytes(
         ≡ packing-on-bytes limit (columns-of «main_width» «pre_width» «public_values») (now (nodes .entry))
         (lent-lookups (now (lookups .entry)) (now (names .entry)) (now (tuples .entry)) (now (multiplicities .entry)) (now (flags .entry)) (now (elements .entry)))
         (lent-lookups (now («lookups_out» .entry)) (now («names_out» .entry)) (now («tuples_out» .entry)) (now («multiplicities_out» .entry)) (now («flags_out» .entry)) (now («elements_out» .entry)))
-        (now (room .entry)) (now («out_room» .entry)) ⌝ }
+        (now (used .entry)) (now (room .entry)) (now («out_room» .entry)) ⌝ }
 {
     let left = less(
         Left {

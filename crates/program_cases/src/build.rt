@@ -14,7 +14,7 @@ fn call_build(
     line: &[u64; 8],
     words: &[u32],
     bytes: &[u8],
-    spans: &[usize; 64],
+    spans: &[usize; 72],
     lookups: &mut [u32],
     used: &mut [u64; 1],
     details: &mut [u64; 3],
@@ -43,9 +43,9 @@ fn call_build(
 }
 
 // The words of the lookups that are built are the case's list of lookups.
-pub fn build(line: &[u64; 8], words: &[u32], bytes: &[u8], spans: &[usize; 64]) -> Answer {
+pub fn build(line: &[u64; 8], words: &[u32], bytes: &[u8], spans: &[usize; 72]) -> Answer {
     let mut buffer = [7u32; 32768];
-    let mut used = [0u64; 1];
+    let mut used = [7u64; 1];
     let mut details = [0u64; 3];
     let expected = list(words, spans, spans::LOOKUPS);
     let n = room(expected);

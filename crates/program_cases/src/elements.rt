@@ -7,17 +7,18 @@ use crate::spans::list;
 use crate::spans::room;
 use crate::text::word;
 use delmatik::challenges::delmatik_prefixes;
+use delmatik::element::delmatik_inverse;
 use delmatik::element::delmatik_power;
 use delmatik::protocol::delmatik_terminals;
 use expression::words::to_u64;
 
-pub fn terminals(line: &[u64; 8], words: &[u32], spans: &[usize; 64]) -> Answer {
+pub fn terminals(line: &[u64; 8], words: &[u32], spans: &[usize; 72]) -> Answer {
     let mut details = [0u64; 3];
     let number = delmatik_terminals(list(words, spans, spans::GIVEN), &mut details);
     compared(number, &details, line, true)
 }
 
-pub fn prefixes(line: &[u64; 8], words: &[u32], spans: &[usize; 64]) -> Answer {
+pub fn prefixes(line: &[u64; 8], words: &[u32], spans: &[usize; 72]) -> Answer {
     let mut buffer = [7u32; 32768];
     let mut details = [0u64; 3];
     let pair = list(words, spans, spans::ELEMENT);
@@ -34,8 +35,19 @@ pub fn prefixes(line: &[u64; 8], words: &[u32], spans: &[usize; 64]) -> Answer {
     compared(number, &details, line, holds(&buffer, expected))
 }
 
-// A power has no details: its line gives the number and the exponent.
-pub fn power(line: &[u64; 8], words: &[u32], spans: &[usize; 64]) -> Answer {
+// A power and an inverse have no details: their lines give the number, and that of a power the exponent.
+fn told(number: u32, line: &[u64; 8], same: bool) -> Answer {
+    let n = to_u64(number);
+    Answer {
+        number: n,
+        first: 0,
+        second: 0,
+        third: 0,
+        same: same & (n == line[0]),
+    }
+}
+
+pub fn power(line: &[u64; 8], words: &[u32], spans: &[usize; 72]) -> Answer {
     let mut buffer = [7u32; 32768];
     let expected = list(words, spans, spans::RESULT);
     let end = room(expected);
@@ -44,12 +56,13 @@ pub fn power(line: &[u64; 8], words: &[u32], spans: &[usize; 64]) -> Answer {
         word(line[1]),
         &mut buffer[0..end],
     );
-    let n = to_u64(number);
-    Answer {
-        number: n,
-        first: 0,
-        second: 0,
-        third: 0,
-        same: holds(&buffer, expected) & (n == line[0]),
-    }
+    told(number, line, holds(&buffer, expected))
+}
+
+pub fn inverse(line: &[u64; 8], words: &[u32], spans: &[usize; 72]) -> Answer {
+    let mut buffer = [7u32; 32768];
+    let expected = list(words, spans, spans::RESULT);
+    let end = room(expected);
+    let number = delmatik_inverse(list(words, spans, spans::ELEMENT), &mut buffer[0..end]);
+    told(number, line, holds(&buffer, expected))
 }

@@ -2,6 +2,7 @@
 // The functions are proved; that this program reads the text aright and compares every answer is not: it is proved safe, and that it ends.
 mod answer;
 mod build;
+mod counts;
 mod elements;
 mod pack;
 mod read;
@@ -24,10 +25,10 @@ struct State {
     differ: u64,
 }
 
-// The number of a function's name; 11 where it is none.
+// The number of a function's name; 17 where it is none.
 fn function_number(name: &[u8]) -> usize {
     text::find(
-        b"generate constraints degree pack build widths bound balance terminals prefixes power",
+        b"generate constraints degree pack build widths bound balance terminals prefixes power inverse row from-i32 negated bounded provided",
         name,
     )
 }
@@ -38,7 +39,7 @@ fn call_of_table(
     line: &[u64; 8],
     words: &[u32],
     bytes: &[u8],
-    spans: &[usize; 64],
+    spans: &[usize; 72],
 ) -> Answer {
     match number {
         0 => table::generate(line, words, bytes, spans),
@@ -55,7 +56,7 @@ fn call_of_others(
     line: &[u64; 8],
     words: &[u32],
     bytes: &[u8],
-    spans: &[usize; 64],
+    spans: &[usize; 72],
 ) -> Answer {
     match number {
         5 => tables::widths(line, words, bytes, spans),
@@ -63,7 +64,19 @@ fn call_of_others(
         7 => tables::balance(line, words, bytes, spans),
         8 => elements::terminals(line, words, spans),
         9 => elements::prefixes(line, words, spans),
-        _ => elements::power(line, words, spans),
+        10 => elements::power(line, words, spans),
+        11 => elements::inverse(line, words, spans),
+        _ => table::row(line, words, spans),
+    }
+}
+
+// Those of counts.
+fn call_of_counts(number: usize, line: &[u64; 8], words: &[u32], spans: &[usize; 72]) -> Answer {
+    match number {
+        13 => counts::from_number(line, words, spans),
+        14 => counts::negated(line, words, spans),
+        15 => counts::bounded(line, words, spans),
+        _ => counts::provided(line, words, spans),
     }
 }
 
@@ -72,10 +85,13 @@ fn call(
     line: &[u64; 8],
     words: &[u32],
     bytes: &[u8],
-    spans: &[usize; 64],
+    spans: &[usize; 72],
 ) -> Answer {
     if number < 5 {
         return call_of_table(number, line, words, bytes, spans);
+    }
+    if 13 <= number {
+        return call_of_counts(number, line, words, spans);
     }
     call_of_others(number, line, words, bytes, spans)
 }
@@ -125,11 +141,11 @@ fn answer_line(
     numbers: &[u8],
     words: &[u32],
     bytes: &[u8],
-    spans: &[usize; 64],
+    spans: &[usize; 72],
     state: State,
 ) -> State {
     let number = function_number(name);
-    if 11 <= number {
+    if 17 <= number {
         io::write_all(1, b" unknown");
         return one_more(state);
     }
@@ -141,12 +157,12 @@ fn answer_line(
 }
 
 // A new case: the title on a line of its own, and all lists empty.
-fn begin(title: &[u8], spans: &mut [usize; 64], state: State) -> State {
+fn begin(title: &[u8], spans: &mut [usize; 72], state: State) -> State {
     if 0 < state.cases {
         io::write_all(1, b"\n");
     }
     io::write_all(1, title);
-    *spans = [0usize; 64];
+    *spans = [0usize; 72];
     State {
         words: 0,
         bytes: 0,
@@ -170,7 +186,7 @@ fn store_words(
     key: usize,
     numbers: &[u8],
     words: &mut [u32; 32768],
-    spans: &mut [usize; 64],
+    spans: &mut [usize; 72],
     state: State,
 ) -> State {
     let a = state.words;
@@ -186,7 +202,7 @@ fn store_bytes(
     key: usize,
     numbers: &[u8],
     bytes: &mut [u8; 4096],
-    spans: &mut [usize; 64],
+    spans: &mut [usize; 72],
     state: State,
 ) -> State {
     let a = state.bytes;
@@ -203,7 +219,7 @@ fn statement(
     rest: &[u8],
     words: &mut [u32; 32768],
     bytes: &mut [u8; 4096],
-    spans: &mut [usize; 64],
+    spans: &mut [usize; 72],
     state: State,
 ) -> State {
     if same_bytes(name, b"case") {
@@ -224,7 +240,7 @@ fn line(
     line: &[u8],
     words: &mut [u32; 32768],
     bytes: &mut [u8; 4096],
-    spans: &mut [usize; 64],
+    spans: &mut [usize; 72],
     state: State,
 ) -> State {
     if line.len() == 0 {
@@ -254,7 +270,7 @@ fn print_counts(state: State) {
 fn replay(text: &[u8]) {
     let mut words = [0u32; 32768];
     let mut bytes = [0u8; 4096];
-    let mut spans = [0usize; 64];
+    let mut spans = [0usize; 72];
     let mut state = State {
         words: 0,
         bytes: 0,

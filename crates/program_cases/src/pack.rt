@@ -2,6 +2,7 @@
 use crate::answer::Answer;
 use crate::answer::compared;
 use crate::spans;
+use crate::spans::at;
 use crate::spans::holds;
 use crate::spans::holds_bytes;
 use crate::spans::list;
@@ -10,13 +11,14 @@ use crate::spans::room;
 use crate::spans::room_of_bytes;
 use crate::spans::size;
 use delmatik::pack_same_bus::delmatik_pack;
+use expression::words::to_u64;
 
 // The table's lists, lent to packing with its output lists.
 fn call_pack(
     limit: u64,
     words: &[u32],
     bytes: &[u8],
-    spans: &[usize; 64],
+    spans: &[usize; 72],
     lookups: &mut [u32],
     names: &mut [u8],
     tuples: &mut [u32],
@@ -51,52 +53,21 @@ fn call_pack(
     )
 }
 
-// How much of a list was written: all that the case has, or nothing where packing is refused.
-fn as_long(used: u64, end: usize, number: u32) -> bool {
-    if number == 0 {
-        return used == end as u64;
-    }
-    used == 0
-}
-
-fn packed_whole(
-    number: u32,
-    used: &[u64; 6],
-    words: &[u32],
-    bytes: &[u8],
-    spans: &[usize; 64],
-) -> bool {
-    let names = list_of_bytes(bytes, spans, spans::PACKED_NAMES);
-    let multiplicities = list(words, spans, spans::PACKED_MULTIPLICITIES);
-    as_long(
-        used[0],
-        room(list(words, spans, spans::PACKED_LOOKUPS)),
-        number,
-    )
-        & as_long(used[1], room_of_bytes(names), number)
-        & as_long(
-            used[2],
-            room(list(words, spans, spans::PACKED_TUPLES)),
-            number,
-        )
-        & as_long(used[3], room(multiplicities), number)
-        & as_long(
-            used[4],
-            room(list(words, spans, spans::PACKED_FLAGS)),
-            number,
-        )
-        & as_long(
-            used[5],
-            room(list(words, spans, spans::PACKED_ELEMENTS)),
-            number,
-        )
+// Whether so much of each list is used.
+fn used_same(used: &[u64; 6], expected: &[u32]) -> bool {
+    (used[0] == to_u64(at(expected, 0)))
+        & (used[1] == to_u64(at(expected, 1)))
+        & (used[2] == to_u64(at(expected, 2)))
+        & (used[3] == to_u64(at(expected, 3)))
+        & (used[4] == to_u64(at(expected, 4)))
+        & (used[5] == to_u64(at(expected, 5)))
 }
 
 // Whether the output lists hold what the case has.
 fn packed_same(
     words: &[u32],
     bytes: &[u8],
-    spans: &[usize; 64],
+    spans: &[usize; 72],
     lookups: &[u32; 32768],
     names: &[u8; 4096],
     tuples: &[u32; 32768],
@@ -113,14 +84,14 @@ fn packed_same(
         & holds(elements, list(words, spans, spans::PACKED_ELEMENTS))
 }
 
-pub fn pack(line: &[u64; 8], words: &[u32], bytes: &[u8], spans: &[usize; 64]) -> Answer {
+pub fn pack(line: &[u64; 8], words: &[u32], bytes: &[u8], spans: &[usize; 72]) -> Answer {
     let mut lookups = [7u32; 32768];
     let mut names = [7u8; 4096];
     let mut tuples = [7u32; 32768];
     let mut multiplicities = [7u32; 32768];
     let mut flags = [7u32; 32768];
     let mut elements = [7u32; 32768];
-    let mut used = [0u64; 6];
+    let mut used = [7u64; 6];
     let mut details = [0u64; 3];
     let lookups_end = room(list(words, spans, spans::PACKED_LOOKUPS));
     let names_end = room_of_bytes(list_of_bytes(bytes, spans, spans::PACKED_NAMES));
@@ -142,7 +113,7 @@ pub fn pack(line: &[u64; 8], words: &[u32], bytes: &[u8], spans: &[usize; 64]) -
         &mut used,
         &mut details,
     );
-    let whole = packed_whole(number, &used, words, bytes, spans);
+    let whole = used_same(&used, list(words, spans, spans::USED));
     let same = packed_same(
         words,
         bytes,

@@ -65,40 +65,48 @@ pub const INTERACTIONS: usize = 28;
 
 pub const WEIGHTS: usize = 29;
 
-pub const NAMES: usize = 30;
+pub const USED: usize = 30;
 
-pub const PACKED_NAMES: usize = 31;
+pub const COUNT: usize = 31;
 
-// The number of a list's key, in the order above; 32 where the key is no list's.
+pub const NODES_AFTER: usize = 32;
+
+pub const PART: usize = 33;
+
+pub const NAMES: usize = 34;
+
+pub const PACKED_NAMES: usize = 35;
+
+// The number of a list's key, in the order above; 36 where the key is no list's.
 pub fn key(name: &[u8]) -> usize {
     text::find(
-        b"sizes main preprocessed public nodes lookups tuples multiplicities flags elements challenges counts heights given rows claimed element trace terminal written workspace packed-lookups packed-tuples packed-multiplicities packed-flags packed-elements result lists interactions weights names packed-names",
+        b"sizes main preprocessed public nodes lookups tuples multiplicities flags elements challenges counts heights given rows claimed element trace terminal written workspace packed-lookups packed-tuples packed-multiplicities packed-flags packed-elements result lists interactions weights used count nodes-after part names packed-names",
         name,
     )
 }
 
-fn start(spans: &[usize; 64], key: usize) -> usize {
-    if key < 32 {
+fn start(spans: &[usize; 72], key: usize) -> usize {
+    if key < 36 {
         return spans[2 * key];
     }
     0
 }
 
-fn end(spans: &[usize; 64], key: usize) -> usize {
-    if key < 32 {
+fn end(spans: &[usize; 72], key: usize) -> usize {
+    if key < 36 {
         return spans[2 * key + 1];
     }
     0
 }
 
-pub fn set_span(spans: &mut [usize; 64], key: usize, a: usize, b: usize) {
-    if key < 32 {
+pub fn set_span(spans: &mut [usize; 72], key: usize, a: usize, b: usize) {
+    if key < 36 {
         spans[2 * key] = a;
         spans[2 * key + 1] = b;
     }
 }
 
-fn words_part(words: &[u32], a: usize, b: usize) -> &[u32] {
+pub fn words_part(words: &[u32], a: usize, b: usize) -> &[u32] {
     if b < a {
         return &words[0..0];
     }
@@ -119,11 +127,11 @@ fn bytes_part(bytes: &[u8], a: usize, b: usize) -> &[u8] {
 }
 
 // A list of words, a list of bytes.
-pub fn list<'a>(words: &'a [u32], spans: &[usize; 64], key: usize) -> &'a [u32] {
+pub fn list<'a>(words: &'a [u32], spans: &[usize; 72], key: usize) -> &'a [u32] {
     words_part(words, start(spans, key), end(spans, key))
 }
 
-pub fn list_of_bytes<'a>(bytes: &'a [u8], spans: &[usize; 64], key: usize) -> &'a [u8] {
+pub fn list_of_bytes<'a>(bytes: &'a [u8], spans: &[usize; 72], key: usize) -> &'a [u8] {
     bytes_part(bytes, start(spans, key), end(spans, key))
 }
 
@@ -188,8 +196,13 @@ pub fn same_five(words: &[u32; 5], expected: &[u32]) -> bool {
     same_words(words, expected)
 }
 
+// The same for the words of a count.
+pub fn same_two(words: &[u32; 2], expected: &[u32]) -> bool {
+    same_words(words, expected)
+}
+
 // Whether two lists of words are equal.
-fn same_words(x: &[u32], y: &[u32]) -> bool {
+pub fn same_words(x: &[u32], y: &[u32]) -> bool {
     if x.len() != y.len() {
         return false;
     }

@@ -9,17 +9,22 @@ use crate::spans::list;
 use crate::spans::list_of_bytes;
 use crate::spans::room;
 use crate::spans::same_five;
+use crate::spans::same_words;
 use crate::spans::size;
+use crate::spans::words_part;
 use crate::text::word;
 use delmatik::eval_all::delmatik_constraints;
 use delmatik::generate_permutation::delmatik_generate;
+use delmatik::generate_permutation::delmatik_row;
 use delmatik::types::delmatik_degree;
+use expression::words::to_u64;
+use expression::words::to_usize;
 
 // The table's lists, lent to generation.
 fn call_generate(
     words: &[u32],
     bytes: &[u8],
-    spans: &[usize; 64],
+    spans: &[usize; 72],
     trace: &mut [u32],
     terminal: &mut [u32; 5],
     details: &mut [u64; 3],
@@ -47,9 +52,9 @@ fn call_generate(
     )
 }
 
-pub fn generate(line: &[u64; 8], words: &[u32], bytes: &[u8], spans: &[usize; 64]) -> Answer {
+pub fn generate(line: &[u64; 8], words: &[u32], bytes: &[u8], spans: &[usize; 72]) -> Answer {
     let mut buffer = [7u32; 32768];
-    let mut terminal = [0u32; 5];
+    let mut terminal = [7u32; 5];
     let mut details = [0u64; 3];
     let expected = list(words, spans, spans::TRACE);
     let n = room(expected);
@@ -65,8 +70,8 @@ pub fn generate(line: &[u64; 8], words: &[u32], bytes: &[u8], spans: &[usize; 64
     compared(number, &details, line, same)
 }
 
-pub fn degree(line: &[u64; 8], words: &[u32], bytes: &[u8], spans: &[usize; 64]) -> Answer {
-    let mut value = [0u64; 1];
+pub fn degree(line: &[u64; 8], words: &[u32], bytes: &[u8], spans: &[usize; 72]) -> Answer {
+    let mut value = [7u64; 1];
     let mut details = [0u64; 3];
     let sizes = list(words, spans, spans::SIZES);
     let public_values = list(words, spans, spans::PUBLIC);
@@ -89,7 +94,7 @@ pub fn degree(line: &[u64; 8], words: &[u32], bytes: &[u8], spans: &[usize; 64])
     compared(number, &details, line, value[0] == line[6])
 }
 
-pub fn constraints(line: &[u64; 8], words: &[u32], bytes: &[u8], spans: &[usize; 64]) -> Answer {
+pub fn constraints(line: &[u64; 8], words: &[u32], bytes: &[u8], spans: &[usize; 72]) -> Answer {
     let mut details = [0u64; 3];
     let sizes = list(words, spans, spans::SIZES);
     let claimed = list(words, spans, spans::CLAIMED);
@@ -119,4 +124,31 @@ pub fn constraints(line: &[u64; 8], words: &[u32], bytes: &[u8], spans: &[usize;
         &mut details,
     );
     compared(number, &details, line, true)
+}
+
+// A part of a trace.
+fn part_of(trace: &[u32], start: u32, n: u32) -> &[u32] {
+    let a = to_usize(start);
+    let b = a + to_usize(n);
+    words_part(trace, a, b)
+}
+
+// The part that is answered is the case's, and holds the words that it says.
+pub fn row(line: &[u64; 8], words: &[u32], spans: &[usize; 72]) -> Answer {
+    let mut part = [7u64; 2];
+    let details = [0u64; 3];
+    let trace = list(words, spans, spans::ROWS);
+    let expected = list(words, spans, spans::PART);
+    delmatik_row(
+        trace,
+        line[4] as usize,
+        line[5] as usize,
+        line[6],
+        &mut part,
+    );
+    let start = at(expected, 0);
+    let n = at(expected, 1);
+    let same = (part[0] == to_u64(start)) & (part[1] == to_u64(n));
+    let held = same_words(part_of(trace, start, n), list(words, spans, spans::WRITTEN));
+    compared(0, &details, line, same & held)
 }

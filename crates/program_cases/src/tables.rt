@@ -10,8 +10,8 @@ use delmatik::check_lookups::delmatik_balance;
 use delmatik::protocol::delmatik_height_bound;
 use delmatik::types::delmatik_widths;
 
-pub fn widths(line: &[u64; 8], words: &[u32], bytes: &[u8], spans: &[usize; 64]) -> Answer {
-    let mut value = [0u64; 1];
+pub fn widths(line: &[u64; 8], words: &[u32], bytes: &[u8], spans: &[usize; 72]) -> Answer {
+    let mut value = [7u64; 1];
     let mut details = [0u64; 3];
     let number = delmatik_widths(
         list(words, spans, spans::LOOKUPS),
@@ -24,7 +24,7 @@ pub fn widths(line: &[u64; 8], words: &[u32], bytes: &[u8], spans: &[usize; 64])
     compared(number, &details, line, value[0] == line[4])
 }
 
-pub fn bound(line: &[u64; 8], words: &[u32], spans: &[usize; 64]) -> Answer {
+pub fn bound(line: &[u64; 8], words: &[u32], spans: &[usize; 72]) -> Answer {
     let mut details = [0u64; 3];
     let number = delmatik_height_bound(
         list(words, spans, spans::LOOKUPS),
@@ -42,7 +42,7 @@ const SEED: u64 = 1;
 fn call_balance(
     words: &[u32],
     bytes: &[u8],
-    spans: &[usize; 64],
+    spans: &[usize; 72],
     workspace: &mut [u32],
     details: &mut [u64; 3],
 ) -> u32 {
@@ -64,7 +64,7 @@ fn call_balance(
     )
 }
 
-pub fn balance(line: &[u64; 8], words: &[u32], bytes: &[u8], spans: &[usize; 64]) -> Answer {
+pub fn balance(line: &[u64; 8], words: &[u32], bytes: &[u8], spans: &[usize; 72]) -> Answer {
     let mut buffer = [7u32; 32768];
     let mut details = [0u64; 3];
     let expected = list(words, spans, spans::WORKSPACE);

@@ -1,6 +1,6 @@
 //! Calls every exported function with good, damaged and random words, in memory that notices reads and writes outside what is lent. After each call: the number is
 //! one of the function's, details are zero unless docs/SPECIFICATION.md names them, nothing beside the lists and no input was written, and refusals 1 to 12
-//! left the outputs as they were.
+//! left all outputs as they were, the small ones too.
 //!
 //!     cargo run --release --offline --features port --bin fuzz -- --cases 100000 --seed 1
 use std::collections::BTreeMap;
@@ -70,8 +70,8 @@ fn room(random: &mut Random, lists: &[Vec<u8>]) -> Vec<u32> {
     vec![5; if random.below(60) == 0 { n + 2 - random.below(3) as usize } else { n }]
 }
 
-/// Expands to a call: `[list]` is lent to be read, `[mut list]` to be written, `[room list]` to be written in any case, `(out list)` is a pointer to numbers of the answer; the three details come
-/// last.
+/// Expands to a call: `[list]` is lent to be read, `[mut list]` to be written, `[room list]` to be written in any case, `(out list)` is a pointer to
+/// numbers that are written unless the call is refused; the three details come last.
 macro_rules! call {
     ($fuzz:ident, $function:ident($($arguments:tt)*)) => {{
         let high = $fuzz.random.below(2) == 0;
@@ -93,7 +93,7 @@ macro_rules! call {
         call!(@ $fuzz $function $details ($($done)* lent.0, lent.1,) $($rest)*)
     }};
     (@ $fuzz:ident $function:ident $details:ident ($($done:tt)*) (out $list:expr), $($rest:tt)*) => {{
-        let lent = $fuzz.lender.answer($list);
+        let lent = $fuzz.lender.write($list).0;
         call!(@ $fuzz $function $details ($($done)* lent.cast(),) $($rest)*)
     }};
     (@ $fuzz:ident $function:ident $details:ident ($($done:tt)*) $argument:expr, $($rest:tt)*) => {{
@@ -307,6 +307,55 @@ impl Fuzz {
         call!(self, delmatik_prefixes([&alpha], [&beta], width, count, [mut &out],))
     }
 
+    /// Counts, and the functions without details: on an element, bounded and provided counts, rows.
+    fn others(&mut self, case: &Case) -> Result<(), String> {
+        let r = &mut self.random;
+        let nodes = list(r, &[&case.tables[0].nodes[..], &[9; 4]].concat());
+        let (used, [node, weight]) = (size(r, case.counted), case.negated);
+        call!(self, delmatik_count_from_i32([mut &nodes], used, case.count, (out & [7u32; 2]),))?;
+        call!(self, delmatik_count_negated([mut &nodes], used, node, weight, (out & [7u32; 2]),))?;
+
+        let r = &mut self.random;
+        let (a, out) = (list(r, &case.challenge(0)), list(r, &[9; 4]));
+        self.start();
+        let (lent, room) = (self.lender.read(&a), self.lender.write(&out));
+        let number = unsafe { sys::delmatik_power(lent.0, lent.1, case.exponent, room.0, room.1) };
+        self.judge("delmatik_power", number)?;
+        self.start();
+        let (lent, room) = (self.lender.read(&a), self.lender.write(&out));
+        let number = unsafe { sys::delmatik_inverse(lent.0, lent.1, room.0, room.1) };
+        self.judge("delmatik_inverse", number)?;
+
+        self.start();
+        let count = self.lender.write(&[7u32; 2]).0;
+        unsafe { sys::delmatik_count_bounded(node, weight, count.cast()) };
+        self.judge("delmatik_count_bounded", 0)?;
+        self.start();
+        let count = self.lender.write(&[7u32; 2]).0;
+        unsafe { sys::delmatik_count_provided(node, count.cast()) };
+        self.judge("delmatik_count_provided", 0)?;
+
+        let r = &mut self.random;
+        let trace = vec![9u32; case.buffer.min(1 << 14)];
+        let ([lookups, height, _], row) = (case.reader.map(|n| size(r, n)), size(r, case.reader[2]) as u64);
+        self.start();
+        let (lent, part) = (self.lender.read(&trace), self.lender.write(&[7u64; 2]).0);
+        unsafe { sys::delmatik_row(lent.0, lent.1, lookups, height, row, part.cast()) };
+        // What a caller would take is a part of the trace.
+        let [start, words] = unsafe { [*part, *part.add(1)] };
+        if start.checked_add(words).is_none_or(|end| (trace.len() as u64) < end) {
+            return Err(format!("delmatik_row: words {start} and the {words} after it of {}", trace.len()));
+        }
+        self.judge("delmatik_row", 0)
+    }
+
+    /// Before a function that has no details: they are zeros.
+    fn start(&mut self) {
+        let high = self.random.below(2) == 0;
+        self.lender.start(high);
+        self.lender.read(&[0u64; 3]);
+    }
+
     /// Each list now and then damaged.
     fn spoiled(&mut self, t: &Table) -> Table {
         let r = &mut self.random;
@@ -350,9 +399,8 @@ fn main() -> ExitCode {
         if case.tables.iter().any(|t| 100_000 < t.main.len().max(t.preprocessed.len())) {
             continue;
         }
-        let result =
-            fuzz.table(&case).and_then(|()| fuzz.building(&case)).and_then(|()| fuzz.tables(&case)).and_then(|()| fuzz.words(&case));
-        if let Err(text) = result {
+        let parts = [Fuzz::table, Fuzz::building, Fuzz::tables, Fuzz::words, Fuzz::others];
+        if let Err(text) = parts.iter().try_for_each(|part| part(&mut fuzz, &case)) {
             println!("case {i} of seed {seed}: {text}\n{case}");
             return ExitCode::FAILURE;
         }

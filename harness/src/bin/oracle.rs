@@ -19,22 +19,16 @@ fn argument(name: &str, otherwise: u64) -> u64 {
 }
 
 #[cfg(feature = "port")]
-fn port() -> Option<Box<dyn Port>> {
-    Some(Box::new(harness::port::Exported))
-}
+const PORT: Option<Port> = Some(harness::port::EXPORTED);
 
 #[cfg(not(feature = "port"))]
-fn port() -> Option<Box<dyn Port>> {
-    None
-}
+const PORT: Option<Port> = None;
 
 fn main() -> ExitCode {
     let (tables, seed) = (argument("--tables", 100_000), argument("--seed", 1));
-    let port = port();
-    let port = port.as_deref();
     let with_or_without = |there: bool| if there { "with" } else { "without" };
-    println!("{} the crate's source, {} the port", with_or_without(cfg!(source)), with_or_without(port.is_some()));
-    if !cfg!(source) && port.is_none() {
+    println!("{} the crate's source, {} the port", with_or_without(cfg!(source)), with_or_without(PORT.is_some()));
+    if !cfg!(source) && PORT.is_none() {
         println!("nothing to compare: set P3_LOOKUP_SRC to the source of p3-lookup 0.8.0, or build with --features port");
         return ExitCode::from(2);
     }
@@ -43,8 +37,8 @@ fn main() -> ExitCode {
     let mut tally = Tally::default();
     let boundaries = generator::boundaries();
     for (name, case) in &boundaries {
-        if let Err(found) = check(case, port, &mut tally) {
-            return report(name, case, &found, port);
+        if let Err(found) = check(case, PORT, &mut tally) {
+            return report(name, case, &found);
         }
     }
     let mut random = Random(seed.wrapping_mul(0x9E3779B97F4A7C15) | 1);
@@ -54,8 +48,8 @@ fn main() -> ExitCode {
         if damaged {
             generator::damage(&mut random, &mut case);
         }
-        if let Err(found) = check(&case, port, &mut tally) {
-            return report(&format!("table {i} of seed {seed}"), &case, &found, port);
+        if let Err(found) = check(&case, PORT, &mut tally) {
+            return report(&format!("table {i} of seed {seed}"), &case, &found);
         }
     }
     println!("{tables} random cases (a third of them damaged) of seed {seed} and {} at the limits, no disagreement", boundaries.len());
@@ -78,9 +72,9 @@ fn print_counts(tally: &Tally) {
     }
 }
 
-fn report(name: &str, case: &Case, found: &Disagreement, port: Option<&dyn Port>) -> ExitCode {
+fn report(name: &str, case: &Case, found: &Disagreement) -> ExitCode {
     println!("{name}: {} disagrees", found.function);
-    let failing = |case: &Case| check(case, port, &mut Tally::default()).err().filter(|other| other.function == found.function);
+    let failing = |case: &Case| check(case, PORT, &mut Tally::default()).err().filter(|other| other.function == found.function);
     let small = shrink(case, &|case| failing(case).is_some());
     println!("{}", failing(&small).unwrap_or_else(|| Disagreement { function: found.function, text: found.text.clone() }).text);
     print!("{small}");

@@ -6,12 +6,13 @@ use std::fmt::{Display, Write};
 use std::process::ExitCode;
 
 use harness::compare::{self, Compared};
+use harness::exports::{Exports, Model, built_words, marked};
 use harness::generator::{self, Case};
 use harness::model::{self, Answer};
 use harness::plain::{Ext, P, Random, lift};
-use harness::table::{Interaction, Lookup, Part, Table};
+use harness::table::{Interaction, Lookup, Part, Plan, Table};
 
-/// What lent words hold before a call.
+/// What all that is lent to be written holds before a call; a refusal by 1 to 12 leaves it so.
 const BEFORE: u32 = 7;
 
 #[derive(Default)]
@@ -72,7 +73,7 @@ impl Text {
 
     fn generate(&mut self, answer: Answer, trace: &[u32], terminal: Option<Ext>) {
         self.list("trace", trace);
-        self.list("terminal", &marked(terminal));
+        self.list("terminal", &if (1..=12).contains(&answer.number) { [BEFORE; 5] } else { marked(terminal) });
         self.answer("generate", answer, &[]);
     }
 
@@ -82,43 +83,49 @@ impl Text {
         self.answer("constraints", answer, &[width, terminal.is_some().into()]);
     }
 
-    /// The packed lookups; a refused call leaves its outputs as they were, which are as long as the table's own lists.
+    /// What the outputs hold afterwards: the packed lookups, and what they held before. They are as long as the table's own lists.
     fn pack(&mut self, table: &Table, answer: Answer, limit: u64, packed: &[Lookup]) {
         let mut t = table.clone();
+        t.names.fill(BEFORE as u8);
+        for list in [&mut t.lookups, &mut t.tuples, &mut t.multiplicities, &mut t.flags, &mut t.elements] {
+            list.fill(BEFORE);
+        }
+        let mut used = [BEFORE as usize; 6];
         if answer.number == 0 {
-            t.set_records(packed);
-        } else {
-            t.names.fill(BEFORE as u8);
-            for list in [&mut t.lookups, &mut t.tuples, &mut t.multiplicities, &mut t.flags, &mut t.elements] {
-                list.fill(BEFORE);
-            }
+            let (lent, mut written) = (t.clone(), Table::default());
+            written.set_records(packed);
+            used = written.lengths();
+            t.lookups = [&written.lookups, &lent.lookups[used[0]..]].concat();
+            t.names = [&written.names, &lent.names[used[1]..]].concat();
+            t.tuples = [&written.tuples, &lent.tuples[used[2]..]].concat();
+            t.multiplicities = [&written.multiplicities, &lent.multiplicities[used[3]..]].concat();
+            t.flags = [&written.flags, &lent.flags[used[4]..]].concat();
+            t.elements = [&written.elements, &lent.elements[used[5]..]].concat();
         }
         self.lookups(&[t], "packed-");
+        self.list("used", &used);
         self.answer("pack", answer, &[limit]);
     }
 
-    /// The interactions, locals first, then globals, then exclusives, with the lists that their lookups will have. The list that building
-    /// is lent holds `lookups` afterwards, of which it wrote the first `used` words.
+    /// The interactions with the lists that their lookups will have. The list that building is lent holds `lookups` afterwards, of which it
+    /// wrote the first `used` words.
     fn build(&mut self, interactions: &[Interaction], answer: Answer, lookups: &[u32], used: usize) {
-        let mut sorted: Vec<Spoken> = interactions.iter().map(spoken).collect();
-        sorted.sort_by_key(|i| i.kind);
-        let parts: Vec<&Part> = sorted.iter().flat_map(|i| &i.parts).copied().collect();
-        self.list("interactions", &sorted.iter().flat_map(|i| [i.name.len(), i.parts.len()]).collect::<Vec<usize>>());
-        self.list("weights", &parts.iter().map(|part| part.weight).collect::<Vec<u32>>());
-        self.list("names", &sorted.iter().flat_map(|i| i.name).copied().collect::<Vec<u8>>());
-        self.list("tuples", &parts.iter().map(|part| part.elements.len()).collect::<Vec<usize>>());
-        self.list("multiplicities", &parts.iter().map(|part| part.multiplicity).collect::<Vec<u32>>());
-        self.list("flags", &sorted.iter().flat_map(|i| &i.flags).copied().collect::<Vec<u32>>());
-        self.list("elements", &parts.iter().flat_map(|part| &part.elements).copied().collect::<Vec<u32>>());
+        let Plan { kinds: [locals, globals, exclusives], interactions, weights, lists } = Plan::of(interactions);
+        self.list("interactions", &interactions);
+        self.list("weights", &weights);
+        self.list("names", &lists.names);
+        self.list("tuples", &lists.tuples);
+        self.list("multiplicities", &lists.multiplicities);
+        self.list("flags", &lists.flags);
+        self.list("elements", &lists.elements);
         self.list("lookups", lookups);
-        let [locals, globals, exclusives] = [0, 1, 2].map(|kind| sorted.iter().filter(|i| i.kind == kind).count() as u64);
         self.answer("build", answer, &[locals, globals, exclusives, used as u64]);
     }
 
     fn widths(&mut self, tables: &[Table], answer: Answer, widest: u64) {
         let size = |t: &Table| [t.lookup_count(), t.names.len(), t.tuples.len()];
         self.list("lists", &tables.iter().flat_map(size).collect::<Vec<usize>>());
-        self.answer("widths", answer, &[widest]);
+        self.answer("widths", answer, &[if answer.number == 0 { widest } else { BEFORE.into() }]);
     }
 
     fn bound(&mut self, tables: &[Table], heights: &[u64], answer: Answer) {
@@ -137,29 +144,36 @@ impl Text {
         self.list("workspace", workspace);
         self.answer("balance", answer, &[]);
     }
-}
 
-/// An interaction, whatever its kind.
-struct Spoken<'a> {
-    kind: usize,
-    name: &'a [u8],
-    parts: Vec<&'a Part>,
-    flags: Vec<u32>,
-}
-
-fn spoken(interaction: &Interaction) -> Spoken<'_> {
-    match interaction {
-        Interaction::Local(parts) => Spoken { kind: 0, name: &[], parts: parts.iter().collect(), flags: vec![] },
-        Interaction::Global(name, part) => Spoken { kind: 1, name, parts: vec![part], flags: vec![] },
-        Interaction::Exclusive(name, branches) => {
-            let (flags, parts) = branches.iter().map(|(flag, part)| (*flag, part)).unzip();
-            Spoken { kind: 2, name, parts, flags }
-        }
+    /// The nodes, with room for those that are to come, before and after, and the count.
+    fn count(&mut self, nodes: &[u32], after: &[u32], count: [u32; 2]) {
+        self.list("nodes", nodes);
+        self.list("nodes-after", after);
+        self.list("count", &count);
     }
-}
 
-fn marked(terminal: Option<Ext>) -> [u32; 5] {
-    terminal.map_or([0; 5], |[a, b, c, d]| [1, a, b, c, d])
+    fn count_of(&mut self, used: u64, x: i32, answer: Answer) {
+        self.answer("from-i32", answer, &[used, (x as u32).into()]);
+    }
+
+    fn negated(&mut self, used: u64, [node, weight]: [u32; 2], answer: Answer) {
+        self.answer("negated", answer, &[used, node.into(), weight.into()]);
+    }
+
+    /// The reader's part of a trace, whose words are their places.
+    fn row(&mut self, words: u32, lookups: u64, height: u64, row: u64, part: [u32; 2]) {
+        self.list("rows", &(0..words).collect::<Vec<u32>>());
+        self.list("part", &part);
+        self.list("written", &(part[0]..part[0] + part[1]).collect::<Vec<u32>>());
+        self.answer("row", ACCEPTED, &[lookups, height, row]);
+    }
+
+    /// A function of one element has no details.
+    fn element(&mut self, element: &[u32], result: &[u32], function: &str, number: u32, more: &[u32]) {
+        self.list("element", element);
+        self.list("result", result);
+        self.list(function, &[&[number], more].concat());
+    }
 }
 
 fn main() -> ExitCode {
@@ -174,6 +188,10 @@ fn main() -> ExitCode {
     refusals(&mut text);
     text.0.push_str("# Building, with the answers that follow from docs/SPECIFICATION.md.\n");
     building(&mut text);
+    text.0.push_str("# Counts, rows, powers and inverses, with the answers that follow from docs/SPECIFICATION.md.\n");
+    counts(&mut text);
+    rows(&mut text);
+    elements(&mut text);
     text.0.push_str("# Answers of p3-lookup 0.8.0.\n");
     for (i, case) in cases().iter().enumerate() {
         text.case(&format!("oracle {i}"));
@@ -234,9 +252,7 @@ fn worked(text: &mut Text) {
     generated(text, "c1 (3, 7) with beta 10 combines to 37", &table(&[3], &[lookup(&[&[0, 3]], &[1], None)]), 38, 10, &[0, 1], 1);
     generated(text, "c2 the empty tuple combines to 0", &table(&[3], &[lookup(&[&[]], &[1], None)]), 1, 10, &[0, 1], 1);
     text.case("c3 X^3 * X = 11");
-    text.list("element", &[0, 1, 0, 0]);
-    text.list("result", &[11, 0, 0, 0]);
-    text.list("power", &[0, 4]);
+    text.element(&[0, 1, 0, 0], &lift(11), "power", 0, &[4]);
     let half = 1006632961;
     generated(text, "c4 rows 3, 4 with multiplicity 1, alpha 5", &table(&[3, 4], &[once()]), 5, 0, &[0, half, half, 1], half + 1);
     generated(text, "c5 additive (3), multiplicity 0, alpha 3", &table(&[3], &[lookup(&[&[0]], &[2], None)]), 3, 0, &[0, 0], 0);
@@ -324,6 +340,20 @@ fn refusals(text: &mut Text) {
     text.table(&differing);
     text.widths(std::slice::from_ref(&differing), refused(6, [1, 2, 3]), 0);
     text.pack(&differing, refused(6, [1, 2, 3]), 3, &[]);
+    let many = table(&[3], &[lookup(&[&[0]], &[1, 1], None)]);
+    text.case("5: one tuple, two multiplicities");
+    text.table(&many);
+    text.widths(std::slice::from_ref(&many), refused(5, [0; 3]), 0);
+    text.bound(std::slice::from_ref(&many), &[1], refused(5, [0; 3]));
+    text.pack(&many, refused(5, [0; 3]), 3, &[]);
+    text.answer("degree", refused(5, [0; 3]), &[0, 0, BEFORE.into()]);
+    text.case("1: t = 2");
+    text.table(&table(&[3], &[once()]));
+    text.answer("degree", refused(1, [0; 3]), &[0, 2, BEFORE.into()]);
+    text.case("1: seven words for the packed lookup");
+    let t = table(&[3], &[once()]);
+    text.table(&t);
+    text.pack(&Table { lookups: vec![0; 7], ..t }, refused(1, [0; 3]), 3, &[]);
     text.case("7: weights 4294967295 and 1");
     let heavy = table(&[3], &[Lookup { weight: u32::MAX, ..once() }, once()]);
     text.table(&heavy);
@@ -387,7 +417,7 @@ fn built(text: &mut Text, title: &str, interactions: &[Interaction], lookups: &[
 fn unbuilt(text: &mut Text, title: &str, t: &Table, interactions: &[Interaction], answer: Answer) {
     text.case(title);
     text.table(t);
-    text.build(interactions, answer, &vec![BEFORE; 8 * interactions.len()], 0);
+    text.build(interactions, answer, &vec![BEFORE; 8 * interactions.len()], BEFORE as usize);
 }
 
 fn building(text: &mut Text) {
@@ -406,7 +436,7 @@ fn building(text: &mut Text) {
     unbuilt(text, "built, 1: 65 globals", &t, &vec![global(part(1, 1)); 65], refused(1, [0; 3]));
     text.case("built, 1: seven words for a lookup");
     text.table(&t);
-    text.build(&one, refused(1, [0; 3]), &[BEFORE; 7], 0);
+    text.build(&one, refused(1, [0; 3]), &[BEFORE; 7], BEFORE as usize);
     t.nodes[10] = P;
     unbuilt(text, "built, 2: a constant 2013265921", &t, &one, refused(2, [0; 3]));
     t.nodes[9..12].copy_from_slice(&[9, 3, 1]);
@@ -419,6 +449,80 @@ fn building(text: &mut Text) {
     unbuilt(text, "built, 6: a local of widths 2 and 3", &t, &[local(&[part(2, 1), part(3, 1)])], refused(6, [0, 2, 3]));
     let second = [local(&[part(1, 1)]), local(&[part(2, 1), part(2, 1), part(0, 1)]), one[0].clone()];
     unbuilt(text, "built, 6: the second local", &t, &second, refused(6, [1, 2, 0]));
+}
+
+/// A count is added after the column and the constant 1, in a list with room for one node and a word more.
+fn counts(text: &mut Text) {
+    let before = [1, 0, 0, 0, 1, 0, BEFORE, BEFORE, BEFORE, BEFORE];
+    let after = |node: [u32; 3]| [&before[..6], &node, &[BEFORE]].concat();
+    let unwritten = [BEFORE; 2];
+    for (x, word, weight) in [(3, 3, 3), (-1, P - 1, 1), (0, 0, 0), (2013265921, 0, P), (i32::MAX, 134217726, 2147483647)] {
+        text.case(&format!("count of {x}"));
+        text.count(&before, &after([0, word, 0]), [2, weight]);
+        text.count_of(2, x, ACCEPTED);
+    }
+    text.case("count of -2^31");
+    text.count(&before, &after([0, 1879048194, 0]), [2, 1 << 31]);
+    text.count_of(2, i32::MIN, ACCEPTED);
+    text.case("negated count of node 1, weight 2^32 - 1");
+    text.count(&before, &after([12, 1, 0]), [2, u32::MAX]);
+    text.negated(2, [1, u32::MAX], ACCEPTED);
+    text.case("count, 1: no room for a node");
+    text.count(&before[..8], &before[..8], unwritten);
+    text.count_of(2, 1, refused(1, [0; 3]));
+    text.negated(2, [1, 1], refused(1, [0; 3]));
+    text.case("negated count, 3: node 2 of 2");
+    text.count(&before, &before, unwritten);
+    text.negated(2, [2, 1], refused(3, [0; 3]));
+    text.case("bounded count");
+    text.list("count", &[5, 9]);
+    text.answer("bounded", ACCEPTED, &[5, 9]);
+    text.case("provided count");
+    text.list("count", &[5, 0]);
+    text.answer("provided", ACCEPTED, &[5]);
+}
+
+/// Two lookups have rows of 12 words.
+fn rows(text: &mut Text) {
+    let cases = [
+        ("row 0", 36, 2, 3, 0, [0, 12]),
+        ("the last row", 36, 2, 3, 2, [24, 12]),
+        ("row: past the last", 48, 2, 3, 3, [0, 0]),
+        ("row: past the words", 36, 2, 4, 3, [0, 0]),
+        ("row: a word too few", 35, 2, 3, 2, [0, 0]),
+        ("row: words past the last", 41, 2, 3, 2, [24, 12]),
+        ("row: no lookups", 12, 0, 3, 0, [0, 0]),
+        ("row: row 2^32 - 1 of 2^32", 36, 2, 1 << 32, u32::MAX.into(), [0, 0]),
+    ];
+    for (title, words, lookups, height, row, part) in cases {
+        text.case(title);
+        text.row(words, lookups, height, row, part);
+    }
+}
+
+fn elements(text: &mut Text) {
+    let half = 1006632961;
+    // X / 11 is the inverse of X^3.
+    let eleventh = 549072524;
+    let cases = [
+        ("the inverse of 2", lift(2), lift(half)),
+        ("the inverse of X^3", [0, 0, 0, 1], [0, eleventh, 0, 0]),
+        ("the inverse of 0", [0; 4], [0; 4]),
+    ];
+    for (title, element, result) in cases {
+        text.case(title);
+        text.element(&element, &result, "inverse", 0, &[]);
+    }
+    text.case("inverse, 1: three words");
+    text.element(&[1, 2, 3], &[BEFORE; 4], "inverse", 1, &[]);
+    text.case("inverse, 1: room for five words");
+    text.element(&[1, 2, 3, 4], &[BEFORE; 5], "inverse", 1, &[]);
+    text.case("inverse, 2: a word 2013265921");
+    text.element(&[1, 2, P, 4], &[BEFORE; 4], "inverse", 2, &[]);
+    text.case("the power 0 of 0 is 1");
+    text.element(&[0; 4], &lift(1), "power", 0, &[0]);
+    text.case("power, 2: a word 2013265921");
+    text.element(&[P, 0, 0, 0], &[BEFORE; 4], "power", 2, &[4]);
 }
 
 // The crate's answers.
@@ -459,14 +563,10 @@ fn oracle(text: &mut Text, case: &Case) {
 
 /// After the other functions: the lists of the table's own lookups give way to those of the interactions.
 fn built_by_the_crate(text: &mut Text, t: &Table, interactions: &[Interaction], answer: Answer) {
-    let mut lookups = vec![BEFORE; 8 * interactions.len()];
-    let mut used = 0;
-    if answer.number == 0 {
-        let mut t = t.clone();
-        t.set_records(&model::build(&t, interactions).1);
-        (lookups, used) = (t.lookups.clone(), t.lookups.len());
-    }
-    text.build(interactions, answer, &lookups, used);
+    let plan = Plan::of(interactions);
+    let (mut lookups, mut used) = (vec![BEFORE; built_words(&plan)], BEFORE.into());
+    Model.build(t, &plan, &mut lookups, &mut used);
+    text.build(interactions, answer, &lookups, used as usize);
 }
 
 fn of_all_tables(text: &mut Text, case: &Case) {

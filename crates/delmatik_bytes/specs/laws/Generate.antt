@@ -12,25 +12,25 @@ use Rattle.wire.specs.Room.{fit, all-words}
 use Rattle.delmatik_bytes.specs.inner.Words.{generation-on-words}
 use Rattle.delmatik_bytes.specs.Generate.{answered, lists-of, in-bytes, generation-on-bytes}
 
-module _ (t : Table) (challenges trace room trace-room : List ℕ) {n : ℕ} {details terminal : List ℕ} {a : Answer} where
+module _ (t : Table) (challenges trace given room trace-room : List ℕ) {n : ℕ} {details terminal : List ℕ} {a : Answer} where
   pub fitting : {trace-after room-after buffer words : List ℕ} (lists : List (List ℕ)) → fit (lists-of t challenges) room ≡ true → fit (trace ∷ []) trace-room ≡ true
       → (room-after ≡ all-words (lists-of t challenges)) × (lists ≡ map words-of (lists-of t challenges)) → words ≡ words-of trace
       → record { answer = a; buffer = buffer } ≡ generation-on-words (t .traces .shape) (t .lookups .names) lists words
       → trace-after ≡ bytes-of buffer
-      → (n ≡ generation-number a) × (details ≡ generation-details a) × (terminal ≡ generation-terminal a)
-      → record { number = n; details = details; terminal = terminal; trace = trace-after; room = room-after; trace-room = buffer } ≡ generation-on-bytes t challenges trace room trace-room
+      → (n ≡ generation-number a) × (details ≡ generation-details a) × (terminal ≡ generation-terminal a given)
+      → record { number = n; details = details; terminal = terminal; trace = trace-after; room = room-after; trace-room = buffer } ≡ generation-on-bytes t challenges trace given room trace-room
   unfolding generation-on-bytes
   fitting {trace-after} {room-after} {buffer} {words} lists f g r w o b told =
       let same : generation-on-words (t .traces .shape) (t .lookups .names) lists words ≡ generation-on-words (t .traces .shape) (t .lookups .names) (map words-of (lists-of t challenges)) (words-of trace) =
       ap₂ (generation-on-words (t .traces .shape) (t .lookups .names)) (r .1) w in
       rw (f, g)
       ((λ i. record { number = told .0 i; details = told .1 i; terminal = told .2 i; trace = b i; room = r .0 i; trace-room = buffer })
-      ∙ ap (λ (z : Outcome). in-bytes z (all-words (lists-of t challenges))) (o ∙ same))
+      ∙ ap (λ (z : Outcome). in-bytes z given (all-words (lists-of t challenges))) (o ∙ same))
 
   pub odd : (fit (lists-of t challenges) room && fit (trace ∷ []) trace-room) ≡ false → a ≡ refused SizeAtOdds
-      → (n ≡ generation-number a) × (details ≡ generation-details a) × (terminal ≡ generation-terminal a)
-      → record { number = n; details = details; terminal = terminal; trace = trace; room = room; trace-room = trace-room } ≡ generation-on-bytes t challenges trace room trace-room
+      → (n ≡ generation-number a) × (details ≡ generation-details a) × (terminal ≡ generation-terminal a given)
+      → record { number = n; details = details; terminal = terminal; trace = trace; room = room; trace-room = trace-room } ≡ generation-on-bytes t challenges trace given room trace-room
   unfolding generation-on-bytes
   odd e q told =
       rw e ((λ i. record { number = told .0 i; details = told .1 i; terminal = told .2 i; trace = trace; room = room; trace-room = trace-room })
-      ∙ ap (λ (z : Answer). answered z trace room trace-room) q)
+      ∙ ap (λ (z : Answer). answered z given trace room trace-room) q)

@@ -3,9 +3,8 @@ use mathlib.Core.Path.{_≡_, refl, sym, ap, _∙_}
 use mathlib.Core.Bool.{Bool, true, false, cond}
 use mathlib.Core.List.{List, [], _∷_, map, flatMap}
 use Prim.Native.Nat.{ℕ, zero, suc, _+_, _*_, _<_, _≤_, zero-le}
-use native.Mathlib.Nat.{zero-add}
 use native.Mathlib.Omega.{arith}
-use lib.ListN.{length, take, drop, length-append, length-map, length-take, length-drop}
+use lib.ListN.{length, length-append, length-map, length-take, length-drop}
 use Rattle.lists.specs.Count.{total}
 use Rattle.lists.specs.Tab.{tab}
 use Rattle.lists.specs.laws.Sums.{total-cong}
@@ -93,7 +92,8 @@ module _ (l : Lookups) (fit : Fitting l) where
 
   words-sum : sum-of (λ (x : Lookup). length (lookup-words x)) (lookups-of l) ≡ 8 * N
   words-sum =
-      by-number (λ (x : Lookup). length (lookup-words x)) ∙ total-cong (λ i. length (lookup-words (lookup-at l i))) (λ i. 8) N (λ i h. eight (lookup-at l i)) ∙ eights N
+      by-number (λ (x : Lookup). length (lookup-words x))
+      ∙ total-cong (λ i. length (lookup-words (lookup-at l i))) (λ i. 8) N (λ i h. eight (lookup-at l i)) ∙ eights N
 
   names-sum : sum-of (λ (x : Lookup). length (x .name)) (lookups-of l) ≤ length (l .names)
   unfolding lookup-at name-start
@@ -105,25 +105,32 @@ module _ (l : Lookups) (fit : Fitting l) where
   unfolding lookup-at tuple-start
   tuples-sum =
       by-number (λ (x : Lookup). length (x .tuples))
-      ∙ total-cong (λ i. length (lookup-at l i .tuples)) (tuple-count (l .lookups)) N (λ i h. tab-length (tuple-nodes l i) 0 (tuple-count (l .lookups) i)) ∙ sym (fit .tuples)
+      ∙ total-cong (λ i. length (lookup-at l i .tuples)) (tuple-count (l .lookups)) N (λ i h. tab-length (tuple-nodes l i) 0 (tuple-count (l .lookups) i))
+      ∙ sym (fit .tuples)
 
   multiplicities-sum : sum-of (λ (x : Lookup). length (x .multiplicities)) (lookups-of l) ≡ length (l .multiplicities)
   unfolding lookup-at multiplicity-start
   multiplicities-sum =
-      let each : (i : ℕ) → i < N → length (lookup-at l i .multiplicities) ≡ multiplicity-count (l .lookups) i = λ i h. simp (length-take, length-drop) (omega (arith, placed l fit i h .multiplicities)) in
-      by-number (λ (x : Lookup). length (x .multiplicities)) ∙ total-cong (λ i. length (lookup-at l i .multiplicities)) (multiplicity-count (l .lookups)) N each ∙ sym (fit .multiplicities)
+      let each : (i : ℕ) → i < N → length (lookup-at l i .multiplicities) ≡ multiplicity-count (l .lookups) i =
+      λ i h. simp (length-take, length-drop) (omega (arith, placed l fit i h .multiplicities)) in
+      by-number (λ (x : Lookup). length (x .multiplicities))
+      ∙ total-cong (λ i. length (lookup-at l i .multiplicities)) (multiplicity-count (l .lookups)) N each ∙ sym (fit .multiplicities)
 
   flags-sum : sum-of (λ (x : Lookup). length (x .flags)) (lookups-of l) ≡ length (l .flags)
   unfolding lookup-at flag-start
   flags-sum =
-      let each : (i : ℕ) → i < N → length (lookup-at l i .flags) ≡ flag-count (l .lookups) i = λ i h. simp (length-take, length-drop) (omega (arith, placed l fit i h .flags)) in
-      by-number (λ (x : Lookup). length (x .flags)) ∙ total-cong (λ i. length (lookup-at l i .flags)) (flag-count (l .lookups)) N each ∙ sym (fit .flags)
+      let each : (i : ℕ) → i < N → length (lookup-at l i .flags) ≡ flag-count (l .lookups) i =
+      λ i h. simp (length-take, length-drop) (omega (arith, placed l fit i h .flags)) in
+      by-number (λ (x : Lookup). length (x .flags))
+      ∙ total-cong (λ i. length (lookup-at l i .flags)) (flag-count (l .lookups)) N each ∙ sym (fit .flags)
 
   -- the elements of lookup i
-  elements-of : (i : ℕ) → i < N → length (flatMap (λ (t : List ℕ). t) (lookup-at l i .tuples)) ≡ total (λ k. word (l .tuples) (tuple-start (l .lookups) i + k)) (tuple-count (l .lookups) i)
+  elements-of : (i : ℕ) → i < N
+      → length (flatMap (λ (t : List ℕ). t) (lookup-at l i .tuples)) ≡ total (λ k. word (l .tuples) (tuple-start (l .lookups) i + k)) (tuple-count (l .lookups) i)
   unfolding lookup-at tuple-nodes tuple-width
   elements-of i h =
-      flat-length (λ (t : List ℕ). t) (tab (tuple-nodes l i) 0 (tuple-count (l .lookups) i)) ∙ sum-tab (λ (t : List ℕ). length t) (tuple-nodes l i) (tuple-count (l .lookups) i)
+      flat-length (λ (t : List ℕ). t) (tab (tuple-nodes l i) 0 (tuple-count (l .lookups) i))
+      ∙ sum-tab (λ (t : List ℕ). length t) (tuple-nodes l i) (tuple-count (l .lookups) i)
       ∙ total-cong (λ k. length (tuple-nodes l i k)) (λ k. word (l .tuples) (tuple-start (l .lookups) i + k)) (tuple-count (l .lookups) i)
       (λ k g. simp (length-take, length-drop) (omega (arith, tuple-placed l fit i k h g)))
 
@@ -131,7 +138,8 @@ module _ (l : Lookups) (fit : Fitting l) where
   unfolding tuple-start element-start
   elements-sum =
       by-number (λ (x : Lookup). length (flatMap (λ (t : List ℕ). t) (x .tuples)))
-      ∙ total-cong (λ i. length (flatMap (λ (t : List ℕ). t) (lookup-at l i .tuples))) (λ i. total (λ k. word (l .tuples) (total (tuple-count (l .lookups)) i + k)) (tuple-count (l .lookups) i)) N elements-of
+      ∙ total-cong (λ i. length (flatMap (λ (t : List ℕ). t) (lookup-at l i .tuples)))
+      (λ i. total (λ k. word (l .tuples) (total (tuple-count (l .lookups)) i + k)) (tuple-count (l .lookups) i)) N elements-of
       ∙ total-parts (word (l .tuples)) (tuple-count (l .lookups)) N ∙ ap (total (word (l .tuples))) (sym (fit .tuples)) ∙ sym (fit .elements)
 
 -- whatever the nodes' degrees and the limit
@@ -139,24 +147,47 @@ pub packed-no-longer : (deg : ℕ → ℕ) (limit : ℕ) (l : Lookups) → Fitti
 unfolding words-of
 packed-no-longer deg limit l fit =
     record {
-      lookups = omega (arith, flat-length lookup-words (packed deg limit l), packed-most (λ (x : Lookup). length (lookup-words x)) words-most (λ (k : ℕ) (x : Lookup). eight (numbered k x) ∙ sym (eight x)) deg limit l, words-sum l fit, fit .lookups);
-      names = omega (arith, flat-length (λ (x : Lookup). x .name) (packed deg limit l), packed-most (λ (x : Lookup). length (x .name)) (λ (a b : Lookup). omega arith) (λ (k : ℕ) (x : Lookup). refl) deg limit l, names-sum l fit);
-      tuples = flat-length (λ (x : Lookup). map (λ (t : List ℕ). length t) (x .tuples)) (packed deg limit l) ∙ as-many (packed deg limit l)
-          ∙ packed-sum (λ (x : Lookup). length (x .tuples)) (λ (a b : Lookup). length-append (a .tuples) (b .tuples)) (λ (k : ℕ) (x : Lookup). refl) deg limit l ∙ tuples-sum l fit;
-      multiplicities = flat-length (λ (x : Lookup). x .multiplicities) (packed deg limit l)
-          ∙ packed-sum (λ (x : Lookup). length (x .multiplicities)) (λ (a b : Lookup). length-append (a .multiplicities) (b .multiplicities)) (λ (k : ℕ) (x : Lookup). refl) deg limit l ∙ multiplicities-sum l fit;
-      flags = flat-length (λ (x : Lookup). x .flags) (packed deg limit l)
-          ∙ packed-sum (λ (x : Lookup). length (x .flags)) (λ (a b : Lookup). length-append (a .flags) (b .flags)) (λ (k : ℕ) (x : Lookup). refl) deg limit l ∙ flags-sum l fit;
-      elements = flat-length (λ (x : Lookup). flatMap (λ (t : List ℕ). t) (x .tuples)) (packed deg limit l)
-          ∙ packed-sum (λ (x : Lookup). length (flatMap (λ (t : List ℕ). t) (x .tuples))) joined-elements (λ (k : ℕ) (x : Lookup). refl) deg limit l ∙ elements-sum l fit;
+      lookups = omega (
+        arith,
+        flat-length lookup-words cs,
+        packed-most (λ (x : Lookup). length (lookup-words x)) words-most (λ (k : ℕ) (x : Lookup). eight (numbered k x) ∙ sym (eight x)) deg limit l,
+        words-sum l fit,
+        fit .lookups,
+      );
+      names = omega (
+        arith,
+        flat-length (λ (x : Lookup). x .name) cs,
+        packed-most (λ (x : Lookup). length (x .name)) (λ (a b : Lookup). omega arith) (λ (k : ℕ) (x : Lookup). refl) deg limit l,
+        names-sum l fit,
+      );
+      tuples = flat-length (λ (x : Lookup). map (λ (t : List ℕ). length t) (x .tuples)) cs ∙ as-many cs
+          ∙ packed-sum (λ (x : Lookup). length (x .tuples)) (λ (a b : Lookup). length-append (a .tuples) (b .tuples)) (λ (k : ℕ) (x : Lookup). refl) deg limit l
+          ∙ tuples-sum l fit;
+      multiplicities = flat-length (λ (x : Lookup). x .multiplicities) cs
+          ∙ packed-sum (λ (x : Lookup). length (x .multiplicities)) (λ (a b : Lookup). length-append (a .multiplicities) (b .multiplicities))
+          (λ (k : ℕ) (x : Lookup). refl) deg limit l
+          ∙ multiplicities-sum l fit;
+      flags = flat-length (λ (x : Lookup). x .flags) cs
+          ∙ packed-sum (λ (x : Lookup). length (x .flags)) (λ (a b : Lookup). length-append (a .flags) (b .flags)) (λ (k : ℕ) (x : Lookup). refl) deg limit l
+          ∙ flags-sum l fit;
+      elements = flat-length (λ (x : Lookup). flatMap (λ (t : List ℕ). t) (x .tuples)) cs
+          ∙ packed-sum (λ (x : Lookup). length (flatMap (λ (t : List ℕ). t) (x .tuples))) joined-elements (λ (k : ℕ) (x : Lookup). refl) deg limit l
+          ∙ elements-sum l fit;
     }
   where
+    cs : List Lookup
+    cs = packed deg limit l
+
     words-most : (a b : Lookup) → length (lookup-words (merged a b)) ≤ length (lookup-words a) + length (lookup-words b)
     words-most a b = rw (eight (merged a b), eight a, eight b) (omega arith)
 
-    as-many : (ls : List Lookup) → sum-of (λ (x : Lookup). length (map (λ (t : List ℕ). length t) (x .tuples))) ls ≡ sum-of (λ (x : Lookup). length (x .tuples)) ls
+    as-many : (ls : List Lookup)
+        → sum-of (λ (x : Lookup). length (map (λ (t : List ℕ). length t) (x .tuples))) ls ≡ sum-of (λ (x : Lookup). length (x .tuples)) ls
     as-many ls = ap (λ (f : Lookup → ℕ). sum-of f ls) (λ i x. length-map (x .tuples) (λ (t : List ℕ). length t) i)
 
-    joined-elements : (a b : Lookup) → length (flatMap (λ (t : List ℕ). t) (merged a b .tuples)) ≡ length (flatMap (λ (t : List ℕ). t) (a .tuples)) + length (flatMap (λ (t : List ℕ). t) (b .tuples))
+    joined-elements : (a b : Lookup)
+        → length (flatMap (λ (t : List ℕ). t) (merged a b .tuples))
+        ≡ length (flatMap (λ (t : List ℕ). t) (a .tuples)) + length (flatMap (λ (t : List ℕ). t) (b .tuples))
     joined-elements a b =
-        ap length (flat-append (λ (t : List ℕ). t) (a .tuples) (b .tuples)) ∙ length-append (flatMap (λ (t : List ℕ). t) (a .tuples)) (flatMap (λ (t : List ℕ). t) (b .tuples))
+        ap length (flat-append (λ (t : List ℕ). t) (a .tuples) (b .tuples))
+        ∙ length-append (flatMap (λ (t : List ℕ). t) (a .tuples)) (flatMap (λ (t : List ℕ). t) (b .tuples))

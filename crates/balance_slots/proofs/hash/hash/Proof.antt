@@ -1,5 +1,5 @@
 use Prim.Native.Nat.{_-_}
-use Rattle.balance_slots.proofs.ChainsLoops.{HashLoop, hash-loop-begins, hash-loop-turn, hash-loop-ends, point-fits, factor-fits}
+use Rattle.balance_slots.proofs.ChainsLoops.{HashLoop, hash-loop-begins, hash-loop-turn, hash-loop-ends, point-fits, factor-fits, step-fits, once-low, twice-low}
 use native.Mathlib.Omega.{arith}
 use borrow.Author.Needs.{needs}
 use Rattle.balance_slots.proofs.hash.hash.Statement.{statement}
@@ -20,8 +20,8 @@ to-u64-requires-2 c κs = search needs
 loop-holds : tie.Need-loop-holds Inv-loop μ-loop
 loop-holds c = hash-loop-begins (c .before .to-u64 .ensures .1) (c .to-u642 .ensures .1)
 
-mul-h : tie.Need-mul-h Inv-loop μ-loop
-mul-h c = omega (arith, point-fits (c .before .loop .inv))
+mul-x : tie.Need-mul-x Inv-loop μ-loop
+mul-x c = omega (arith, point-fits (c .before .loop .inv))
 
 add-to-u64 : tie.Need-add-to-u64 Inv-loop μ-loop
 add-to-u64 c = search needs
@@ -35,8 +35,14 @@ shared-slice-read-to-u64 c = search needs
 to-u64-requires-3 : tie.Need-to-u64-requires-3 Inv-loop μ-loop
 to-u64-requires-3 c κs = search needs
 
+add-x : tie.Need-add-x Inv-loop μ-loop
+add-x c = omega (arith, step-fits (point-fits (c .before .before .before .loop .inv)) (c .to-u643 .ensures .1))
+
+add-y : tie.Need-add-y Inv-loop μ-loop
+add-y c = omega (arith, once-low _ (step-fits (point-fits (c .before .before .before .loop .inv)) (c .to-u643 .ensures .1)))
+
 add-h : tie.Need-add-h Inv-loop μ-loop
-add-h c = omega (arith, point-fits (c .before .before .before .loop .inv))
+add-h c = omega (arith, twice-low _ (once-low _ (step-fits (point-fits (c .before .before .before .loop .inv)) (c .to-u643 .ensures .1))))
 
 add-j : tie.Need-add-j Inv-loop μ-loop
 add-j c = search needs
@@ -45,7 +51,7 @@ loop-less : tie.Need-loop-less Inv-loop μ-loop
 loop-less c = search needs
 
 loop-again : tie.Need-loop-again Inv-loop μ-loop
-loop-again c = hash-loop-turn (c .before .before .before .loop .inv) (c .before .before .loop-test .taken) (c .to-u643 .ensures .0)
+loop-again c = hash-loop-turn (c .before .before .before .loop .inv) (c .before .before .loop-test .taken) (c .to-u643 .ensures .1) (c .to-u643 .ensures .0)
 
 mul-result : tie.Need-mul-result Inv-loop μ-loop
 mul-result c = omega (arith, factor-fits (c .before .loop .inv))
@@ -62,11 +68,13 @@ hash-spec =
     to-u64-requires
     to-u64-requires-2
     loop-holds
-    mul-h
+    mul-x
     add-to-u64
     mul-to-u64
     shared-slice-read-to-u64
     to-u64-requires-3
+    add-x
+    add-y
     add-h
     add-j
     loop-less

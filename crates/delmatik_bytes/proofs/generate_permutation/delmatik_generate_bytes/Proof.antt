@@ -77,7 +77,7 @@ returns c =
     let at-filled = c .before .before .before .before .before in
     let at-if1 = c .before .before .before in
     let at-tell-generated = c in
-    odd (table start) (start .args .challenges .now) (start .args .trace .now) (start .args .room .now) (start .args .trace-room .now)
+    odd (table start) (start .args .challenges .now) (start .args .trace .now) (start .args .terminal .now) (start .args .room .now) (start .args .trace-room .now)
     (sym (ap₂ _&&_ (room-fits at-filled2) (trace-fits at-filled2)) ∙ not-true (at-filled .filled .result && at-filled2 .filled2 .result) (at-if1 .if1 .taken)) refl (at-tell-generated .tell-generated .ensures)
 
 fill-five-requires : tie.Need-fill-five-requires
@@ -145,7 +145,7 @@ returns-2 c =
     let at-trace-room = c .before .before .before .before .before .before .before .before .before .before .before .before .before .before in
     let at-encode = c .before .before .before .before .before in
     let at-tell-generated2 = c in
-    fitting (table start) (start .args .challenges .now) (start .args .trace .now) (start .args .room .now) (start .args .trace-room .now)
+    fitting (table start) (start .args .challenges .now) (start .args .trace .now) (start .args .terminal .now) (start .args .room .now) (start .args .trace-room .now)
     (parts _ 0 (both-ends (at-fill-five .fill-five .result) (at-fill-five2 .fill-five2 .result))) (both-fit at-if1 .0) (both-fit at-if1 .1)
     (ten (both-fit at-if1 .0) (at-fill-five .fill-five .ensures) (at-fill-five2 .fill-five2 .ensures)) (one-alone (start .args .trace .now) (start .args .trace-room .now) (both-fit at-if1 .1) (at-fill .fill .ensures .1))
     (at-generate-in .generate-in .ensures)

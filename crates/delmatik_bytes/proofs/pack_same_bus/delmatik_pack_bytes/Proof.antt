@@ -83,7 +83,7 @@ returns c =
     let at-if1 = c .before .before .before in
     let at-tell-packed = c in
     odd (start .args .limit) (columns-of (start .args .main-width) (start .args .pre-width) (start .args .public-values)) (start .args .nodes .now) (given start) (lent start)
-    (start .args .room .now) (start .args .out-room .now)
+    (start .args .used .now) (start .args .room .now) (start .args .out-room .now)
     (sym (ap₂ _&&_ (room-fits at-filled2) (out-fits at-filled2)) ∙ not-true (at-filled .filled .result && at-filled2 .filled2 .result) (at-if1 .if1 .taken)) refl (at-tell-packed .tell-packed .ensures)
 
 fill-requires : tie.Need-fill-requires
@@ -199,7 +199,7 @@ returns-2 c =
     let at-tell-packed2 = c in
     let x = at-fill-five2 .fill-five2 .result in
     fitting (start .args .limit) (columns-of (start .args .main-width) (start .args .pre-width) (start .args .public-values)) (start .args .nodes .now) (given start) (lent start)
-    (start .args .room .now) (start .args .out-room .now)
+    (start .args .used .now) (start .args .room .now) (start .args .out-room .now)
     (parts _ 0 (at-fill .fill .result ∷ five-ends (at-fill-five .fill-five .result))) (parts _ 0 (five-ends x)) (parts (at-pack-in .pack-in .last .1
     .1 .1 .1 .1 .1 .1 .1 .0) 0 (five-ends x)) (both-fit at-if1 .0) (both-fit at-if1 .1)
     (six (start .args .nodes .now) (start .args .room .now) (both-fit at-if1 .0) (at-fill .fill .ensures) (at-fill-five .fill-five .ensures))

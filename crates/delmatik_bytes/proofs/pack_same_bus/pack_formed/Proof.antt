@@ -1,12 +1,10 @@
-use Rattle.delmatik_bytes.specs.laws.Pack.{counts-in}
 use Rattle.delmatik_bytes.specs.inner.Words.{lookups-in}
 use Rattle.wire.specs.inner.Place.{parts, five-ends}
 use Rattle.packing_entry.proofs.Answers.{same-refusal, accepted-is, roomy, packed-is, refused-is}
-use Rattle.packing.specs.declared.answer.Counts.{Counts}
-use Rattle.packing_columns.specs.inner.Layout.{plan-refusal, formed-refusal}
+use Rattle.packing_columns.specs.inner.Layout.{formed-refusal}
 use Rattle.lookup.specs.Lookups.{Lookups, lent-lookups}
 use Rattle.expression.specs.Refusal.{refusal}
-use mathlib.Core.Path.{_≡_, ap, _∙_}
+use mathlib.Core.Path.{_≡_}
 use borrow.Author.Needs.{needs}
 use Rattle.delmatik_bytes.proofs.pack_same_bus.pack_formed.Statement.{statement}
 use Rattle.delmatik_bytes.proofs.pack_same_bus.pack_formed.Tie as tie
@@ -19,16 +17,11 @@ lent c = lookups-in (c .args .names-out .now) (parts (c .args .room .now) 0 (fiv
 
 -- the verdict is that of the definition
 refused-so : (c : tie.After-plan-refusal)
-    → let start = c .before .before .before .before .before .before .before .before .before .before .before .before .before .before .before .before .before in
-    refusal (c .plan-refusal .result) ≡ formed-refusal (start .args .limit) (start .args .nodes .now) (given start) (lent start)
+    → let start = c .before .before .before .before .before .before .before .before .before .before .before .before .before in
+    refusal (c .plan-refusal .result) ≡ formed-refusal (start .args .limit) (start .args .nodes .now) (given start)
 refused-so c =
-    let start = c .before .before .before .before .before .before .before .before .before .before .before .before .before .before .before .before .before in
-    let at-plan-of = c .before .before .before .before .before .before in
-    let at-counts-of = c .before .before .before .before .before in
-    same-refusal (start .args .limit) (start .args .nodes .now) (given start) (lent start) (at-plan-of .plan-of .ensures) (c .plan-refusal .result) (at-counts-of .counts-of .ensures)
-    (c .plan-refusal .ensures
-    ∙ ap (λ (z : Counts). plan-refusal (at-counts-of .counts-of .result) z (at-plan-of .plan-of .result .over) (start .args .lookups .now) (start .args .names .now) (start .args .tuples .now))
-    (counts-in (start .args .room .now) (start .args .ends) (start .pre .2) (start .args .names-out .now)))
+    let start = c .before .before .before .before .before .before .before .before .before .before .before .before .before in
+    same-refusal (start .args .limit) (start .args .nodes .now) (given start) (lent start) (c .before .before .plan-of .ensures) (c .plan-refusal .result) (c .plan-refusal .ensures)
 
 cabinet-requires : tie.Need-cabinet-requires
 cabinet-requires c κs = search needs
@@ -44,29 +37,9 @@ counts-of-requires c κs =
     let at-plan-of = c in
     at-plan-of .plan-of .ensures .numbered
 
-sub-t19 : tie.Need-sub-t19
-sub-t19 c =
-    let start = c .before .before .before .before .before .before .before .before .before .before .before .before .before in
-    start .pre .2 .second
-
-sub-t20 : tie.Need-sub-t20
-sub-t20 c =
-    let start = c .before .before .before .before .before .before .before .before .before .before .before .before .before .before in
-    start .pre .2 .third
-
-sub-t21 : tie.Need-sub-t21
-sub-t21 c =
-    let start = c .before .before .before .before .before .before .before .before .before .before .before .before .before .before .before in
-    start .pre .2 .fourth
-
-sub-t22 : tie.Need-sub-t22
-sub-t22 c =
-    let start = c .before .before .before .before .before .before .before .before .before .before .before .before .before .before .before .before in
-    start .pre .2 .fifth
-
 plan-refusal-requires : tie.Need-plan-refusal-requires
 plan-refusal-requires c κs =
-    let start = c .before .before .before .before .before .before .before .before .before .before .before .before .before .before .before .before in
+    let start = c .before .before .before .before .before .before .before .before .before .before .before .before in
     start .pre .1
 
 enum-known-v : tie.Need-enum-known-v
@@ -77,19 +50,19 @@ enum-told c = search needs
 
 write-in-requires : tie.Need-write-in-requires
 write-in-requires c κs =
-    let start = c .before .before .before .before .before .before .before .before .before .before .before .before .before .before .before .before .before .before .before .before .before in
-    let at-plan-of = c .before .before .before .before .before .before .before .before .before .before in
+    let start = c .before .before .before .before .before .before .before .before .before .before .before .before .before .before .before .before .before in
+    let at-plan-of = c .before .before .before .before .before .before in
     let at-plan-refusal = c .before .before .before .before in
     let at-enum-told = c .before .before in (
-      roomy (start .args .limit) (start .args .nodes .now) (given start) (lent start) (at-plan-of .plan-of .ensures) (start .pre .0 .fitting)
+      roomy (start .args .limit) (start .args .nodes .now) (given start) (lent start) (at-plan-of .plan-of .ensures) (start .pre .0 .fitting) (start .pre .3)
           (accepted-is (start .args .limit) (start .args .nodes .now) (given start) (lent start) (at-plan-of .plan-of .ensures) (at-plan-refusal .plan-refusal .result) (refused-so at-plan-refusal) (at-enum-told .enum-told .given .1)),
       start .pre .2,
     )
 
 returns : tie.Need-returns
 returns c =
-    let start = c .before .before .before .before .before .before .before .before .before .before .before .before .before .before .before .before .before .before .before .before in
-    let at-plan-of = c .before .before .before .before .before .before .before .before .before in
+    let start = c .before .before .before .before .before .before .before .before .before .before .before .before .before .before .before .before in
+    let at-plan-of = c .before .before .before .before .before in
     let at-plan-refusal = c .before .before .before in
     let at-v = c .before in
     let q = refused-is (start .args .limit) (start .args .nodes .now) (given start) (lent start) (at-plan-of .plan-of .ensures) (at-plan-refusal .plan-refusal .result) (refused-so at-plan-refusal) (at-v .v .given .1) in
@@ -107,11 +80,11 @@ same-length-2 c =
 
 returns-2 : tie.Need-returns-2
 returns-2 c =
-    let start = c .before .before .before .before .before .before .before .before .before .before .before .before .before .before .before .before .before .before .before .before .before .before .before .before .before .before in
-    let at-plan-of = c .before .before .before .before .before .before .before .before .before .before .before .before .before .before .before in
+    let start = c .before .before .before .before .before .before .before .before .before .before .before .before .before .before .before .before .before .before .before .before .before .before in
+    let at-plan-of = c .before .before .before .before .before .before .before .before .before .before .before in
+    let at-counts-of = c .before .before .before .before .before .before .before .before .before .before in
     let at-plan-refusal = c .before .before .before .before .before .before .before .before .before in
     let at-enum-told = c .before .before .before .before .before .before .before in
-    let at-counts-of = c .before .before .before .before .before .before .before .before .before .before .before .before .before .before in
     let at-write-in = c .before .before .before .before in
     let none-refused = accepted-is (start .args .limit) (start .args .nodes .now) (given start) (lent start) (at-plan-of .plan-of .ensures) (at-plan-refusal .plan-refusal .result) (refused-so at-plan-refusal) (at-enum-told .enum-told .given .1) in
     let q = packed-is (start .args .limit) (start .args .nodes .now) (given start) (lent start) (at-plan-of .plan-of .ensures) (at-counts-of .counts-of .ensures) none-refused (at-write-in .write-in .ensures) in
@@ -124,10 +97,6 @@ pack-formed-spec =
     cabinet-requires
     plan-of-requires
     counts-of-requires
-    sub-t19
-    sub-t20
-    sub-t21
-    sub-t22
     plan-refusal-requires
     enum-known-v
     enum-told

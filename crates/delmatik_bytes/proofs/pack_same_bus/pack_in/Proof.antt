@@ -1,8 +1,10 @@
 use Rattle.delmatik_bytes.specs.inner.Words.{list, lookups-in}
 use Rattle.wire.specs.laws.Room.{scaled}
 use Rattle.wire.specs.inner.Place.{parts, five-ends}
-use Rattle.packing_entry.proofs.Answers.{cabinet-asks, whole, answer-refused, answer-formed}
-use Rattle.packing.specs.PackSameBus.{Outcome}
+use Rattle.delmatik_bytes.specs.laws.Pack.{counts-in}
+use Rattle.packing_entry.proofs.Answers.{cabinet-asks, whole, held, answer-small, answer-refused, answer-formed}
+use Rattle.packing_columns.specs.inner.Layout.{counts-hold}
+use Rattle.packing.specs.PackSameBus.{Outcome, counts}
 use Rattle.lookup_degree.specs.laws.Formed.{formed}
 use Rattle.lookup.specs.Lookups.{Lookups, lent-lookups}
 use Rattle.lookup.specs.Refusals.{form-refusal}
@@ -30,11 +32,20 @@ given c = lent-lookups (list (lists c) 1) (c .args .names .now) (list (lists c) 
 abbrev lent : tie.Start → Lookups
 lent c = lookups-in (c .args .names-out .now) (parts (c .args .out-room .now) 0 (five-ends (c .args .out-ends)))
 
--- the verdict is that of the definition
+-- the test is that of the definition, and so is the verdict
+held-so : (c : tie.After-counts-hold)
+    → let start = c .before .before .before .before .before .before .before .before .before .before .before .before .before .before .before in
+    c .counts-hold .result ≡ counts-hold (counts (given start)) (counts (lent start))
+held-so c =
+    let start = c .before .before .before .before .before .before .before .before .before .before .before .before .before .before .before in
+    c .counts-hold .ensures
+    ∙ ap (counts-hold (counts (given start))) (counts-in (start .args .out-room .now) (start .args .out-ends) (start .pre .1) (start .args .names-out .now))
+
 refused-is : (c : tie.After-form-refusal)
-    → let start = c .before .before .before .before .before .before .before .before .before .before .before .before in refusal (c .form-refusal .result) ≡ form-refusal cabinet 2013265921 (start .args .columns) (nodes start) (given start)
+    → let start = c .before .before .before .before .before .before .before .before .before .before .before .before .before .before .before .before .before .before in
+    refusal (c .form-refusal .result) ≡ form-refusal cabinet 2013265921 (start .args .columns) (nodes start) (given start)
 refused-is c =
-    let start = c .before .before .before .before .before .before .before .before .before .before .before .before in
+    let start = c .before .before .before .before .before .before .before .before .before .before .before .before .before .before .before .before .before .before in
     let at-cabinet = c .before in
     c .form-refusal .ensures ∙ ap (λ (m : Limits). form-refusal m 2013265921 (start .args .columns) (nodes start) (given start)) (at-cabinet .cabinet .ensures)
 
@@ -149,6 +160,35 @@ part-elements-end c =
     let start = c .before .before .before .before .before .before .before .before .before in
     start .pre .0 .rest .fifth-in
 
+sub-t42 : tie.Need-sub-t42
+sub-t42 c =
+    let start = c .before .before .before .before .before .before .before .before .before .before .before in
+    start .pre .1 .second
+
+sub-t41 : tie.Need-sub-t41
+sub-t41 c =
+    let start = c .before .before .before .before .before .before .before .before .before .before .before .before in
+    start .pre .1 .third
+
+sub-t40 : tie.Need-sub-t40
+sub-t40 c =
+    let start = c .before .before .before .before .before .before .before .before .before .before .before .before .before in
+    start .pre .1 .fourth
+
+sub-t39 : tie.Need-sub-t39
+sub-t39 c =
+    let start = c .before .before .before .before .before .before .before .before .before .before .before .before .before .before in
+    start .pre .1 .fifth
+
+counts-hold-requires : tie.Need-counts-hold-requires
+counts-hold-requires c κs = search needs
+
+returns : tie.Need-returns
+returns c =
+    let start = c .before .before .before .before .before .before .before .before .before .before .before .before .before .before .before .before in
+    let q = answer-small cabinet 2013265921 (start .args .limit) (start .args .columns) (nodes start) (given start) (lent start) (held-so (c .before)) (c .if1 .taken) in
+    λ i. record { answer = q .0 i; lists = q .1 i }
+
 cabinet-requires : tie.Need-cabinet-requires
 cabinet-requires c κs = search needs
 
@@ -165,19 +205,21 @@ enum-told c = search needs
 
 pack-formed-requires : tie.Need-pack-formed-requires
 pack-formed-requires c κs =
-    let at-form-refusal = c .before .before .before .before in
     let at-enum-told = c .before .before in
-    let start = c .before .before .before .before .before .before .before .before .before .before .before .before .before .before .before .before in
+    let at-form-refusal = c .before .before .before .before in
+    let at-if1 = c .before .before .before .before .before .before in
+    let start = c .before .before .before .before .before .before .before .before .before .before .before .before .before .before .before .before .before .before .before .before .before .before in
     let none-refused = sym (refused-is at-form-refusal) ∙ ap refusal (at-enum-told .enum-told .given .1) in
     let form = formed cabinet 2013265921 (start .args .columns) (nodes start) (given start) cabinet-sane none-refused in
-    (form, whole cabinet 2013265921 (start .args .columns) (nodes start) (given start) cabinet-sane (cabinet-asks refl .1) form none-refused, start .pre .1)
+    (form, whole cabinet 2013265921 (start .args .columns) (nodes start) (given start) cabinet-sane (cabinet-asks refl .1) form none-refused, start .pre .1, held (given start) (lent start) (held-so (at-if1 .before)) (at-if1 .if1 .left))
 
-returns : tie.Need-returns
-returns c =
-    let start = c .before .before .before .before .before .before .before .before .before .before .before .before .before .before .before in
+returns-2 : tie.Need-returns-2
+returns-2 c =
+    let start = c .before .before .before .before .before .before .before .before .before .before .before .before .before .before .before .before .before .before .before .before .before in
+    let at-if1 = c .before .before .before .before .before in
     let at-form-refusal = c .before .before .before in
     let at-v = c .before in
-    let q = answer-refused cabinet 2013265921 (start .args .limit) (start .args .columns) (nodes start) (given start) (lent start) (refused-is at-form-refusal) (at-v .v .given .1) in
+    let q = answer-refused cabinet 2013265921 (start .args .limit) (start .args .columns) (nodes start) (given start) (lent start) (held-so (at-if1 .before)) (at-if1 .if1 .left) (refused-is at-form-refusal) (at-v .v .given .1) in
     λ i. record { answer = q .0 i; lists = q .1 i }
 
 same-length : tie.Need-same-length
@@ -190,14 +232,15 @@ same-length-2 c =
     let at-out-room = c .before in
     at-out-room .out-room .given
 
-returns-2 : tie.Need-returns-2
-returns-2 c =
+returns-3 : tie.Need-returns-3
+returns-3 c =
     let at-pack-formed = c .before .before .before .before in
-    let start = c .before .before .before .before .before .before .before .before .before .before .before .before .before .before .before .before .before .before .before .before .before in
+    let start = c .before .before .before .before .before .before .before .before .before .before .before .before .before .before .before .before .before .before .before .before .before .before .before .before .before .before .before in
+    let at-if1 = c .before .before .before .before .before .before .before .before .before .before .before in
     let at-form-refusal = c .before .before .before .before .before .before .before .before .before in
     let at-enum-told = c .before .before .before .before .before .before .before in
     let o = at-pack-formed .pack-formed .ensures in
-    let q = answer-formed cabinet 2013265921 (start .args .limit) (start .args .columns) (nodes start) (given start) (lent start) (refused-is at-form-refusal) (at-enum-told .enum-told .given .1)
+    let q = answer-formed cabinet 2013265921 (start .args .limit) (start .args .columns) (nodes start) (given start) (lent start) (held-so (at-if1 .before)) (at-if1 .if1 .left) (refused-is at-form-refusal) (at-enum-told .enum-told .given .1)
     (ap (λ (z : Outcome). z .answer) o, ap (λ (z : Outcome). z .lists) o) in
     λ i. record { answer = q .0 i; lists = q .1 i }
 
@@ -228,12 +271,18 @@ pack-in-spec =
     sub-elements
     part-elements-start
     part-elements-end
+    sub-t42
+    sub-t41
+    sub-t40
+    sub-t39
+    counts-hold-requires
+    returns
     cabinet-requires
     form-refusal-requires
     enum-known-v
     enum-told
     pack-formed-requires
-    returns
+    returns-2
     same-length
     same-length-2
-    returns-2)
+    returns-3)
