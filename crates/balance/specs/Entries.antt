@@ -8,9 +8,8 @@ use Rattle.lists.specs.Count.{joined}
 use Rattle.lists.specs.Tab.{tab}
 use Rattle.field.specs.Word.{mulM}
 use Rattle.expression.specs.Words.{word}
-use Rattle.expression.specs.Values.{row-values}
 use Rattle.lookup.specs.Lookups.{Lookup}
-use Rattle.lookup.specs.Table.{Table}
+use Rattle.lookup.specs.Table.{values-of}
 use Rattle.logup.specs.Ledger.{Entry}
 use Rattle.balance.specs.Groups.{Member}
 
@@ -24,9 +23,6 @@ entry-of p l vals k = record { tuple = map (word vals) (getD (l .tuples) k []); 
 -- a lookup on one row
 unfoldable pub row-entries : ℕ → Lookup → List ℕ → List Entry
 row-entries p l vals = tab (entry-of p l vals) 0 (length (l .tuples))
-
-abbrev pub values-of : ℕ → Table → ℕ → List ℕ
-values-of p t r = row-values p (t .nodes) (t .traces) r
 
 -- a lookup on all rows
 unfoldable pub member-entries : ℕ → Member → List Entry

@@ -12,9 +12,13 @@ pub record Member : Type 0 where
   pub table : Table
   pub lookup : Lookup
 
--- all lookups of all tables, by table and in list order
+-- the lookups of a table, in list order
+abbrev pub members-of : Table → List Member
+members-of t = map (λ (l : Lookup). record { table = t; lookup = l }) (lookups-of (t .lookups))
+
+-- all lookups of all tables, by table
 unfoldable pub members : List Table → List Member
-members tables = flatMap (λ (t : Table). map (λ (l : Lookup). record { table = t; lookup = l }) (lookups-of (t .lookups))) tables
+members tables = flatMap members-of tables
 
 abbrev pub local : Member → Bool
 local m = m .lookup .local

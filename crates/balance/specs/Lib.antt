@@ -3,6 +3,7 @@ pub mod Groups
 pub mod Entries
 pub mod Refusals
 pub mod Balance
+pub mod Passes
 pub mod Members
 pub mod inner
 pub mod laws

@@ -1,6 +1,7 @@
 pub mod Count
 pub mod Fold
 pub mod Tab
+pub mod Members
 pub mod Sums
 pub mod Joined
 pub mod Parts

@@ -1,4 +1,5 @@
 pub mod Packing
 pub mod Written
+pub mod Keeps
 pub mod PackSameBus
 pub mod laws

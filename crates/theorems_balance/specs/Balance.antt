@@ -8,17 +8,17 @@ use mathlib.Core.List.{List, [], _∷_, List·Memᴰ}
 use lib.Dec.{T}
 use lib.ListN.{length}
 use Rattle.field.specs.Modulus.{Certificate}
-use Rattle.field.specs.laws.Extension.{K}
+use Rattle.field.specs.Extension.{K}
 use Rattle.theorems_logup.specs.Sets.{Pairing}
 use Rattle.expression.specs.declared.sizes.Limits.{Limits}
 use Rattle.lookup.specs.Tests.{words-below}
-use Rattle.balance_slots.specs.laws.Nets.{net-of}
-use Rattle.balance.specs.Tables.{TableLists, tables-of}
-use Rattle.balance.specs.Groups.{Member, members, groups}
+use Rattle.balance_slots.specs.Nets.{net-of}
+use Rattle.balance.specs.Tables.{TableLists}
+use Rattle.balance.specs.Groups.{Member}
 use Rattle.balance.specs.Entries.{entries}
 use Rattle.balance.specs.Refusals.{tables-refusal}
 use Rattle.balance.specs.Balance.{check}
-use Rattle.balance.specs.laws.Passes.{Fits, Balanced, AllGroups}
+use Rattle.balance.specs.Passes.{Fits, Balanced, AllGroups, groups-of}
 use Rattle.theorems_balance.specs.Sums.{Wide, group-sum, IdenticallyZero, Vanishes, Sampled}
 
 -- the words of the group's tables are below p
@@ -35,10 +35,6 @@ NetsAreSeen p w C =
     (ms : List Member) → WordsBelow p ms → (s : Sampled p w C ms) (tuple : List ℕ) → net-of p (entries p ms) tuple ≢ 0
     → (r : Pairing (List ℕ)) × List·Memᴰ r (s .set) × (alpha : List ℕ) × List·Memᴰ alpha (r .alphas)
     × (group-sum p w C ms alpha (r .beta) ≢ K p w C .ring .z)
-
--- the groups of all tables
-abbrev pub groups-of : TableLists → List (List Member)
-groups-of l = groups (members (tables-of l))
 
 -- the sum of each group vanishes at every pair of its set
 abbrev pub AllVanish : (p w : ℕ) (C : Certificate p w) (gs : List (List Member)) → AllGroups (Sampled p w C) gs → Type 0

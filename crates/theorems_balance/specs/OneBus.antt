@@ -9,7 +9,7 @@ use Rattle.expression.specs.declared.sizes.Limits.{Limits}
 use Rattle.lookup.specs.Lookups.{lookup-count, lookup-at}
 use Rattle.lookup.specs.Table.{Table}
 use Rattle.logup.specs.Ledger.{has-ledger, ledger}
-use Rattle.balance_slots.specs.laws.Nets.{net-of}
+use Rattle.balance_slots.specs.Nets.{net-of}
 use Rattle.balance.specs.Groups.{Member, members, same-bus, groups}
 use Rattle.balance.specs.Entries.{entries}
 

@@ -5,15 +5,14 @@ use mathlib.Core.Path.{_≡_}
 use mathlib.Core.List.{List, List·Memᴰ}
 use lib.ListN.{length}
 use Rattle.field.specs.Modulus.{Certificate}
-use Rattle.field.specs.laws.Extension.{K}
-use Rattle.field.specs.laws.Homomorphism.{KEl, el}
+use Rattle.field.specs.Extension.{K, KEl, el}
 use Rattle.theorems_logup.specs.Tables as Tables
 use Rattle.theorems_logup.specs.Sets.{Pairing}
 use Rattle.logup.specs.Ledger.{Element, met}
 use Rattle.balance.specs.Groups.{Member}
 use Rattle.balance.specs.Entries.{entries}
 use Rattle.theorems_soundness.specs.Soundness.{FullSet, AtEachPair}
-use Rattle.theorems_soundness.specs.laws.Setting.{N}
+use Rattle.theorems_soundness.specs.Entries.{N}
 
 -- every tuple of the group's lookups has this width
 abbrev pub Wide : ℕ → List Member → Type 0

@@ -1,14 +1,10 @@
-pub mod Lists
 pub mod Ledger
 pub mod OneBus
-pub mod Pairs
 pub mod Nets
 pub mod Groups
 pub mod Balance
 pub mod Sizes
-pub mod Points
 pub mod Exists
-pub mod Zero
 pub mod Identity
 pub mod Words
 pub mod Example

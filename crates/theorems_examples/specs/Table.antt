@@ -1,5 +1,6 @@
 -- The worked cases c1 to c12 of SPECIFICATION, section 12.1: what the definitions give, beside the numbers that it names.
 use Prim.Native.Nat.{ℕ}
+use mathlib.Core.Option.{Option·getD}
 use mathlib.Core.List.{List, [], _∷_, _++_, map}
 use lib.ListN.{length, replicate}
 use Rattle.lists.specs.Count.{joined}
@@ -9,31 +10,64 @@ use Rattle.field.specs.Modulus.{babybear, babybear-w}
 use Rattle.expression.specs.Limits.{cabinet}
 use Rattle.expression.specs.Refusal.{answer-number, answer-details}
 use Rattle.lookup.specs.Lookups.{Lookups, Lookup, lookup-at}
+use Rattle.lookup.specs.Table.{Table}
 use Rattle.lookup_degree.specs.Degree.{node-degrees, lookup-degree}
 use Rattle.packing.specs.PackSameBus.{columns}
 use Rattle.lookup_challenges.specs.Prefixes.{prefix}
 use Rattle.lookup_protocol.specs.Height.{height-refusal}
 use Rattle.logup.specs.Tuple.{combine}
-use Rattle.logup.specs.laws.Cases.{additive, branching, generated, five, plain}
+use Rattle.logup.specs.Generation.{Answer, generation}
 
 -- one node: a column, of degree 1
 abbrev pub one-node : List ℕ
 one-node = 1 ∷ 0 ∷ 0 ∷ []
 
--- a lookup of n tuples of that node, counted by it, on the bus "b"; exclusive ones have as many flags
-abbrev pub lookup-of : ℕ → ℕ → ℕ → Lookups
-lookup-of exclusive n flags =
+-- a lookup on the bus "b" of n tuples, each of node 0 alone, with one node for the count of each; exclusive ones have as many flags
+abbrev pub lookup-of : ℕ → ℕ → ℕ → ℕ → ℕ → Lookups
+lookup-of exclusive n flags count-node flag-node =
     record {
       lookups = 1 ∷ 1 ∷ 1 ∷ 0 ∷ exclusive ∷ n ∷ n ∷ flags ∷ [];
       names = 98 ∷ [];
       tuples = replicate n 1;
-      multiplicities = replicate n 0;
-      flags = replicate flags 0;
+      multiplicities = replicate n count-node;
+      flags = replicate flags flag-node;
       elements = replicate n 0;
     }
 
-abbrev pub degree-of : Lookups → List ℕ
-degree-of l = lookup-degree (node-degrees 0 one-node) (lookup-at l 0) ∷ []
+-- its degree where node 0 counts and chooses too
+abbrev pub degree-of : ℕ → ℕ → ℕ → List ℕ
+degree-of exclusive n flags = lookup-degree (node-degrees 0 one-node) (lookup-at (lookup-of exclusive n flags 0 0) 0) ∷ []
+
+-- such a lookup over the rows of one column of main: node 0 is the column, the counts are `times`, the flags `on`
+abbrev pub table-of : ℕ → ℕ → ℕ → ℕ → ℕ → List ℕ → Table
+table-of exclusive n flags times on rows =
+    record {
+      traces =
+          record {
+            shape = record { «main_width» = 1; height = length rows; «pre_width» = 0; «pre_height» = 0 };
+            main = rows;
+            preprocessed = [];
+            public-values = [];
+          };
+      nodes = 1 ∷ 0 ∷ 0 ∷ 0 ∷ times ∷ 0 ∷ 0 ∷ on ∷ 0 ∷ [];
+      lookups = lookup-of exclusive n flags 1 2;
+    }
+
+abbrev pub additive : ℕ → List ℕ → Table
+additive times rows = table-of 0 1 0 times 0 rows
+
+abbrev pub branching : ℕ → ℕ → ℕ → List ℕ → Table
+branching n times on rows = table-of 1 n n times on rows
+
+-- the answer as words: its number, its details and the terminal, if there is one
+abbrev pub answer-words : Answer → List ℕ
+answer-words a = a .number ∷ a .details ++ Option·getD (a .terminal) []
+
+-- what generation gives with this alpha and beta 0, in a buffer of so many words: its answer, then the buffer
+abbrev pub generated : Table → ℕ → ℕ → List ℕ
+generated t alpha room =
+    let o = generation cabinet babybear babybear-w t (lift alpha ++ lift 0) (replicate room 7) in
+    answer-words (o .answer) ++ o .buffer
 
 -- five lookups of one such tuple each
 abbrev pub five-singles : Lookups
@@ -67,19 +101,19 @@ cases =
     ∷ record { computed = mul4 babybear babybear-w (0 ∷ 0 ∷ 0 ∷ 1 ∷ []) (0 ∷ 1 ∷ 0 ∷ 0 ∷ []); expected = lift 11 }
     -- c4: rows 3, 4 with multiplicity 1, alpha 5: fractions 1006632961 and 1, terminal 1006632962
     ∷ record {
-      computed = generated (additive 1 (3 ∷ 4 ∷ [])) five (replicate 16 7);
-      expected = 0 ∷ 0 ∷ 0 ∷ 0 ∷ lift 1006632962 ++ lift 0 ++ lift 1006632961 ++ lift 1006632961 ++ lift 1;
+      computed = generated (additive 1 (3 ∷ 4 ∷ [])) 5 16;
+      expected = replicate 4 0 ++ lift 1006632962 ++ lift 0 ++ lift 1006632961 ++ lift 1006632961 ++ lift 1;
     }
     -- c5: additive (3), multiplicity 0, alpha 3: fraction 0
-    ∷ record { computed = generated (additive 0 (3 ∷ [])) (lift 3 ++ lift 0) (replicate 8 7); expected = replicate 16 0 }
+    ∷ record { computed = generated (additive 0 (3 ∷ [])) 3 8; expected = replicate 16 0 }
     -- c6: the same in a chosen branch, 15
-    ∷ record { computed = generated (branching 1 0 1 (3 ∷ [])) (lift 3 ++ lift 0) (replicate 8 7); expected = plain 15 (replicate 8 0) }
+    ∷ record { computed = generated (branching 1 0 1 (3 ∷ [])) 3 8; expected = 15 ∷ replicate 11 0 }
     -- c7: all flags 0, fraction 0
-    ∷ record { computed = generated (branching 2 1 0 (3 ∷ [])) (lift 3 ++ lift 0) (replicate 8 7); expected = replicate 16 0 }
+    ∷ record { computed = generated (branching 2 1 0 (3 ∷ [])) 3 8; expected = replicate 16 0 }
     -- c8: two additive tuples, all of degree 1: degree 3
-    ∷ record { computed = degree-of (lookup-of 0 2 0); expected = 3 ∷ [] }
+    ∷ record { computed = degree-of 0 2 0; expected = 3 ∷ [] }
     -- c9: four exclusive branches likewise, 3
-    ∷ record { computed = degree-of (lookup-of 1 4 4); expected = 3 ∷ [] }
+    ∷ record { computed = degree-of 1 4 4; expected = 3 ∷ [] }
     -- c10: five one-tuple additive lookups of degree 1 on one bus, limit 3: columns of 2, 2, 1; limit 0: five
     ∷ record { computed = column-sizes 3; expected = 2 ∷ 2 ∷ 1 ∷ [] }
     ∷ record { computed = column-sizes 0; expected = 1 ∷ 1 ∷ 1 ∷ 1 ∷ 1 ∷ [] }

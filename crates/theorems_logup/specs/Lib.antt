@@ -4,5 +4,6 @@ pub mod Sums
 pub mod Polynomial
 pub mod Tables
 pub mod Sets
+pub mod Error
 pub mod inner
 pub mod laws

@@ -13,6 +13,11 @@ pub record Pairing (K : Type 0) : Type 0 where
   pub beta : K
   pub alphas : List K
 
+-- an alpha and a beta
+pub record Pair (K : Type 0) : Type 0 where
+  pub alpha : K
+  pub beta : K
+
 module _ (F : Field) (N : Entries F) where
   open Entries N using (word as W, zero, Entry, tuple, count)
 

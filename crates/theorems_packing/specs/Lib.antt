@@ -1,4 +1,10 @@
 pub mod Packed
+pub mod Passes
+pub mod Bounds
+pub mod Ledger
+pub mod Lists
 pub mod Same
+pub mod Accepted
+pub mod Terminal
 pub mod inner
 pub mod laws

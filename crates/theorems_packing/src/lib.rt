@@ -1,2 +1,4 @@
-// What packing keeps of a table. No code: laws only.
-// Why packing does not change what balance answers: tables with the same locals, and with the same counts of each tuple on each bus, are balanced together. The statements are in specs/, their proofs in specs/laws/. There is no code here.
+// What packing keeps of a table. There is no code here: the statements are in specs/, their proofs in specs/laws/.
+// Packed: the packed table, which is what packing writes. Passes: the other entry points' tests pass on it. Ledger: the same entries on every
+// row, and the same ledger. Bounds: the same height sum and bus widths. Terminal: the same sum on each bus, and the same terminal.
+// Same, Accepted: balance accepts both or neither, with the same workspace.

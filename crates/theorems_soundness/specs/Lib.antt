@@ -1,6 +1,11 @@
 pub mod Soundness
 pub mod Accepted
 pub mod Lawful
+pub mod FullSets
+pub mod Entries
 pub mod Paper
 pub mod Vanishing
+pub mod Constraints
+pub mod Error
+pub mod ErrorBits
 pub mod laws

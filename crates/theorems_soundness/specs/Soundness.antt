@@ -14,6 +14,47 @@ use Rattle.lookup.specs.Table.{Table}
 use Rattle.logup.specs.Generation.{Answer, generation, accepts, terminal-words}
 use Rattle.logup.specs.Ledger.{has-ledger, ledger, tuples-met, Element, Listed, at-pair}
 
+-- "all lookups of both on one bus"
+abbrev pub OnBus : List ℕ → Table → Type 0
+OnBus name t = (i : ℕ) → i < lookup-count (t .lookups .lookups) → (lookup-at (t .lookups) i .local ≡ false) × (lookup-at (t .lookups) i .name ≡ name)
+
+-- "all tuples of both of one width w"
+abbrev pub AllWide : ℕ → Table → Type 0
+AllWide width t =
+    (i k : ℕ) → i < lookup-count (t .lookups .lookups) → k < tuple-count (t .lookups .lookups) i
+    → tuple-width (t .lookups .lookups) (t .lookups .tuples) i k ≡ width
+
+-- "Take two tables that have ledgers, with all lookups of both on one bus and all tuples of both of one width w ≥ 1."
+pub record Comparable (m : Limits) (p : ℕ) (t₁ t₂ : Table) (bus : List ℕ) (width : ℕ) : Type 0 where
+  pub some-words : 1 ≤ width
+  pub on-bus₁ : OnBus bus t₁
+  pub on-bus₂ : OnBus bus t₂
+  pub wide₁ : AllWide width t₁
+  pub wide₂ : AllWide width t₂
+  pub ledger₁ : T (has-ledger m p t₁)
+  pub ledger₂ : T (has-ledger m p t₂)
+
+-- "are equal where each list of w field words has the same word in both"
+abbrev pub SameLedger : ℕ → ℕ → Table → Table → Type 0
+SameLedger p width t₁ t₂ = (l : List ℕ) → Listed p width l → ledger p t₁ l ≡ ledger p t₂ l
+
+-- "whatever buffers it is lent": one for each alpha and beta
+abbrev pub Buffers : Type 0
+Buffers = List ℕ → List ℕ → List ℕ
+
+-- generation's answer at a pair, with the buffer that is lent to that call
+abbrev pub answer-at : Limits → ℕ → ℕ → Table → Buffers → List ℕ → List ℕ → Answer
+answer-at m p w t buffers alpha beta = generation m p w t (at-pair t alpha beta) (buffers alpha beta) .answer
+
+-- "It accepts where it refuses nothing."
+abbrev pub AcceptedAt : Limits → ℕ → ℕ → Table → Buffers → List ℕ → List ℕ → Type 0
+AcceptedAt m p w t buffers alpha beta = T (accepts (answer-at m p w t buffers alpha beta))
+
+-- "Terminals agree where their four words are equal; an absent one counts as four zeros."
+abbrev pub AgreeAt : Limits → ℕ → ℕ → Table → Table → Buffers → Buffers → List ℕ → List ℕ → Type 0
+AgreeAt m p w t₁ t₂ buffers₁ buffers₂ alpha beta =
+    terminal-words (answer-at m p w t₁ buffers₁ alpha beta) ≡ terminal-words (answer-at m p w t₂ buffers₂ alpha beta)
+
 -- SPECIFICATION, section 9.2: "1 + (w - 1) · n · (n - 1) / 2 different betas, and with each beta n different alphas", "each beta may have
 -- alphas of its own. With n = 0 the set has no pair."
 pub record FullSet (p width n : ℕ) (set : List (Pairing (List ℕ))) : Type 0 where
@@ -24,42 +65,22 @@ pub record FullSet (p width n : ℕ) (set : List (Pairing (List ℕ))) : Type 0 
   pub alphas-many : (r : Pairing (List ℕ)) → List·Memᴰ r set → length (r .alphas) ≡ n
   pub alpha-element : (r : Pairing (List ℕ)) → List·Memᴰ r set → (a : List ℕ) → List·Memᴰ a (r .alphas) → Element p a
 
--- "all tuples of both of one width w"
-abbrev pub AllWide : ℕ → Table → Type 0
-AllWide width t =
-    (i k : ℕ) → i < lookup-count (t .lookups .lookups) → k < tuple-count (t .lookups .lookups) i
-    → tuple-width (t .lookups .lookups) (t .lookups .tuples) i k ≡ width
-
--- "all lookups of both on one bus"
-abbrev pub OnBus : List ℕ → Table → Type 0
-OnBus name t = (i : ℕ) → i < lookup-count (t .lookups .lookups) → (lookup-at (t .lookups) i .local ≡ false) × (lookup-at (t .lookups) i .name ≡ name)
-
--- generation's answer at a pair, with the buffer that is lent to that call
-abbrev pub answer-at : Limits → ℕ → ℕ → Table → (List ℕ → List ℕ → List ℕ) → List ℕ → List ℕ → Answer
-answer-at m p w t buffers alpha beta = generation m p w t (at-pair t alpha beta) (buffers alpha beta) .answer
-
 -- what holds of each pair of a set: of each beta with each of its alphas
 abbrev pub AtEachPair : List (Pairing (List ℕ)) → (List ℕ → List ℕ → Type 0) → Type 0
 AtEachPair set P = (r : Pairing (List ℕ)) → List·Memᴰ r set → (alpha : List ℕ) → List·Memᴰ alpha (r .alphas) → P alpha (r .beta)
 
--- "are equal where each list of w field words has the same word in both"
-abbrev pub SameLedger : ℕ → ℕ → Table → Table → Type 0
-SameLedger p width t₁ t₂ = (l : List ℕ) → Listed p width l → ledger p t₁ l ≡ ledger p t₂ l
-
 -- "Take a full set at each pair of which generation accepts both tables, whatever buffers it is lent. Then the two ledgers are equal
 -- exactly where the two terminals agree at every pair of the set."
-abbrev pub TerminalsDetermineLedgers : Limits → ℕ → ℕ → Table → Table → ℕ → List (Pairing (List ℕ)) → (List ℕ → List ℕ → List ℕ) → (List ℕ → List ℕ → List ℕ) → Type 0
+abbrev pub TerminalsDetermineLedgers : Limits → ℕ → ℕ → Table → Table → ℕ → List (Pairing (List ℕ)) → Buffers → Buffers → Type 0
 TerminalsDetermineLedgers m p w t₁ t₂ width set buffers₁ buffers₂ =
     FullSet p width (tuples-met p t₁ t₂) set
-    → AtEachPair set (λ a b. T (accepts (answer-at m p w t₁ buffers₁ a b)))
-    → AtEachPair set (λ a b. T (accepts (answer-at m p w t₂ buffers₂ a b)))
-    → SameLedger p width t₁ t₂
-    ↔ AtEachPair set (λ a b. terminal-words (answer-at m p w t₁ buffers₁ a b) ≡ terminal-words (answer-at m p w t₂ buffers₂ a b))
+    → AtEachPair set (AcceptedAt m p w t₁ buffers₁)
+    → AtEachPair set (AcceptedAt m p w t₂ buffers₂)
+    → SameLedger p width t₁ t₂ ↔ AtEachPair set (AgreeAt m p w t₁ t₂ buffers₁ buffers₂)
 
--- "Take two tables that have ledgers, with all lookups of both on one bus and all tuples of both of one width w ≥ 1."
+-- the theorem of section 9.3
 abbrev pub LogUpSoundness : Limits → ℕ → ℕ → Type 0
 LogUpSoundness m p w =
-    (t₁ t₂ : Table) (bus : List ℕ) (width : ℕ) (set : List (Pairing (List ℕ))) (buffers₁ buffers₂ : List ℕ → List ℕ → List ℕ)
-    → 1 ≤ width → OnBus bus t₁ → OnBus bus t₂ → AllWide width t₁ → AllWide width t₂
-    → T (has-ledger m p t₁) → T (has-ledger m p t₂)
+    (t₁ t₂ : Table) (bus : List ℕ) (width : ℕ) (set : List (Pairing (List ℕ))) (buffers₁ buffers₂ : Buffers)
+    → Comparable m p t₁ t₂ bus width
     → TerminalsDetermineLedgers m p w t₁ t₂ width set buffers₁ buffers₂

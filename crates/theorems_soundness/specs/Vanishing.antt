@@ -1,11 +1,17 @@
--- Every constraint of a trace and a terminal, one by one. SPECIFICATION, section 5, has them in its table.
+-- Every constraint of a trace and a terminal, one by one (SPECIFICATION, section 5, has them in its table), and that the constraints accept
+-- exactly where each is zero, as a statement. Its proof is laws/Vanishing.antt.
 use Prim.Native.Nat.{ℕ, _+_, _<_, _≤_}
 use mathlib.Core.Path.{_≡_}
+use mathlib.Core.Logic.{_↔_}
 use mathlib.Core.Bool.{true}
+use mathlib.Core.Option.{none, some}
 use mathlib.Core.List.{List}
 use Rattle.field.specs.Element.{is-zero}
+use Rattle.expression.specs.Values.{row-values}
+use Rattle.expression.specs.declared.sizes.Limits.{Limits}
 use Rattle.lookup.specs.Lookups.{Lookups, lookup-count}
-use Rattle.logup.specs.Constraints.{cell, lookup-constraint, step, binding}
+use Rattle.lookup.specs.Table.{Table}
+use Rattle.logup.specs.Constraints.{cell, lookup-constraint, step, binding, rows-verdict, constraints-refusal, verdict}
 
 module _ (p w : ℕ) (l : Lookups) (challenges : List ℕ) (values : ℕ → List ℕ) (height width : ℕ) (words e : List ℕ) where
   pub record RowVanishes (r : ℕ) : Type 0 where
@@ -17,3 +23,17 @@ module _ (p w : ℕ) (l : Lookups) (challenges : List ℕ) (values : ℕ → Lis
   -- on every row
   abbrev pub Vanishes : Type 0
   Vanishes = (r : ℕ) → r < height → RowVanishes r
+
+-- SPECIFICATION, section 9.4: "constraints accept exactly where each constraint of each row is zero"; the rows
+abbrev pub PassesExactly : ℕ → ℕ → Type 0
+PassesExactly p w =
+    (l : Lookups) (challenges : List ℕ) (values : ℕ → List ℕ) (height width : ℕ) (words e : List ℕ)
+    → (rows-verdict p w l challenges values width words e height ≡ none) ↔ Vanishes p w l challenges values height width words e
+
+-- and the entry point, where its tests find nothing
+abbrev pub AcceptedExactly : Limits → ℕ → ℕ → Type 0
+AcceptedExactly m p w =
+    (t : Table) (challenges : List ℕ) (width : ℕ) (words e : List ℕ)
+    → (verdict m p w t challenges width words (some e) ≡ none)
+    ↔ ((constraints-refusal m p w t challenges width words (some e) ≡ none)
+    × Vanishes p w (t .lookups) challenges (row-values p (t .nodes) (t .traces)) (t .traces .shape .height) width words e)

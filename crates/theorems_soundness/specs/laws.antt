@@ -9,6 +9,7 @@ pub mod Columns
 pub mod Ledgers
 pub mod Answers
 pub mod Terminals
+pub mod Pairs
 pub mod Soundness
 pub mod Entered
 pub mod Paper
@@ -19,5 +20,13 @@ pub mod Layout
 pub mod Constraints
 pub mod Accepted
 pub mod Accepts
+pub mod Points
 pub mod FullSets
+pub mod Cases
 pub mod Example
+pub mod ExampleTrace
+pub mod Error
+pub mod CabinetError
+pub mod ErrorBits
+pub mod OneEntry
+pub mod Needed

@@ -1,8 +1,9 @@
 //! Times the port's exported functions beside the same work in Rust, interleaved in one run, and compares every result: row evaluation beside the same
 //! loop; generation beside the crate's own source and beside a version tuned by hand (src/tuned.rs); constraints and balance beside the crate's
-//! source, balance beside a hash map as well, also on tuples that were chosen to be slow; and generation at growing heights. Measures how much stack they take, and how many
-//! instructions generation takes, as valgrind's callgrind counts them. Prints tables; `--only PART` runs one part: evaluation, generation,
-//! instructions, constraints, growth, balance, collisions or stack; `--rounds N` repeats long work N times in the place of 3.
+//! source, balance beside a hash map as well, also on tuples that were chosen to be slow; and generation at growing heights. Measures how much
+//! stack they take, and how many instructions generation takes, as valgrind's callgrind counts them. Prints tables; `--only PART` runs one part:
+//! evaluation, generation, instructions, constraints, growth, balance, collisions or stack; `--rounds N` repeats long work N times in the place
+//! of 3.
 //!
 //!     cargo run --release --offline --features port --bin bench
 use std::collections::HashMap;

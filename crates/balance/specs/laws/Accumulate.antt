@@ -14,6 +14,7 @@ use Rattle.expression.specs.laws.Values.{row-values-below}
 use Rattle.lookup.specs.Lookups.{Lookups, lookup-count, tuple-count, flag-count, tuple-start, tuple-width, tuple-nodes, multiplicity-node, flag-node, lookup-at}
 use Rattle.lookup.specs.Requires.{Placed}
 use Rattle.lookup.specs.laws.Tested.{placed, element-start-le}
+use Rattle.lookup.specs.Table.{values-of}
 use Rattle.logup.specs.Tuple.{tuple}
 use Rattle.logup.specs.Ledger as logup
 use Rattle.lookup.specs.laws.Sizes.{part-is}
@@ -21,7 +22,7 @@ use Rattle.balance.specs.declared.starts.LookupStarts.{LookupStarts}
 use Rattle.balance.specs.inner.LookupStarts.{PartLists, part-lists, source, lookup-starts-at, StartsWithin, count-from, nodes-from, entries-from, rows-entries}
 use Rattle.balance_slots.specs.inner.Work.{Work, step}
 use Rattle.balance.specs.Tables.{TableLists, table-sizes, table-count, size, size-start, table-part, shape-at, table-at, main-count-size, preprocessed-count-size, public-value-count-size, node-count-size}
-use Rattle.balance.specs.Entries.{row-entries, values-of, member-entries}
+use Rattle.balance.specs.Entries.{row-entries, member-entries}
 use Rattle.balance.specs.Members.{table-of, member-at}
 use Rattle.balance.specs.inner.Requires.{TablesTested}
 use Rattle.balance.specs.laws.Lists.{joined-same}

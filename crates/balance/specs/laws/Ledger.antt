@@ -19,7 +19,7 @@ use Rattle.expression.specs.Requires.{Below}
 use Rattle.lookup.specs.Lookups.{Lookups, exclusive, tuple-count, multiplicity-count, flag-count, multiplicity-start, flag-start, multiplicity-node, flag-node, tuple-nodes, lookup-at}
 use Rattle.logup.specs.Tuple.{tuple}
 use Rattle.logup.specs.Ledger as logup
-use Rattle.balance_slots.specs.laws.Nets.{net-of}
+use Rattle.balance_slots.specs.Nets.{net-of}
 use Rattle.balance.specs.Entries.{count-of, entry-of, row-entries}
 use Rattle.balance.specs.laws.Sums.{tally, net-tally}
 

@@ -1,6 +1,6 @@
 -- Lists that are made by a function, and lists of lists one after the other.
 use mathlib.Core.Path.{_≡_, refl, ap₂, _∙_}
-use mathlib.Core.List.{List, [], _∷_, _++_, append-nil, flatMap, List·Memᴰ, List·Memᴰ·head, List·Memᴰ·tail, List·Memᴰ·append-cases, List·Memᴰ·eq-of-singleton}
+use mathlib.Core.List.{List, [], _∷_, _++_, append-nil, flatMap, List·Memᴰ, List·Memᴰ·head, List·Memᴰ·tail, List·Memᴰ·append-cases}
 use mathlib.Core.Logic.{_⊎_, inl, inr}
 use Prim.Native.Nat.{ℕ, zero, suc, _+_, _<_}
 use native.Mathlib.Omega.{arith}
@@ -9,16 +9,6 @@ use Rattle.lists.specs.Tab.{tab}
 use Rattle.lists.specs.laws.Tab.{flat-append}
 
 module _ {A : Type 0} where
-  -- where an element comes from
-  pub tab-in : (f : ℕ → A) (a n : ℕ) {e : A} → List·Memᴰ e (tab f a n) → (k : ℕ) × (e ≡ f k)
-  unfolding tab
-  tab-in f a zero m = elim m [ ]
-  tab-in f a (suc n) {e} m = go (λ k. tab-in f a n k) (List·Memᴰ·append-cases (tab f a n) m)
-    where
-      go : (List·Memᴰ e (tab f a n) → (k : ℕ) × (e ≡ f k)) → List·Memᴰ e (tab f a n) ⊎ List·Memᴰ e (f (a + n) ∷ []) → (k : ℕ) × (e ≡ f k)
-      go ih (inl k) = ih k
-      go ih (inr k) = (a + n, List·Memᴰ·eq-of-singleton k)
-
   -- functions that agree
   pub joined-same : (f g : ℕ → List A) (n : ℕ) → ((j : ℕ) → j < n → f j ≡ g j) → joined f 0 n ≡ joined g 0 n
   unfolding joined

@@ -1,38 +1,39 @@
--- Balance passes exactly when every net is zero.
+-- Balance accepts exactly where every group has enough slots and every net of it is zero.
 use mathlib.Core.Path.{_≡_, refl, sym, ap, _∙_}
 use mathlib.Core.Bool.{Bool, true, false, cond}
 use mathlib.Core.Option.{Option, none, some, Option·some-ne-none}
 use mathlib.Core.List.{List, [], _∷_, _++_, List·Memᴰ}
 use mathlib.Core.Logic.{_↔_}
-use Prim.Native.Nat.{ℕ, zero, suc, _+_, _/_, _<_, _≤_}
+use Prim.Native.Nat.{ℕ, suc, _/_, _<_}
 use lib.Dec.{eqb, ltb}
 use lib.ListN.{length}
 use borrow.Author.Tests.{ltb-false, le-ltb, eqb-true, eq-eqb}
 use Rattle.lists.specs.laws.Count.{joined-member}
+use Rattle.lists.specs.laws.Members.{tab-in}
 use Rattle.lists.specs.Fold.{fold}
 use Rattle.field.specs.laws.Word.{mulM-below}
-use Rattle.expression.specs.declared.sizes.Limits.{Limits}
 use Rattle.expression.specs.declared.refusal.Refusal.{Refusal}
 use Rattle.expression.specs.declared.refusal.Refusal.the-variants.{WorkspaceFull}
-use Rattle.lookup.specs.Table.{Table}
+use Rattle.lookup.specs.Table.{values-of}
 use Rattle.logup.specs.Ledger.{Entry}
 use Rattle.balance_slots.specs.Slots.{Slot, slots}
 use Rattle.balance_slots.specs.Workspace.{full, workspace-of}
 use Rattle.balance_slots.specs.GroupRefusal.{Numbered, unbalanced, names-first, group-refusal}
-use Rattle.balance_slots.specs.laws.Nets.{Counted, Zero, net-of, zero-nets, nets-zero}
-use Rattle.balance.specs.laws.Lists.{tab-in, flat-in}
-use Rattle.balance.specs.Tables.{TableLists, tables-of}
+use Rattle.balance_slots.specs.laws.Nets.{Counted, Zero, zero-nets, nets-zero}
+use Rattle.balance.specs.laws.Lists.{flat-in}
+use Rattle.balance.specs.Tables.{tables-of}
 use Rattle.balance.specs.Groups.{Member, members, groups}
-use Rattle.balance.specs.Entries.{count-of, entry-of, row-entries, values-of, member-entries, entries}
+use Rattle.balance.specs.Entries.{count-of, entry-of, row-entries, member-entries, entries}
 use Rattle.balance.specs.Refusals.{tables-refusal}
 use Rattle.balance.specs.Balance.{Visited, visited, visit, unvisited, balance, outcome, check}
+use Rattle.balance.specs.Passes.{Passes, AllGroups, groups-of, BalancePasses, CheckPasses}
 
 -- counts are words below p
 row-counted : (p : ℕ) → 0 < p → (m : Member) (r : ℕ) {e : Entry} → List·Memᴰ e (row-entries p (m .lookup) (values-of p (m .table) r)) → e .count < p
 unfolding row-entries entry-of count-of
 row-counted p z m r k =
     let c = tab-in (entry-of p (m .lookup) (values-of p (m .table) r)) 0 (length (m .lookup .tuples)) k in
-    rw (ap (λ (x : Entry). x .count) (c .1)) (mulM-below p z _ _)
+    rw (ap (λ (x : Entry). x .count) (c .2)) (mulM-below p z _ _)
 
 pub counted : (p : ℕ) → 0 < p → (ms : List Member) → Counted p (entries p ms)
 unfolding entries member-entries
@@ -40,20 +41,6 @@ counted p z ms e k =
     let a = flat-in (member-entries p) ms k in
     let b = joined-member (λ r. row-entries p (a .0 .lookup) (values-of p (a .0 .table) r)) (a .0 .table .traces .shape .height) (a .2) in
     row-counted p z (a .0) (b .0) (b .2)
-
--- a group's different tuples have slots, and its nets are all zero
-abbrev pub Fits : ℕ → ℕ → List Member → Type 0
-Fits p room ms = length (slots p (entries p ms)) ≤ room / 10
-
-abbrev pub Balanced : ℕ → List Member → Type 0
-Balanced p ms = (tuple : List ℕ) → net-of p (entries p ms) tuple ≡ 0
-
-abbrev pub Passes : ℕ → ℕ → List Member → Type 0
-Passes p room ms = Fits p room ms × Balanced p ms
-
-abbrev pub AllGroups : (List Member → Type 0) → List (List Member) → Type 0
-AllGroups P [] = Unit {0}
-AllGroups P (ms ∷ gs) = P ms × AllGroups P gs
 
 -- 18 is given exactly where a net is not zero
 zero-balanced : (k : ℕ) (ss : List Slot) → Zero ss → unbalanced k ss ≡ []
@@ -119,14 +106,13 @@ from-accepted p room z v q (ms ∷ gs) = go (group-refusal room (v .group) ss) r
     go (some f) e one rest =
         rw (first, fold-refused p room f next e gs) (λ k. absurd (Option·some-ne-none f (sym e ∙ k)), λ h. absurd (Option·some-ne-none f (sym e ∙ one .1 (h .0))))
 
--- Balance passes exactly when the different tuples of each group fit the workspace and all nets of all groups are zero.
-pub balance-passes : (p room : ℕ) → 0 < p → (tables : List Table) → (balance p room tables .refusal ≡ none) ↔ AllGroups (Passes p room) (groups (members tables))
+-- every group of the tables, behind the tests
+pub balance-passes : BalancePasses
 unfolding balance
 balance-passes p room z tables = from-accepted p room z (unvisited room) refl (groups (members tables))
 
--- So does the entry point, on tables that have none of refusals 1 to 12.
-pub check-passes : (m : Limits) (p : ℕ) → 0 < p → (l : TableLists) (workspace : List ℕ)
-    → (check m p l workspace .refusal ≡ none) ↔ ((tables-refusal m p l ≡ none) × AllGroups (Passes p (length workspace)) (groups (members (tables-of l))))
+-- and at the entry point
+pub check-passes : CheckPasses
 unfolding check
 check-passes m p z l workspace = go (tables-refusal m p l) (balance-passes p (length workspace) z (tables-of l))
   where
@@ -134,7 +120,7 @@ check-passes m p z l workspace = go (tables-refusal m p l) (balance-passes p (le
     B = balance p (length workspace) (tables-of l)
 
     G : Type 0
-    G = AllGroups (Passes p (length workspace)) (groups (members (tables-of l)))
+    G = AllGroups (Passes p (length workspace)) (groups-of l)
 
     go : (o : Option Refusal) → (B .refusal ≡ none) ↔ G → (outcome o B workspace .refusal ≡ none) ↔ ((o ≡ none) × G)
     go none h = (λ e. (refl, h .0 e), λ k. h .1 (k .1))

@@ -12,7 +12,7 @@ use Rattle.lists.specs.laws.Sums.{total-zero, total-add}
 use Rattle.field.specs.Word.{addM}
 use Rattle.field.specs.laws.Word.{addM-more}
 use Rattle.logup.specs.Ledger.{Entry, post}
-use Rattle.balance_slots.specs.laws.Nets.{net-of}
+use Rattle.balance_slots.specs.Nets.{net-of}
 
 -- the counts of a tuple, added up
 unfoldable pub tally : List Entry → List ℕ → ℕ

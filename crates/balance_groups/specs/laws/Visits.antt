@@ -16,6 +16,7 @@ use Rattle.expression.specs.Refusal.{refusal}
 use Rattle.expression.specs.declared.refusal.Refusal.{Refusal}
 use Rattle.expression.specs.declared.refusal.Verdict.{Verdict}
 use Rattle.lookup.specs.Lookups.{lookup-count, tuple-count, tuple-start, element-start, tuple-width, tuple-nodes, lookup-at}
+use Rattle.lookup.specs.Table.{values-of}
 use Rattle.logup.specs.Ledger.{Entry}
 use Rattle.balance_slots.specs.Slots.{slots}
 use Rattle.balance_slots.specs.Workspace.{workspace-of, slot-words}
@@ -26,11 +27,12 @@ use Rattle.balance_slots.specs.laws.GroupRefusal.{work-refusal-is, widths-in-us
 use Rattle.balance_slots.specs.laws.Room.{Roomy, fold-roomy}
 use Rattle.balance.specs.Tables.{TableLists}
 use Rattle.balance.specs.Groups.{Member}
-use Rattle.balance.specs.Entries.{entry-of, row-entries, values-of, member-entries, entries}
+use Rattle.balance.specs.Entries.{entry-of, row-entries, member-entries, entries}
 use Rattle.balance.specs.Members.{member-at}
 use Rattle.balance.specs.Balance.{Visited}
 use Rattle.balance.specs.inner.Requires.{TablesTested}
-use Rattle.balance.specs.laws.Lists.{tab-in, flat-in}
+use Rattle.lists.specs.laws.Members.{tab-in}
+use Rattle.balance.specs.laws.Lists.{flat-in}
 use Rattle.balance_groups.specs.inner.ByNumber.{kept, same-group, group-at}
 use Rattle.balance_groups.specs.inner.Visits.{group-visited}
 
@@ -63,7 +65,7 @@ module _ (p : ℕ) (l : TableLists) (w : TablesTested p l) where
   unfolding member-at lookup-at
   tuples-narrow m j =
       short-at (tab (tuple-nodes (l .lookups) m) 0 (tuple-count (l .lookups .lookups) m))
-      (λ x k. let a = tab-in (tuple-nodes (l .lookups) m) 0 (tuple-count (l .lookups .lookups) m) k in rw (a .1) (nodes-narrow m (a .0))) j
+      (λ x k. let a = tab-in (tuple-nodes (l .lookups) m) 0 (tuple-count (l .lookups .lookups) m) k in rw (a .2) (nodes-narrow m (a .0))) j
 
   -- every tuple that a lookup adds has at most eight words
   member-narrow : (m : ℕ) → Narrow (member-entries p (member-at l m))
@@ -72,7 +74,7 @@ module _ (p : ℕ) (l : TableLists) (w : TablesTested p l) where
       let M : Member = member-at l m in
       let a = joined-member (λ r. row-entries p (M .lookup) (values-of p (M .table) r)) (M .table .traces .shape .height) k in
       let b = tab-in (entry-of p (M .lookup) (values-of p (M .table) (a .0))) 0 (length (M .lookup .tuples)) (a .2) in
-      rw (ap (λ (x : Entry). length (x .tuple)) (b .1) ∙ length-map (getD (M .lookup .tuples) (b .0) []) (word (values-of p (M .table) (a .0)))) (tuples-narrow m (b .0))
+      rw (ap (λ (x : Entry). length (x .tuple)) (b .2) ∙ length-map (getD (M .lookup .tuples) (b .0) []) (word (values-of p (M .table) (a .0)))) (tuples-narrow m (b .0))
 
   -- so has every tuple of a group
   pub group-narrow : (m : ℕ) → Narrow (entries p (group-at l m))

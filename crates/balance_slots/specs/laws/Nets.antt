@@ -2,7 +2,7 @@
 use mathlib.Core.Path.{_≡_, refl, sym, ap, _∙_}
 use mathlib.Core.Bool.{Bool, true, false, cond, _||_, true≢false}
 use mathlib.Core.List.{List, [], _∷_, _++_, map, List·Memᴰ, List·Memᴰ·head, List·Memᴰ·tail}
-use Prim.Native.Nat.{ℕ, zero, _<_}
+use Prim.Native.Nat.{ℕ, _<_}
 use lib.Dec.{eqb}
 use borrow.Author.Tests.{eqb-true}
 use Rattle.lists.specs.Same.{same-list}
@@ -12,6 +12,7 @@ use Rattle.field.specs.Word.{addM}
 use Rattle.field.specs.laws.Word.{addM-below, addM-zero, zero-addM}
 use Rattle.logup.specs.Ledger.{Entry, post}
 use Rattle.balance_slots.specs.Slots.{Slot, add-nonzero, add, slots}
+use Rattle.balance_slots.specs.Nets.{net-of}
 
 -- lists that differ do so either way round
 same-list-flip : (a b : List ℕ) → same-list a b ≡ false → same-list b a ≡ false
@@ -20,10 +21,6 @@ same-list-flip a b e = go (same-list b a) refl
     go : (c : Bool) → same-list b a ≡ c → c ≡ false
     go true q = let s : same-list a b ≡ true = rw (same-list-eq b a q) (same-list-refl a) in cc
     go false q = refl
-
--- the ledger's word for a list, over these entries
-unfoldable pub net-of : ℕ → List Entry → List ℕ → ℕ
-net-of p es = fold (post p) (λ l. 0) es
 
 -- the net of a tuple in the slots, 0 where it has none
 unfoldable pub held : List Slot → List ℕ → ℕ

@@ -15,8 +15,9 @@ use Rattle.field.specs.Element.{at, Word4, lift, zero4, one4, add4, sub4
 use Rattle.field.specs.Modulus.{Certificate}
 use Rattle.field.specs.laws.Word.{addM-below, subM-below, negM-below, mulM-below, addM-zero, addM-sum, mulM-zero, zero-mulM, mulM-mod, mulM-added}
 use Rattle.field.specs.laws.Ring.{El, Fp, mk}
-use Rattle.field.specs.laws.Extension.{K, h}
-use Rattle.field.specs.laws.Homomorphism.{el, el-add, el-mul, el-neg, el-sub, el-same, KEl, four, mk-mul, mk-mod, ring4, quadruple, quadruple-mul, quadruple-same}
+use Rattle.field.specs.Extension.{K, KEl, el}
+use Rattle.field.specs.laws.Extension.{h}
+use Rattle.field.specs.laws.Homomorphism.{el-add, el-mul, el-neg, el-sub, el-same, four, mk-mul, mk-mod, ring4, quadruple, quadruple-mul, quadruple-same}
 use Rattle.field.specs.laws.Slice.{four-words}
 
 -- every result is four words

@@ -1,17 +1,15 @@
--- Four words with X⁴ = w are a field, for every p and w with a certificate; the certificate of the field in use.
+-- Why four words with X⁴ = w are a field, for every p and w with a certificate; the certificate of the field in use.
 use mathlib.Core.Path.{_≡_, refl, sym, ap, _∙_}
 use mathlib.Core.Logic.{_≢_}
-use Prim.Native.Nat.{ℕ, _*_, _-_, _<_, _%_}
+use Prim.Native.Nat.{ℕ, _-_, _<_, _%_}
 use native.Mathlib.Omega.{arith}
 use native.Mathlib.Nat.{mod-eq-of-lt}
 use lib.Dec.{lit<, lit≤}
-use Rattle.algebra.specs.Ring.{CRing}
 use Rattle.algebra.specs.Field.{Field}
 use Rattle.algebra.specs.Power.{powM}
 use Rattle.algebra.specs.laws.Remainder.{mul-mod-mod, mod-mul-mod}
 use Rattle.algebra.specs.laws.Primality.{by-trial}
 use Rattle.algebra.specs.laws.Power.{no-square}
-use Rattle.algebra.specs.laws.Quartic.{quartic-field}
 use Rattle.field.specs.Modulus.{Modulus, Certificate, babybear, babybear-w}
 use Rattle.field.specs.laws.Ring.{El, mk, eq, pos, words}
 
@@ -34,10 +32,6 @@ module _ (p w : ℕ) (C : Certificate p w) where
       eq p h
       (mul-mod-mod (C .root % p) (C .root) p ∙ mod-mul-mod (C .root) (C .root) p ∙ C .root-squared
       ∙ ap (λ (x : ℕ). (p - x) % p) (sym (mod-eq-of-lt (C .prime .big))))
-
-  -- the extension field
-  abbrev pub K : Field
-  K = quartic-field F1 W W-nonsquare (mk p h (C .root)) minus-one
 
 -- the modulus in use, and its certificate
 pub babybear-modulus : Modulus babybear

@@ -14,7 +14,8 @@ use Rattle.field.specs.Word.{addM, subM, mulM, negM}
 use Rattle.field.specs.Element.{at, Word4, add4, sub4, neg4, mul4}
 use Rattle.field.specs.Modulus.{Certificate}
 use Rattle.field.specs.laws.Ring.{El, Fp, mk, eq}
-use Rattle.field.specs.laws.Extension.{K, h}
+use Rattle.field.specs.Extension.{K, KEl, el}
+use Rattle.field.specs.laws.Extension.{h}
 
 module _ (p : ℕ) (h : 0 < p) where
   abbrev pub mks : List ℕ → List (El p)
@@ -128,28 +129,21 @@ module _ (p w : ℕ) (h : 0 < p) where
       ∷ []
 
 module _ (p w : ℕ) (C : Certificate p w) where
-  abbrev pub KEl : Type 0
-  KEl = K p w C .ring .El
-
-  -- the element that four words stand for
-  abbrev pub el : List ℕ → KEl
-  el l = quadruple p w (h p w C) l
-
-  pub four : {a b c d a′ b′ c′ d′ : El p} → a ≡ a′ → b ≡ b′ → c ≡ c′ → d ≡ d′ → _≡_ {A = KEl} (a, b, c, d) (a′, b′, c′, d′)
+  pub four : {a b c d a′ b′ c′ d′ : El p} → a ≡ a′ → b ≡ b′ → c ≡ c′ → d ≡ d′ → _≡_ {A = KEl p w C} (a, b, c, d) (a′, b′, c′, d′)
   four e f g k = four-paths p w (h p w C) e f g k
 
-  pub el-mul : (a b : List ℕ) → el (mul4 p w a b) ≡ K p w C .ring .mul (el a) (el b)
+  pub el-mul : (a b : List ℕ) → el p w C (mul4 p w a b) ≡ K p w C .ring .mul (el p w C a) (el p w C b)
   el-mul a b = quadruple-mul p w (h p w C) a b
 
-  pub el-add : (a b : List ℕ) → el (add4 p a b) ≡ K p w C .ring .add (el a) (el b)
+  pub el-add : (a b : List ℕ) → el p w C (add4 p a b) ≡ K p w C .ring .add (el p w C a) (el p w C b)
   unfolding add4
   el-add a b = four (mk-add p (h p w C) _ _) (mk-add p (h p w C) _ _) (mk-add p (h p w C) _ _) (mk-add p (h p w C) _ _)
 
-  pub el-neg : (a : List ℕ) → el (neg4 p a) ≡ K p w C .ring .neg (el a)
+  pub el-neg : (a : List ℕ) → el p w C (neg4 p a) ≡ K p w C .ring .neg (el p w C a)
   unfolding neg4
   el-neg a = four (mk-neg p (h p w C) _) (mk-neg p (h p w C) _) (mk-neg p (h p w C) _) (mk-neg p (h p w C) _)
 
-  pub el-sub : (a b : List ℕ) → el (sub4 p a b) ≡ K p w C .ring .add (el a) (K p w C .ring .neg (el b))
+  pub el-sub : (a b : List ℕ) → el p w C (sub4 p a b) ≡ K p w C .ring .add (el p w C a) (K p w C .ring .neg (el p w C b))
   unfolding sub4 subM
   el-sub a b =
       four (homM p (h p w C) (both p w (h p w C) a b) (X 0 ⊕ ⊝ X 4)) (homM p (h p w C) (both p w (h p w C) a b) (X 1 ⊕ ⊝ X 5)) (homM p (h p w C) (both p w (h p w C) a b) (X 2 ⊕ ⊝ X 6))
@@ -159,6 +153,6 @@ module _ (p w : ℕ) (C : Certificate p w) where
   pub word-same : (m n : ℕ) → m < p → n < p → mk p (h p w C) m ≡ mk p (h p w C) n → m ≡ n
   word-same m n k l e = number-same p w (h p w C) m n k l e
 
-  pub el-same : (a b : List ℕ) → Word4 p a → Word4 p b → el a ≡ el b
+  pub el-same : (a b : List ℕ) → Word4 p a → Word4 p b → el p w C a ≡ el p w C b
       → at a 0 ∷ at a 1 ∷ at a 2 ∷ at a 3 ∷ [] ≡ at b 0 ∷ at b 1 ∷ at b 2 ∷ at b 3 ∷ []
   el-same a b k l e = quadruple-same p w (h p w C) a b k l e

@@ -14,8 +14,9 @@ use Rattle.field.specs.Element.{at, Word4, lift, zero4, one4, mul4, scal
 use Rattle.field.specs.Modulus.{Modulus, Certificate}
 use Rattle.field.specs.laws.Word.{addM-below}
 use Rattle.field.specs.laws.Ring.{El, Fp, mk}
-use Rattle.field.specs.laws.Extension.{K, h}
-use Rattle.field.specs.laws.Homomorphism.{KEl, el, el-mul, el-same, word-same, four, mk-neg, mk-mul, evalM, homM, mks}
+use Rattle.field.specs.Extension.{K, KEl, el}
+use Rattle.field.specs.laws.Extension.{h}
+use Rattle.field.specs.laws.Homomorphism.{el-mul, el-same, word-same, four, mk-neg, mk-mul, evalM, homM, mks}
 use Rattle.field.specs.laws.Element.{word-mul4, word-lift, mul4-assoc, mul4-comm, mul4-one, scale4-is, lift-mul}
 use Rattle.field.specs.laws.Reduction.{dot-sums}
 use Rattle.field.specs.laws.Inverse.{inverse1-ok}

@@ -47,6 +47,11 @@ unfolding some-of
 some-of-none f zero e = refl
 some-of-none f (suc n) e = ap₂ _||_ (some-of-none f n (λ i l. e i (omega arith))) (e n (omega arith))
 
+pub some-of-same : (f g : ℕ → Bool) (n : ℕ) → ((i : ℕ) → i < n → f i ≡ g i) → some-of f n ≡ some-of g n
+unfolding some-of
+some-of-same f g zero e = refl
+some-of-same f g (suc n) e = ap₂ _||_ (some-of-same f g n (λ i l. e i (omega arith))) (e n (omega arith))
+
 module _ {A : Type 0} where
   or-else-left : (a b : Option A) → or-else a b ≡ none → a ≡ none
   or-else-left none b e = refl
@@ -64,6 +69,11 @@ module _ {A : Type 0} where
   first-none f zero i e l = absurd (omega arith)
   first-none f (suc n) i e l =
       last-or-below (λ i. f i ≡ none) n i l (or-else-right (first f n) (f n) e) (first-none f n i (or-else-left (first f n) (f n) e))
+
+  pub first-all : (f : ℕ → Option A) (n : ℕ) → ((i : ℕ) → i < n → f i ≡ none) → first f n ≡ none
+  unfolding first
+  first-all f zero e = refl
+  first-all f (suc n) e = ap₂ or-else (first-all f n (λ i l. e i (omega arith))) (e n (omega arith))
 
   pub joined-next : (f : ℕ → List A) (n : ℕ) → joined f 0 (suc n) ≡ joined f 0 n ++ f n
   unfolding joined

@@ -1,12 +1,12 @@
--- A list that is made of lists of one length: its length, and what stands in it.
-use mathlib.Core.Path.{_≡_, refl, sym, ap, _∙_}
+-- A list that is made of lists: its length, and what stands in it where they are of one length.
+use mathlib.Core.Path.{_≡_, refl, sym, ap, ap₂, _∙_}
 use mathlib.Core.List.{List, [], _∷_, _++_}
 use Prim.Native.Nat.{ℕ, zero, suc, _+_, _*_, _<_}
 use native.Mathlib.Nat.{zero-add, mul-le-mul-left, mul-suc}
 use native.Mathlib.Omega.{arith}
 use lib.ListN.{length, getD, length-append, List·getD-append}
 use lib.Seq.{getD-append-add}
-use Rattle.lists.specs.Count.{joined}
+use Rattle.lists.specs.Count.{total, joined}
 use Rattle.lists.specs.Tab.{tab}
 use Rattle.lists.specs.laws.Count.{last-or-below}
 
@@ -32,3 +32,10 @@ pub joined-singles : {A : Type 0} (f : ℕ → A) (n : ℕ) → joined (λ k. f 
 unfolding joined tab
 joined-singles f zero = refl
 joined-singles {A} f (suc n) = ap (λ (l : List A). l ++ (f (0 + n) ∷ [])) (joined-singles f n)
+
+-- parts of any lengths
+pub joined-total : {A : Type 0} (f : ℕ → List A) (g : ℕ → ℕ) (n : ℕ) → ((i : ℕ) → length (f i) ≡ g i) → length (joined f 0 n) ≡ total g n
+unfolding joined total
+joined-total f g zero each = refl
+joined-total f g (suc n) each =
+    length-append (joined f 0 n) (f (0 + n)) ∙ ap₂ _+_ (joined-total f g n each) (each (0 + n) ∙ ap g (zero-add n))

@@ -1,6 +1,6 @@
--- Sums of equal, of no and of two summands, and a sum by its first summand.
+-- Sums of equal, of no and of two summands, with a common factor, and a sum by its first summand.
 use mathlib.Core.Path.{_≡_, refl, ap, ap₂}
-use Prim.Native.Nat.{ℕ, zero, suc, _+_, _<_}
+use Prim.Native.Nat.{ℕ, zero, suc, _+_, _*_, _<_}
 use native.Mathlib.Omega.{arith}
 use Rattle.lists.specs.Count.{total}
 
@@ -18,6 +18,12 @@ pub total-add : (f g : ℕ → ℕ) (n : ℕ) → total (λ i. f i + g i) n ≡ 
 unfolding total
 total-add f g zero = refl
 total-add f g (suc n) = omega (arith, total-add f g n)
+
+-- a common factor
+pub total-times : (f : ℕ → ℕ) (h n : ℕ) → total (λ i. f i * h) n ≡ total f n * h
+unfolding total
+total-times f h zero = omega arith
+total-times f h (suc n) = omega (arith, total-times f h n)
 
 pub total-head : (f : ℕ → ℕ) (n : ℕ) → total f (suc n) ≡ f 0 + total (λ k. f (suc k)) n
 unfolding total

@@ -10,7 +10,7 @@ use lib.Dec.{eqb, ltb}
 use lib.ListN.{length, take, drop}
 use lib.Seq.{getD-take, getD-drop, take-take, take-nil, drop-drop}
 use Rattle.lists.specs.Count.{total, some-of}
-use Rattle.lists.specs.laws.Count.{total-le, total-in, total-one}
+use Rattle.lists.specs.laws.Count.{total-le, total-in, total-one, some-of-same}
 use Rattle.lists.specs.laws.Parts.{part-length}
 use Rattle.lists.specs.laws.Sums.{total-cong}
 use Rattle.field.specs.Element.{sum4, is-zero}
@@ -24,12 +24,7 @@ use Rattle.logup.specs.Tuple.{tuple, denominator, quotient4}
 use Rattle.logup.specs.Column.{Place, branches, multiplicity, flag, chosen, denom, used-denom, branch-fraction, branch-fault, additive-fraction, additive-fault, exclusive-fraction, exclusive-fault, fraction, fault}
 use Rattle.logup_column.specs.inner.Own.{Fits, slice, own-words, own-widths, own-multiplicities, own-flags, own-nodes, parted}
 
--- tests and choices that agree term by term
-some-of-same : (f g : ℕ → Bool) (n : ℕ) → ((k : ℕ) → k < n → f k ≡ g k) → some-of f n ≡ some-of g n
-unfolding some-of
-some-of-same f g zero e = refl
-some-of-same f g (suc n) e = ap₂ _||_ (some-of-same f g n (λ k h. e k (omega arith))) (e n (omega arith))
-
+-- choices that agree term by term
 chosen-same : (f g : ℕ → ℕ) (n : ℕ) → ((k : ℕ) → k < n → f k ≡ g k) → chosen f n ≡ chosen g n
 unfolding chosen
 chosen-same f g zero e = refl

@@ -1,13 +1,12 @@
 -- What the columns of packing keep of the lookups.
 use mathlib.Core.Path.{_≡_, refl, sym, ap, ap₂, _∙_}
-use mathlib.Core.Bool.{Bool, true, false, cond, not, _&&_, _||_}
-use mathlib.Core.List.{List, [], _∷_, _++_, append-nil, append-assoc, map, flatMap, List·Memᴰ, List·Memᴰ·head, List·Memᴰ·tail, List·Memᴰ·cases-cons, map-append}
+use mathlib.Core.Bool.{Bool, true, false, cond, not, _&&_}
+use mathlib.Core.List.{List, [], _∷_, _++_, append-assoc, map, flatMap, List·Memᴰ, List·Memᴰ·head, List·Memᴰ·tail, List·Memᴰ·cases-cons, map-append}
 use mathlib.Core.Logic.{_⊎_, inl, inr}
-use Prim.Native.Nat.{ℕ, zero, suc, _+_, _<_, _≤_}
+use Prim.Native.Nat.{ℕ, suc, _+_, _<_, _≤_}
 use native.Mathlib.Omega.{arith}
 use lib.Dec.{eqb, ltb, leb, eqb·suc-zero}
-use lib.ListN.{length}
-use borrow.Author.Tests.{ltb-true, ltb-false, leb-true, lt-ltb, le-ltb, not-true}
+use borrow.Author.Tests.{ltb-false, leb-true, lt-ltb, not-true}
 use Rattle.lists.specs.Same.{same-list}
 use Rattle.lists.specs.laws.Same.{same-list-eq}
 use Rattle.lookup_degree.specs.Sums.{sum-of}
@@ -15,8 +14,9 @@ use Rattle.lookup.specs.Lookups.{Lookups, Lookup, lookup-count, lookup-at, look
 use Rattle.lookup.specs.Buses.{same-bus}
 use Rattle.lookup_degree.specs.Degree.{denominator-degree, numerator-degree, additive-degree, exclusive-degree, lookup-degree}
 use Rattle.lookup_buses.specs.Order.{keep, position, by-place, numbers, place, arranged}
+use Rattle.packing.specs.Keeps.{Lawful}
 use Rattle.packing.specs.Packing.{passes, additive-on, on-one-bus, in-order, merged, joins, fill, filled, numbered, renumbered, packed}
-use Rattle.lookup_buses.specs.laws.Order.{keep-append, keep-same, keep-none, keep-cong, keep-map, position-none, sum-append, sum-map, tab-map, numbers-length, arranged-sum, arranged-in, by-place-keep, by-place-front}
+use Rattle.lookup_buses.specs.laws.Order.{keep-cong, keep-map, position-none, sum-map, tab-map, numbers-length, arranged-sum, arranged-in, by-place-keep, by-place-front}
 
 pub and-both : (a b : Bool) → (a && b) ≡ true → (a ≡ true) × (b ≡ true)
 and-both true b e = (refl, e)
@@ -249,10 +249,6 @@ renumbered-in k (l ∷ ls) x m = go (List·Memᴰ·cases-cons m) (λ n. renumber
         → (y : Lookup) × (j : ℕ) × List·Memᴰ y (l ∷ ls) × (x ≡ numbered j y)
     go (inl e) ih = (l, k, List·Memᴰ·head refl, e)
     go (inr n) ih = let r = ih n in (r .0, r .1, List·Memᴰ·tail (r .2), r .3)
-
--- a column is within the limit, or it is one of the lookups under its new number
-abbrev pub Lawful : (ℕ → ℕ) → ℕ → Lookups → Lookup → Type 0
-Lawful deg limit l x = (lookup-degree deg x ≤ limit) ⊎ ((i : ℕ) × (j : ℕ) × (i < lookup-count (l .lookups)) × (x ≡ numbered j (lookup-at l i)))
 
 degree-numbered : (deg : ℕ → ℕ) (j : ℕ) (y : Lookup) → lookup-degree deg (numbered j y) ≡ lookup-degree deg y
 unfolding lookup-degree additive-degree exclusive-degree denominator-degree numerator-degree

@@ -1,19 +1,17 @@
 -- Packing keeps what the lookups say: one theorem.
 use mathlib.Core.Path.{_≡_, refl, sym, ap, _∙_}
-use mathlib.Core.Bool.{Bool, true, false, cond, not, _&&_, _||_}
-use mathlib.Core.List.{List, [], _∷_, _++_, append-assoc, append-nil, append-cancel-left, map, flatMap, List·Memᴰ}
-use Prim.Native.Nat.{ℕ, zero, suc, _+_, _≤_}
-use native.Mathlib.Omega.{arith}
-use lib.Dec.{eqb, leb, eqb·suc-zero}
+use mathlib.Core.Bool.{Bool, true, false, cond, not, _&&_}
+use mathlib.Core.List.{List, [], _∷_, _++_, append-nil, append-cancel-left}
+use Prim.Native.Nat.{ℕ, _+_}
+use lib.Dec.{leb}
 use lib.ListN.{length, length-append}
-use borrow.Author.Tests.{lt-ltb}
-use Rattle.lookup_degree.specs.Sums.{sum-of}
-use Rattle.lookup.specs.Lookups.{Lookups, Lookup, lookups-of}
+use Rattle.lookup.specs.Lookups.{Lookup, lookups-of}
 use Rattle.lookup_degree.specs.Degree.{lookup-degree}
 use Rattle.lookup_buses.specs.Order.{keep}
 use Rattle.packing.specs.Packing.{passes, additive-on, on-one-bus, in-order, merged, joins, fill, filled, renumbered, packed}
 use Rattle.lookup_buses.specs.laws.Order.{keep-append, keep-same}
-use Rattle.packing.specs.laws.Columns.{and-both, on-one, packed-keeps, packed-sum, packed-within, Lawful, order-passes, order-front}
+use Rattle.packing.specs.Keeps.{PackingKeepsAll}
+use Rattle.packing.specs.laws.Columns.{and-both, on-one, packed-keeps, packed-sum, packed-within, order-passes, order-front}
 
 -- a lookup that passes is a column of its own
 fill-passes : (deg : ℕ → ℕ) (limit : ℕ) (c : Lookup) (ls : List Lookup) → passes c ≡ true → fill deg limit c ls ≡ c ∷ filled deg limit ls
@@ -57,20 +55,8 @@ unfolding filled
 filled-keeps-passes deg limit [] = refl
 filled-keeps-passes deg limit (l ∷ ls) = fill-keeps-passes deg limit l ls
 
--- The table designer's promise.
-pub record PackingKeeps (deg : ℕ → ℕ) (limit : ℕ) (l : Lookups) : Type 0 where
-  -- every bus has the same tuples with the same multiplicities, in order, before and after
-  pub tuples : (bus : List ℕ) → flatMap (λ (x : Lookup). x .tuples) (keep (additive-on bus) (packed deg limit l)) ≡ flatMap (λ (x : Lookup). x .tuples) (keep (additive-on bus) (lookups-of l))
-  pub multiplicities : (bus : List ℕ) → flatMap (λ (x : Lookup). x .multiplicities) (keep (additive-on bus) (packed deg limit l)) ≡ flatMap (λ (x : Lookup). x .multiplicities) (keep (additive-on bus) (lookups-of l))
-  -- locals and exclusives stand in front, untouched but for their columns, and no other column is of their kind
-  pub others : (columns : List Lookup) × (packed deg limit l ≡ renumbered 0 (keep passes (lookups-of l) ++ columns)) × (keep passes columns ≡ [])
-  -- weights add, tuples neither come nor go
-  pub weights : sum-of (λ (x : Lookup). x .weight) (packed deg limit l) ≡ sum-of (λ (x : Lookup). x .weight) (lookups-of l)
-  pub count : sum-of (λ (x : Lookup). length (x .tuples)) (packed deg limit l) ≡ sum-of (λ (x : Lookup). length (x .tuples)) (lookups-of l)
-  -- each column is within the limit, or is one of the lookups under its new number
-  pub within : (x : Lookup) → List·Memᴰ x (packed deg limit l) → Lawful deg limit l x
-
-pub packing-keeps : (deg : ℕ → ℕ) (limit : ℕ) (l : Lookups) → PackingKeeps deg limit l
+-- What packing keeps: the record of specs/Keeps.antt, for every table.
+pub packing-keeps : PackingKeepsAll
 packing-keeps deg limit l = record {
   tuples = λ (bus : List ℕ). packed-keeps (λ (x : Lookup). x .tuples) (λ (a b : Lookup). refl) (λ (k : ℕ) (x : Lookup). refl) deg limit bus l;
   multiplicities = λ (bus : List ℕ). packed-keeps (λ (x : Lookup). x .multiplicities) (λ (a b : Lookup). refl) (λ (k : ℕ) (x : Lookup). refl) deg limit bus l;

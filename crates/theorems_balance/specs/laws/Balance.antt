@@ -5,23 +5,25 @@ use mathlib.Core.List.{List, [], _∷_, map, List·Memᴰ, List·Memᴰ·head, L
 use Prim.Native.Nat.{ℕ}
 use lib.ListN.{length}
 use Rattle.field.specs.Modulus.{Modulus, Certificate, babybear, babybear-w}
-use Rattle.field.specs.laws.Extension.{K, h, babybear-certificate, babybear-modulus}
-use Rattle.field.specs.laws.Homomorphism.{KEl}
+use Rattle.field.specs.Extension.{K, KEl}
+use Rattle.field.specs.laws.Extension.{h, babybear-certificate, babybear-modulus}
 use Rattle.theorems_logup.specs.Tables as Tables
 use Rattle.theorems_logup.specs.Sets as Sets
 use Rattle.theorems_logup.specs.Sets.{Pairing}
 use Rattle.theorems_logup.specs.laws.Support.{support, support-is}
+use Rattle.theorems_logup.specs.laws.Balance.{vanishes}
 use Rattle.expression.specs.Limits.{cabinet}
 use Rattle.expression.specs.declared.sizes.Limits.{Limits}
 use Rattle.logup.specs.Ledger.{Entry, met}
 use Rattle.balance.specs.Groups.{Member}
 use Rattle.balance.specs.Entries.{entries}
-use Rattle.balance.specs.laws.Passes.{Fits, Passes, AllGroups, check-passes}
-use Rattle.theorems_soundness.specs.laws.Setting.{N}
+use Rattle.balance.specs.Passes.{Fits, Passes, AllGroups, groups-of}
+use Rattle.balance.specs.laws.Passes.{check-passes}
+use Rattle.theorems_soundness.specs.Entries.{N}
 use Rattle.theorems_soundness.specs.laws.Ledgers.{met-is}
+use Rattle.theorems_soundness.specs.laws.Pairs.{in-field, each-pair, full}
 use Rattle.theorems_balance.specs.Sums.{group-sum, Sampled}
-use Rattle.theorems_balance.specs.Balance.{WordsBelow, groups-of, AllVanish, SumsDetermineNets, NetsAreSeen, SumsDetermineBalance}
-use Rattle.theorems_balance.specs.laws.Pairs.{vanishes, in-field, each-pair, full-in-field}
+use Rattle.theorems_balance.specs.Balance.{WordsBelow, AllVanish, SumsDetermineNets, NetsAreSeen, SumsDetermineBalance}
 use Rattle.theorems_balance.specs.laws.Nets.{net-is}
 use Rattle.theorems_balance.specs.laws.Groups.{words-of-groups, table-of-group}
 
@@ -45,7 +47,7 @@ module _ (p w : ℕ) (M : Modulus p) (C : Certificate p w) where
           vanishes (K p w C) (N p w C) (s .width) E (support (K p w C) (N p w C) E) (map (in-field p w C) (s .set))
           (table-of-group p w M C ms below (s .width) (s .wide)) (support-is (K p w C) (N p w C) E)
           (subst (λ (n : ℕ). Sets.FullSet (K p w C) (N p w C) (s .width) n E [] (map (in-field p w C) (s .set))) (ap length (met-is p w C E))
-          (full-in-field p w C (s .width) (length (met E)) E (s .set) (s .full) (s .no-pole)))
+          (full p w C (s .width) (length (met E)) E [] (s .set) (s .full) (λ r k a ma. (s .no-pole r k a ma, λ e m. absurd (List·Memᴰ·not-nil m)))))
 
 -- what does not hold of all members fails of one
 module _ {A : Type 0} (P : A → Type 0) (test : (a : A) → Dec (P a)) where

@@ -5,7 +5,7 @@ use mathlib.Core.Path.{_≡_, refl, sym, ap, _∙_, subst}
 use mathlib.Core.Logic.{_≢_, _↔_, ⊎-elim}
 use mathlib.Core.Bool.{true, false, true≢false}
 use mathlib.Core.Option.{none}
-use mathlib.Core.List.{List, [], _∷_, _++_, flatMap, List·Memᴰ, List·Memᴰ·head, List·Memᴰ·not-nil, List·Memᴰ·cases-cons, List·Memᴰ·eq-of-singleton}
+use mathlib.Core.List.{List, [], _∷_, _++_, flatMap, List·Memᴰ, List·Memᴰ·head, List·Memᴰ·cases-cons, List·Memᴰ·eq-of-singleton}
 use native.Mathlib.Omega.{arith}
 use native.Mathlib.Nat.{le-of-eq}
 use lib.ListN.{length, replicate}
@@ -15,12 +15,11 @@ use Rattle.lists.specs.Same.{same-list}
 use Rattle.lists.specs.Count.{total, every, joined}
 use Rattle.lists.specs.Fold.{fold}
 use Rattle.lists.specs.Tab.{tab}
-use Rattle.field.specs.Word.{inverse1}
+use Rattle.field.specs.Word.{addM, negM, subM, mulM, inverse1}
 use Rattle.field.specs.Element.{lift, add4, sub4, mul4, scale4, power4, sum4, conjugate, conjugate2, norm2, norm, inverse4, is-zero}
 use Rattle.field.specs.Modulus.{babybear, babybear-w}
-use Rattle.field.specs.laws.Extension.{K, babybear-certificate, babybear-modulus}
-use Rattle.field.specs.laws.Homomorphism.{KEl, el}
-use Rattle.theorems_logup.specs.Distinct.{Distinct}
+use Rattle.field.specs.Extension.{K, KEl, el}
+use Rattle.field.specs.laws.Extension.{babybear-certificate, babybear-modulus}
 use Rattle.theorems_logup.specs.Tables as Tables
 use Rattle.theorems_logup.specs.Sets.{Pairing}
 use Rattle.expression.specs.Words.{all-below, all-within}
@@ -35,21 +34,21 @@ use Rattle.lookup.specs.Sizes.{size-start, table-part}
 use Rattle.lookup.specs.Tests.{lookups-within, lookups-fit, sizes, words-below, known, lengths-agree, nodes-present, lists-agree, has-lookups, preprocessed-enough}
 use Rattle.lookup_buses.specs.Order.{keep}
 use Rattle.logup.specs.Tuple.{combine, denominator, quotient4}
-use Rattle.logup.specs.Ledger.{Entry, Element, post, listed as listed-in, met}
+use Rattle.logup.specs.Ledger.{Entry, post, listed as listed-in, met}
 use Rattle.balance_slots.specs.Slots.{add-nonzero, add, slots}
-use Rattle.balance_slots.specs.laws.Nets.{net-of}
+use Rattle.balance_slots.specs.Nets.{net-of}
 use Rattle.balance.specs.Tables.{TableLists, shape-at, lookups-at, table-at, tables-of, lists-fit}
 use Rattle.balance.specs.Groups.{Member, members, same-bus, appears, local-group, bus-group, bus-groups, groups}
 use Rattle.balance.specs.Entries.{count-of, entry-of, row-entries, member-entries, entries}
 use Rattle.balance.specs.Refusals.{all, listed, covered, tables-refusal}
 use Rattle.balance.specs.Balance.{check}
 use Rattle.balance.specs.laws.Cases.{columns, bus-words}
-use Rattle.balance.specs.laws.Passes.{Fits, AllGroups}
-use Rattle.theorems_soundness.specs.Soundness.{FullSet, AtEachPair}
-use Rattle.theorems_soundness.specs.laws.Setting.{N}
-use Rattle.theorems_soundness.specs.laws.Elements.{element-lift}
+use Rattle.balance.specs.Passes.{Fits, AllGroups, groups-of}
+use Rattle.theorems_soundness.specs.Soundness.{FullSet}
+use Rattle.theorems_soundness.specs.Entries.{N}
+use Rattle.theorems_soundness.specs.laws.Example.{one-pair, one-full, at-one}
 use Rattle.theorems_balance.specs.Sums.{Wide, group-sum, IdenticallyZero, Vanishes, Sampled}
-use Rattle.theorems_balance.specs.Balance.{groups-of, AllVanish, OneWidth}
+use Rattle.theorems_balance.specs.Balance.{AllVanish, OneWidth}
 use Rattle.theorems_balance.specs.laws.Words.{sum-words, sum-zero-iff, accepts-of}
 use Rattle.theorems_balance.specs.laws.Groups.{words-of-groups}
 use Rattle.theorems_balance.specs.laws.Balance.{nets-are-seen, cabinet-sums-determine-balance}
@@ -92,12 +91,12 @@ record Computed (count : ℕ) : Type 0 where
   slots-few : length (slots babybear (entered count)) ≡ 1
 
 computed : Computed 2013265920 × Computed 2
-unfolding total every joined fold tab flatMap all-below all-within cabinet decode node row-of window node-value values row-values node-degree degrees
-    traces-within nodes-within traces-fit nodes-fit traces-below constants-below nodes-known degrees-low name-start tuple-start multiplicity-start
-    flag-start element-start tuple-width tuple-nodes lookup-at lookups-of lookups-within lookups-fit sizes words-below known lengths-agree
-    nodes-present lists-agree has-lookups preprocessed-enough same-list add-nonzero add slots keep size-start table-part shape-at lookups-at table-at
-    tables-of lists-fit members same-bus appears local-group bus-group bus-groups groups count-of entry-of row-entries member-entries entries all
-    listed covered tables-refusal listed-in met
+unfolding addM mulM total every joined fold tab flatMap all-below all-within cabinet decode node row-of window node-value values row-values
+    node-degree degrees traces-within nodes-within traces-fit nodes-fit traces-below constants-below nodes-known degrees-low name-start tuple-start
+    multiplicity-start flag-start element-start tuple-width tuple-nodes lookup-at lookups-of lookups-within lookups-fit sizes words-below known
+    lengths-agree nodes-present lists-agree has-lookups preprocessed-enough same-list add-nonzero add slots keep size-start table-part shape-at
+    lookups-at table-at tables-of lists-fit members same-bus appears local-group bus-group bus-groups groups count-of entry-of row-entries
+    member-entries entries all listed covered tables-refusal listed-in met
 computed = (
   record { tests = refl; grouped = refl; entries-are = refl; tuple-met = refl; slots-few = refl },
   record { tests = refl; grouped = refl; entries-are = refl; tuple-met = refl; slots-few = refl },
@@ -120,37 +119,12 @@ wide count m k nodes i =
 abbrev workspace : List ℕ
 workspace = replicate 10 7
 
--- alpha 5, beta 7
-abbrev pair : Pairing (List ℕ)
-pair = record { beta = lift 7; alphas = lift 5 ∷ [] }
-
--- the set has one pair
-only-pair : (P : List ℕ → List ℕ → Type 0) → P (lift 5) (lift 7) → AtEachPair (pair ∷ []) P
-only-pair P x r k =
-    subst (λ (r : Pairing (List ℕ)). (a : List ℕ) → List·Memᴰ a (r .alphas) → P a (r .beta)) (sym (List·Memᴰ·eq-of-singleton k))
-    (λ a m. subst (λ (a : List ℕ). P a (lift 7)) (sym (List·Memᴰ·eq-of-singleton m)) x)
-
-full : FullSet babybear 1 1 (pair ∷ [])
-full =
-    record {
-      betas = (λ y k. absurd (List·Memᴰ·not-nil k), tt);
-      betas-many = refl;
-      beta-element =
-          λ r k.
-          subst (λ (r : Pairing (List ℕ)). Element babybear (r .beta)) (sym (List·Memᴰ·eq-of-singleton k))
-          (element-lift babybear babybear-w babybear-certificate 7 (omega arith));
-      alphas =
-          λ r k.
-          subst (λ (r : Pairing (List ℕ)). Distinct (r .alphas)) (sym (List·Memᴰ·eq-of-singleton k)) (λ y k. absurd (List·Memᴰ·not-nil k), tt);
-      alphas-many = λ r k. ap (λ (r : Pairing (List ℕ)). length (r .alphas)) (List·Memᴰ·eq-of-singleton k);
-      alpha-element = only-pair (λ a b. Element babybear a) (element-lift babybear babybear-w babybear-certificate 5 (omega arith));
-    }
-
 -- the denominator of (3) is 2; 1 ÷ 2 - 1 ÷ 2 is 0, and 1 ÷ 2 + 2 ÷ 2 is not
 words : (is-zero (denominator babybear babybear-w (lift 5) (lift 7) (3 ∷ [])) ≡ false)
     × (is-zero (sum-words babybear babybear-w (lift 5) (lift 7) (entered 2013265920)) ≡ true)
     × (is-zero (sum-words babybear babybear-w (lift 5) (lift 7) (entered 2)) ≡ false)
-unfolding powM inverse1 add4 sub4 mul4 scale4 power4 sum4 conjugate conjugate2 norm2 norm inverse4 is-zero combine denominator quotient4 sum-words
+unfolding powM addM negM subM mulM inverse1 add4 sub4 mul4 scale4 power4 sum4 conjugate conjugate2 norm2 norm inverse4 is-zero combine denominator
+    quotient4 sum-words
 words = (refl, refl, refl)
 
 abbrev field : Field
@@ -169,12 +143,12 @@ module _ (count : ℕ) (c : Computed count) where
       record {
         width = 1;
         wide = wide count;
-        set = pair ∷ [];
+        set = one-pair;
         full =
-            subst (λ (n : ℕ). FullSet babybear 1 n (pair ∷ []))
-            (sym (ap (λ (es : List Entry). length (met es)) (c .entries-are) ∙ c .tuple-met)) full;
+            subst (λ (n : ℕ). FullSet babybear 1 n one-pair)
+            (sym (ap (λ (es : List Entry). length (met es)) (c .entries-are) ∙ c .tuple-met)) one-full;
         no-pole =
-            only-pair (λ a b. Tables.Accepts field base ⟦ a ⟧ ⟦ b ⟧ (entries babybear (both count)))
+            at-one (λ a b. Tables.Accepts field base ⟦ a ⟧ ⟦ b ⟧ (entries babybear (both count)))
             (subst (Tables.Accepts field base ⟦ lift 5 ⟧ ⟦ lift 7 ⟧) (sym (c .entries-are))
             (accepts-of babybear babybear-w babybear-modulus babybear-certificate (lift 5) (lift 7) (entered count)
             (λ e k. ⊎-elim (λ q. three e q) (λ j. three e (List·Memᴰ·eq-of-singleton j)) (List·Memᴰ·cases-cons k))));
@@ -184,28 +158,28 @@ module _ (count : ℕ) (c : Computed count) where
       three e q = ap (λ (e : Entry). is-zero (denominator babybear babybear-w (lift 5) (lift 7) (e .tuple))) q ∙ words .0
 
   -- its sum vanishes at the pair where the sum's words are zero
-  vanishes-iff : Vanishes babybear babybear-w babybear-certificate (both count) (pair ∷ [])
+  vanishes-iff : Vanishes babybear babybear-w babybear-certificate (both count) one-pair
       ↔ (is-zero (sum-words babybear babybear-w (lift 5) (lift 7) (entered count)) ≡ true)
   vanishes-iff =
       let (there, back) = sum-zero-iff babybear babybear-w babybear-modulus babybear-certificate (lift 5) (lift 7) (entered count) in (
         λ v.
             back
             (subst (λ (es : List Entry). Tables.terminal field base ⟦ lift 5 ⟧ ⟦ lift 7 ⟧ es ≡ field .ring .z) (c .entries-are)
-            (v pair (List·Memᴰ·head refl) (lift 5) (List·Memᴰ·head refl))),
+            (v _ (List·Memᴰ·head refl) (lift 5) (List·Memᴰ·head refl))),
         λ e.
-            only-pair (λ a b. group-sum babybear babybear-w babybear-certificate (both count) a b ≡ field .ring .z)
+            at-one (λ a b. group-sum babybear babybear-w babybear-certificate (both count) a b ≡ field .ring .z)
             (subst (λ (es : List Entry). Tables.terminal field base ⟦ lift 5 ⟧ ⟦ lift 7 ⟧ es ≡ field .ring .z) (sym (c .entries-are)) (there e)),
       )
 
   -- it is the only group
   samples : (ss : AllGroups (Sampled babybear babybear-w babybear-certificate) (groups-of (exchange count)))
       × (AllVanish babybear babybear-w babybear-certificate (groups-of (exchange count)) ss
-      ↔ Vanishes babybear babybear-w babybear-certificate (both count) (pair ∷ []))
+      ↔ Vanishes babybear babybear-w babybear-certificate (both count) one-pair)
   unfolding sampled
   samples =
       subst (λ (gs : List (List Member)).
       (ss : AllGroups (Sampled babybear babybear-w babybear-certificate) gs)
-      × (AllVanish babybear babybear-w babybear-certificate gs ss ↔ Vanishes babybear babybear-w babybear-certificate (both count) (pair ∷ [])))
+      × (AllVanish babybear babybear-w babybear-certificate gs ss ↔ Vanishes babybear babybear-w babybear-certificate (both count) one-pair))
       (sym (c .grouped)) ((sampled, tt), (λ v. v .0, λ v. (v, tt)))
 
   fits : AllGroups (Fits babybear (length workspace)) (groups-of (exchange count))
@@ -231,10 +205,10 @@ told-apart e = true≢false (sym (told 2 (computed .1) .0 e) ∙ words .2)
 
 -- the net of (3) is 3 then, and the pair sees it
 net-three : net-of babybear (entered 2) (3 ∷ []) ≡ 3
-unfolding net-of fold post same-list
+unfolding addM net-of fold post same-list
 net-three = refl
 
-pub seen : (r : Pairing (List ℕ)) × List·Memᴰ r (pair ∷ []) × (alpha : List ℕ) × List·Memᴰ alpha (r .alphas)
+pub seen : (r : Pairing (List ℕ)) × List·Memᴰ r one-pair × (alpha : List ℕ) × List·Memᴰ alpha (r .alphas)
     × (group-sum babybear babybear-w babybear-certificate (both 2) alpha (r .beta) ≢ field .ring .z)
 unfolding sampled
 seen =

@@ -5,11 +5,12 @@ use mathlib.Core.List.{List, [], _∷_, map, List-discrete, List·Memᴰ, List·
 use Prim.Native.Nat.{ℕ, _+_, _*_, _-_, _/_, _<_, _≤_}
 use native.Mathlib.Omega.{arith}
 use native.Mathlib.Decide.{ℕ-discrete}
-use native.Mathlib.Nat.{le-refl, mul-le-mul}
+use native.Mathlib.Nat.{mul-le-mul}
 use lib.ListN.{length, take, length-map}
 use lib.Seq.{length-take-le}
 use Rattle.field.specs.Modulus.{Certificate, babybear, babybear-w}
-use Rattle.field.specs.laws.Extension.{K, h, babybear-certificate}
+use Rattle.field.specs.Extension.{K}
+use Rattle.field.specs.laws.Extension.{h, babybear-certificate}
 use Rattle.theorems_logup.specs.Distinct.{Distinct}
 use Rattle.theorems_logup.specs.Sets.{Pairing}
 use Rattle.theorems_logup.specs.laws.Arithmetic.{sub-ne}
@@ -21,15 +22,16 @@ use Rattle.balance.specs.Tables.{TableLists}
 use Rattle.balance.specs.Groups.{Member}
 use Rattle.balance.specs.Entries.{entries}
 use Rattle.balance.specs.Refusals.{tables-refusal}
-use Rattle.balance.specs.laws.Passes.{AllGroups}
+use Rattle.balance.specs.Passes.{AllGroups, groups-of}
 use Rattle.theorems_soundness.specs.laws.Setting.{same-of-el}
 use Rattle.theorems_soundness.specs.laws.Elements.{element-sum}
 use Rattle.theorems_soundness.specs.laws.Tuples.{combine-is}
+use Rattle.theorems_soundness.specs.laws.Points.{elements, elements-many, elements-distinct, elements-are}
+use Rattle.theorems_soundness.specs.laws.FullSets.{met-length}
 use Rattle.theorems_balance.specs.Sums.{Wide, Sampled}
-use Rattle.theorems_balance.specs.Balance.{groups-of, OneWidth, SamplesExist}
-use Rattle.theorems_balance.specs.laws.Points.{points, points-length, points-distinct, points-element}
+use Rattle.theorems_balance.specs.Balance.{OneWidth, SamplesExist}
 use Rattle.theorems_balance.specs.laws.Groups.{source}
-use Rattle.theorems_balance.specs.laws.Sizes.{met-length, few-of-group, narrow}
+use Rattle.theorems_balance.specs.laws.Sizes.{few-of-group, narrow}
 
 -- one group, where the field has enough elements
 module _ (p w : ℕ) (C : Certificate p w) (ms : List Member) (width : ℕ) (wide : Wide width ms) where
@@ -50,19 +52,19 @@ module _ (p w : ℕ) (C : Certificate p w) (ms : List Member) (width : ℕ) (wid
   unfolding combine
   combine-element beta t = element-sum p w C _ (length t)
 
-  pub sample : n + length E ≤ p * p → betas ≤ p * p → Sampled p w C ms
+  pub sample : n + length E ≤ p * p * p * p → betas ≤ p * p * p * p → Sampled p w C ms
   sample enough many =
       let pos : 0 < p = h p w C in
-      let ps : List (List ℕ) = points p pos (p * p) in
-      let long : length ps ≡ p * p = points-length p pos (p * p) in
+      let ps : List (List ℕ) = elements p pos in
+      let long : length ps ≡ p * p * p * p = elements-many p pos in
       let (set, at, fines) =
-      pairings (List-discrete ℕ-discrete) ps (points-distinct p pos (p * p)) avoid n
+      pairings (List-discrete ℕ-discrete) ps (elements-distinct p pos) avoid n
       (λ beta. rw (length-map E (λ (e : Entry). combine p w beta (e .tuple)), long) enough) (take betas ps) in
       let alpha-ok : (r : Pairing (List ℕ)) → List·Memᴰ r set → (a : List ℕ) → List·Memᴰ a (r .alphas) → Element p a =
-      λ r k a ma. points-element p pos (p * p) (le-refl (p * p)) a (fines r k .within a ma) in
+      λ r k a ma. elements-are p pos a (fines r k .within a ma) in
       let beta-ok : (r : Pairing (List ℕ)) → List·Memᴰ r set → Element p (r .beta) =
       λ r k.
-      points-element p pos (p * p) (le-refl (p * p)) (r .beta)
+      elements-are p pos (r .beta)
       (take-member betas ps (r .beta) (subst (List·Memᴰ (r .beta)) at (Memᴰ·map (λ (r : Pairing (List ℕ)). r .beta) k))) in
       record {
         width = width;
@@ -70,7 +72,7 @@ module _ (p w : ℕ) (C : Certificate p w) (ms : List Member) (width : ℕ) (wid
         set = set;
         full =
             record {
-              betas = subst Distinct (sym at) (take-distinct betas ps (points-distinct p pos (p * p)));
+              betas = subst Distinct (sym at) (take-distinct betas ps (elements-distinct p pos));
               betas-many = sym (length-map set (λ (r : Pairing (List ℕ)). r .beta)) ∙ ap length at ∙ length-take-le betas ps (rw long many);
               beta-element = beta-ok;
               alphas = λ r k. fines r k .distinct;
@@ -86,8 +88,8 @@ module _ (p w : ℕ) (C : Certificate p w) (ms : List Member) (width : ℕ) (wid
             (q ∙ sym (combine-is p w C (r .beta) (e .tuple)))));
       }
 
--- 16 tables of 64 tuples and 2^20 rows, tuples of 8 words: the betas are fewer than p²
-betas-few : (width n : ℕ) → width ≤ 8 → n ≤ 1073741824 → 1 + (width - 1) * n * (n - 1) / 2 ≤ babybear * babybear
+-- 16 tables of 64 tuples and 2^20 rows, tuples of 8 words: the betas are fewer than p⁴
+betas-few : (width n : ℕ) → width ≤ 8 → n ≤ 1073741824 → 1 + (width - 1) * n * (n - 1) / 2 ≤ babybear * babybear * babybear * babybear
 betas-few width n lw ln =
     let a : width - 1 ≤ 7 = omega arith in
     let b : n - 1 ≤ 1073741824 = omega arith in
@@ -95,7 +97,7 @@ betas-few width n lw ln =
     omega arith
 
 -- a group that meets no tuple asks for one beta, whatever its width
-betas-none : (width n : ℕ) → n ≡ 0 → 1 + (width - 1) * n * (n - 1) / 2 ≤ babybear * babybear
+betas-none : (width n : ℕ) → n ≡ 0 → 1 + (width - 1) * n * (n - 1) / 2 ≤ babybear * babybear * babybear * babybear
 betas-none width n z =
     let a : (width - 1) * n * (n - 1) ≡ 0 = ap (λ (k : ℕ). (width - 1) * k * (k - 1)) z ∙ omega arith in
     omega arith
@@ -115,7 +117,7 @@ module _ (l : TableLists) (e : tables-refusal cabinet babybear l ≡ none) where
       (go (entries babybear ms) refl (omega arith))
     where
       go : (es : List Entry) → entries babybear ms ≡ es → length (met (entries babybear ms)) ≤ 1073741824
-          → 1 + (width - 1) * length (met (entries babybear ms)) * (length (met (entries babybear ms)) - 1) / 2 ≤ babybear * babybear
+          → 1 + (width - 1) * length (met (entries babybear ms)) * (length (met (entries babybear ms)) - 1) / 2 ≤ babybear * babybear * babybear * babybear
       go [] q few = betas-none width (length (met (entries babybear ms))) (ap (λ (es : List Entry). length (met es)) q ∙ none-met)
       go (x ∷ es) q few =
           let o = source babybear ms (subst (List·Memᴰ x) (sym q) (List·Memᴰ·head refl)) in

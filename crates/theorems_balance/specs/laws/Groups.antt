@@ -5,33 +5,36 @@ use mathlib.Core.Bool.{Bool, true, false, cond, _&&_, _||_}
 use mathlib.Core.Option.{none}
 use mathlib.Core.List.{List, [], _∷_, _++_, map, flatMap, List·Memᴰ, List·Memᴰ·not-nil, List·Memᴰ·cases-cons, List·Memᴰ·append-cases, List·Memᴰ·eq-of-singleton, Memᴰ·of-map}
 use Prim.Native.Nat.{ℕ, _+_, _<_}
+use native.Mathlib.Omega.{arith}
 use lib.ListN.{length, getD, length-map}
 use Rattle.lists.specs.laws.Count.{joined-member, of-true}
 use Rattle.lists.specs.laws.Tests.{both-left, both-right}
+use Rattle.lists.specs.laws.Members.{getD-in, tab-in}
 use Rattle.field.specs.Modulus.{Modulus, Certificate}
-use Rattle.field.specs.laws.Extension.{K, h}
+use Rattle.field.specs.Extension.{K}
+use Rattle.field.specs.laws.Extension.{h}
 use Rattle.theorems_logup.specs.Tables as Tables
 use Rattle.expression.specs.Words.{word}
 use Rattle.expression.specs.laws.Refusal.{unless-none}
 use Rattle.expression.specs.declared.sizes.Limits.{Limits}
 use Rattle.expression.specs.declared.refusal.Refusal.the-variants.{SizeAtOdds, WordTooLarge}
 use Rattle.lookup.specs.Lookups.{Lookup, lookups-of}
-use Rattle.lookup.specs.Table.{Table}
+use Rattle.lookup.specs.Table.{Table, values-of}
 use Rattle.lookup.specs.Tests.{sizes, words-below}
 use Rattle.lookup_buses.specs.Order.{keep}
 use Rattle.lookup_buses.specs.laws.Order.{keep-in}
 use Rattle.logup.specs.Ledger.{Entry}
 use Rattle.balance.specs.Tables.{TableLists, tables-of, lists-fit}
 use Rattle.balance.specs.Groups.{Member, members, local, same-bus, appears, local-group, bus-group, bus-groups, groups}
-use Rattle.balance.specs.Entries.{entry-of, row-entries, values-of, member-entries, entries}
+use Rattle.balance.specs.Entries.{entry-of, row-entries, member-entries, entries}
 use Rattle.balance.specs.Refusals.{all, tables-refusal}
+use Rattle.balance.specs.Passes.{groups-of}
 use Rattle.balance.specs.laws.Lists.{flat-in}
 use Rattle.balance.specs.laws.Passes.{counted}
-use Rattle.theorems_soundness.specs.laws.Setting.{N}
+use Rattle.theorems_soundness.specs.Entries.{N}
 use Rattle.theorems_soundness.specs.laws.Values.{row-below}
 use Rattle.theorems_balance.specs.Sums.{Wide}
-use Rattle.theorems_balance.specs.Balance.{WordsBelow, groups-of}
-use Rattle.theorems_balance.specs.laws.Lists.{getD-in, tab-below}
+use Rattle.theorems_balance.specs.Balance.{WordsBelow}
 
 -- A group of these lookups is one of them by itself, or those of them that a test keeps.
 module _ (lookups : List Member) where
@@ -122,13 +125,13 @@ unfolding entries member-entries row-entries entry-of
 source p ms k =
     let (m, km, ke) = flat-in (member-entries p) ms k in
     let (r, _, kr) = joined-member (λ r. row-entries p (m .lookup) (values-of p (m .table) r)) (m .table .traces .shape .height) ke in
-    let (j, lj, at) = tab-below (entry-of p (m .lookup) (values-of p (m .table) r)) (length (m .lookup .tuples)) kr in
+    let (j, lj, at) = tab-in (entry-of p (m .lookup) (values-of p (m .table) r)) 0 (length (m .lookup .tuples)) kr in
     record {
       member = m;
       row = r;
       nodes = getD (m .lookup .tuples) j [];
       member-there = km;
-      nodes-there = getD-in (m .lookup .tuples) j [] lj;
+      nodes-there = getD-in (m .lookup .tuples) j [] (omega (arith, lj));
       tuple-is = ap (λ (e : Entry). e .tuple) at;
     }
 

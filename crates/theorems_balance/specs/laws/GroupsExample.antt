@@ -11,6 +11,7 @@ use Rattle.lists.specs.Same.{same-list}
 use Rattle.lists.specs.Count.{total, every, joined}
 use Rattle.lists.specs.Fold.{fold}
 use Rattle.lists.specs.Tab.{tab}
+use Rattle.field.specs.Word.{addM, mulM}
 use Rattle.field.specs.Modulus.{babybear, babybear-w}
 use Rattle.field.specs.laws.Extension.{babybear-certificate}
 use Rattle.expression.specs.Words.{all-below, all-within}
@@ -30,9 +31,9 @@ use Rattle.balance.specs.Groups.{members, same-bus, appears, local-group, bus-g
 use Rattle.balance.specs.Entries.{count-of, entry-of, row-entries, member-entries, entries}
 use Rattle.balance.specs.Refusals.{all, listed, covered, tables-refusal}
 use Rattle.balance.specs.laws.Cases.{two-tables, cases}
-use Rattle.balance.specs.laws.Passes.{Fits, AllGroups}
+use Rattle.balance.specs.Passes.{Fits, AllGroups, groups-of}
 use Rattle.theorems_balance.specs.Sums.{IdenticallyZero}
-use Rattle.theorems_balance.specs.Balance.{groups-of, OneWidth}
+use Rattle.theorems_balance.specs.Balance.{OneWidth}
 use Rattle.theorems_balance.specs.laws.Identity.{cabinet-balance-is-the-identity}
 use Rattle.theorems_balance.specs.laws.Example.{only-tuple}
 
@@ -41,17 +42,18 @@ abbrev tables : TableLists
 tables = two-tables (3 ∷ 1 ∷ 3 ∷ 0 ∷ [])
 
 tests : tables-refusal cabinet babybear tables ≡ none
-unfolding total every joined fold tab flatMap all-below all-within cabinet decode node row-of window node-value values row-values node-degree degrees
-    traces-within nodes-within traces-fit nodes-fit traces-below constants-below nodes-known degrees-low name-start tuple-start multiplicity-start
-    flag-start element-start tuple-width tuple-nodes lookup-at lookups-of lookups-within lookups-fit sizes words-below known lengths-agree
-    nodes-present lists-agree has-lookups preprocessed-enough size-start table-part shape-at lookups-at table-at tables-of lists-fit all listed
-    covered tables-refusal
+unfolding total every joined fold tab flatMap all-below all-within cabinet decode node row-of window node-value values row-values node-degree
+    degrees traces-within nodes-within traces-fit nodes-fit traces-below constants-below nodes-known degrees-low name-start tuple-start
+    multiplicity-start flag-start element-start tuple-width tuple-nodes lookup-at lookups-of lookups-within lookups-fit sizes words-below known
+    lengths-agree nodes-present lists-agree has-lookups preprocessed-enough size-start table-part shape-at lookups-at table-at tables-of lists-fit
+    all listed covered tables-refusal
 tests = refl
 
 fits : AllGroups (Fits babybear (length (replicate {A = ℕ} 10 7))) (groups-of tables)
-unfolding total joined fold tab flatMap decode node row-of window node-value values row-values name-start tuple-start multiplicity-start flag-start
-    element-start tuple-width tuple-nodes lookup-at lookups-of same-list add-nonzero add slots keep size-start table-part shape-at lookups-at table-at
-    tables-of members same-bus appears local-group bus-group bus-groups groups count-of entry-of row-entries member-entries entries
+unfolding addM mulM total joined fold tab flatMap decode node row-of window node-value values row-values name-start tuple-start multiplicity-start
+    flag-start element-start tuple-width tuple-nodes lookup-at lookups-of same-list add-nonzero add slots keep size-start table-part shape-at
+    lookups-at table-at tables-of members same-bus appears local-group bus-group bus-groups groups count-of entry-of row-entries member-entries
+    entries
 fits = (leb→le 0 1 tt, (leb→le 1 1 tt, tt))
 
 -- the empty tuple, and (column 0) in each table

@@ -4,18 +4,19 @@ use mathlib.Core.List.{List, [], _∷_}
 use Prim.Native.Nat.{ℕ}
 use lib.ListN.{length}
 use Rattle.field.specs.Modulus.{Modulus, Certificate, babybear, babybear-w}
-use Rattle.field.specs.laws.Extension.{K, h, babybear-certificate, babybear-modulus}
-use Rattle.field.specs.laws.Homomorphism.{el}
+use Rattle.field.specs.Extension.{K, el}
+use Rattle.field.specs.laws.Extension.{h, babybear-certificate, babybear-modulus}
+use Rattle.theorems_logup.specs.laws.Balance.{zero-everywhere}
 use Rattle.expression.specs.Limits.{cabinet}
 use Rattle.expression.specs.declared.sizes.Limits.{Limits}
 use Rattle.balance.specs.Groups.{Member}
 use Rattle.balance.specs.Entries.{entries}
-use Rattle.balance.specs.laws.Passes.{Passes, AllGroups, counted, check-passes}
-use Rattle.theorems_soundness.specs.laws.Setting.{N}
+use Rattle.balance.specs.Passes.{Passes, AllGroups, groups-of}
+use Rattle.balance.specs.laws.Passes.{counted, check-passes}
+use Rattle.theorems_soundness.specs.Entries.{N}
 use Rattle.theorems_balance.specs.Sums.{IdenticallyZero, Sampled}
-use Rattle.theorems_balance.specs.Balance.{groups-of, AllVanish, SamplesExist, BalanceIsTheIdentity}
+use Rattle.theorems_balance.specs.Balance.{AllVanish, SamplesExist, BalanceIsTheIdentity}
 use Rattle.theorems_balance.specs.laws.Nets.{net-is}
-use Rattle.theorems_balance.specs.laws.Zero.{zero-everywhere}
 use Rattle.theorems_balance.specs.laws.Balance.{sums-determine-balance}
 use Rattle.theorems_balance.specs.laws.Exists.{cabinet-samples-exist}
 

@@ -8,12 +8,12 @@ use Rattle.lists.specs.laws.Tab.{map-tab}
 use Rattle.lists.specs.laws.Sums.{total-cong}
 use Rattle.expression.specs.Requires.{Below}
 use Rattle.lookup.specs.Lookups.{Lookups, Lookup, lookup-count, lookup-at, lookups-of}
-use Rattle.lookup.specs.Table.{Table}
+use Rattle.lookup.specs.Table.{Table, values-of}
 use Rattle.lookup.specs.Requires.{Agreeing}
 use Rattle.logup.specs.Ledger as logup
-use Rattle.balance_slots.specs.laws.Nets.{net-of}
+use Rattle.balance_slots.specs.Nets.{net-of}
 use Rattle.balance.specs.Groups.{Member, members}
-use Rattle.balance.specs.Entries.{row-entries, values-of, member-entries, entries}
+use Rattle.balance.specs.Entries.{row-entries, member-entries, entries}
 use Rattle.balance.specs.laws.Lists.{flat-tab}
 use Rattle.balance.specs.laws.Sums.{tally, tally-joined, total-swap}
 use Rattle.balance.specs.laws.Ledger.{lookup-entries-is, net-same}

@@ -10,13 +10,14 @@ use Rattle.lists.specs.Same.{same-list}
 use Rattle.lists.specs.Tab.{tab}
 use Rattle.lists.specs.laws.Same.{same-list-refl}
 use Rattle.lists.specs.laws.Tab.{tab-length}
-use Rattle.lists.specs.laws.Count.{and-left, and-right, true-of}
+use Rattle.lists.specs.laws.Count.{and-left, true-of}
+use Rattle.lists.specs.laws.Members.{tab-in}
 use Rattle.field.specs.Modulus.{Modulus}
 use Rattle.expression.specs.Node.{node-count}
 use Rattle.expression.specs.declared.sizes.Limits.{Limits}
 use Rattle.lookup.specs.Lookups.{lookup-count}
 use Rattle.lookup.specs.Table.{Table}
-use Rattle.lookup.specs.Tests.{words-below, lists-agree}
+use Rattle.lookup.specs.Tests.{lists-agree, in-position}
 use Rattle.lookup.specs.Requires.{Agreeing}
 use Rattle.lookup.specs.laws.Tested.{agreeing}
 use Rattle.logup.specs.Ledger.{has-ledger}
@@ -24,8 +25,9 @@ use Rattle.lookup_buses.specs.laws.Order.{keep-all}
 use Rattle.balance.specs.Groups.{Member, members, local, same-bus, appears, local-group, bus-group, bus-groups, groups}
 use Rattle.theorems_soundness.specs.Soundness.{OnBus}
 use Rattle.theorems_soundness.specs.laws.Values.{row-below}
+use Rattle.theorems_soundness.specs.laws.Entered.{ledgered}
+use Rattle.theorems_soundness.specs.laws.Soundness.{words-of}
 use Rattle.theorems_balance.specs.OneBus.{member-of, OneBus, OneBusLedger}
-use Rattle.theorems_balance.specs.laws.Lists.{tab-below}
 use Rattle.theorems_balance.specs.laws.Ledger.{members-one, ledger-nets}
 
 -- members that are all on one bus are one group
@@ -92,18 +94,15 @@ ledger-group t o =
     rw e
     (one-group m ms
     (λ x y a b.
-    let (i, li, ei) = tab-below (member-of t) n (subst (List·Memᴰ x) (sym q) a) in
-    let (j, lj, ej) = tab-below (member-of t) n (subst (List·Memᴰ y) (sym q) b) in
+    let (i, li, ei) = tab-in (member-of t) 0 n (subst (List·Memᴰ x) (sym q) a) in
+    let (j, lj, ej) = tab-in (member-of t) 0 n (subst (List·Memᴰ y) (sym q) b) in
     ap₂ same-bus ei ej ∙ o .each i j (omega (arith, li, lj)) (omega (arith, li, lj))))
 
 agreeing-of : (m : Limits) (p : ℕ) (t : Table) → T (has-ledger m p t) → Agreeing (node-count (t .nodes)) (t .lookups)
-unfolding has-ledger
 agreeing-of m p t ok =
-    agreeing (node-count (t .nodes)) (t .lookups) (true-of (lists-agree (node-count (t .nodes)) (t .lookups)) (search (and-left, and-right)))
-
-words-of : (m : Limits) (p : ℕ) (t : Table) → T (has-ledger m p t) → T (words-below p t)
-unfolding has-ledger
-words-of m p t ok = search (and-left, and-right)
+    agreeing (node-count (t .nodes)) (t .lookups)
+    (true-of (lists-agree (node-count (t .nodes)) (t .lookups))
+    (and-left (lists-agree (node-count (t .nodes)) (t .lookups)) (in-position (t .lookups .lookups)) (ledgered m p t ok .five)))
 
 -- and its nets are the table's ledger
 pub one-bus-ledger : (m : Limits) (p : ℕ) → Modulus p → OneBusLedger m p

@@ -8,6 +8,7 @@ use lib.Dec.{T}
 use Rattle.lists.specs.Same.{same-list}
 use Rattle.lists.specs.Count.{total, every, joined}
 use Rattle.lists.specs.Fold.{fold}
+use Rattle.field.specs.Word.{addM, mulM}
 use Rattle.field.specs.Modulus.{babybear}
 use Rattle.field.specs.laws.Extension.{babybear-modulus}
 use Rattle.expression.specs.Words.{all-below, all-within}
@@ -22,7 +23,7 @@ use Rattle.lookup.specs.Table.{Table}
 use Rattle.lookup.specs.Tests.{lookups-within, lookups-fit, sizes, words-below, known, lengths-agree, nodes-present, lists-agree, in-position, has-lookups, preprocessed-enough, rows-enough}
 use Rattle.logup.specs.Tuple.{tuple}
 use Rattle.logup.specs.Ledger.{has-ledger, count, lookup-entries, row-entries, entries, post, ledger}
-use Rattle.balance_slots.specs.laws.Nets.{net-of}
+use Rattle.balance_slots.specs.Nets.{net-of}
 use Rattle.balance.specs.Groups.{members, same-bus, groups}
 use Rattle.balance.specs.Entries as balance
 use Rattle.balance.specs.laws.Cases.{columns}
@@ -73,8 +74,8 @@ unfolding total every joined cabinet all-below all-within node decode row-of win
 has = tt
 
 ledger-two : ledger babybear twice (3 ∷ []) ≡ 2
-unfolding total joined fold node decode row-of window node-value values row-values tuple-start multiplicity-start flag-start element-start tuple-width
-    multiplicity-node flag-node tuple-nodes tuple count lookup-entries row-entries entries same-list post ledger
+unfolding addM mulM total joined fold node decode row-of window node-value values row-values tuple-start multiplicity-start flag-start element-start
+    tuple-width multiplicity-node flag-node tuple-nodes tuple count lookup-entries row-entries entries same-list post ledger
 ledger-two = refl
 
 pub one-group : groups (members (twice ∷ [])) ≡ members (twice ∷ []) ∷ []

@@ -1,39 +1,38 @@
 -- How many entries a group has, and how wide its tuples are, in tables within the limits.
-use mathlib.Core.Path.{_≡_, refl, sym, ap, ap₂, _∙_, subst}
+use mathlib.Core.Path.{_≡_, refl, sym, ap, _∙_, subst}
 use mathlib.Core.Logic.{_⊎_, ⊎-elim}
-use mathlib.Core.Bool.{Bool, true, false, cond, _&&_, _||_}
+use mathlib.Core.Bool.{Bool, true, false, cond, _&&_}
 use mathlib.Core.Option.{none}
-use mathlib.Core.List.{List, [], _∷_, map, flatMap, List·Memᴰ, List·Memᴰ·head, List·Memᴰ·tail, List·Memᴰ·not-nil, List·Memᴰ·cases-cons, Memᴰ·of-map}
-use Prim.Native.Nat.{ℕ, zero, suc, _+_, _*_, _≤_}
+use mathlib.Core.List.{List, [], _∷_, flatMap, List·Memᴰ, List·Memᴰ·head, List·Memᴰ·tail, List·Memᴰ·not-nil, List·Memᴰ·cases-cons, Memᴰ·of-map}
+use Prim.Native.Nat.{ℕ, _+_, _*_, _≤_}
 use native.Mathlib.Omega.{arith}
-use native.Mathlib.Nat.{le-refl, le-trans, mul-le-mul, zero-add}
-use lib.Dec.{T, eqb, leb, ltb, leb→le}
+use native.Mathlib.Nat.{le-refl, le-trans, mul-le-mul}
+use lib.Dec.{T, leb, ltb, leb→le}
 use lib.ListN.{length, length-append, length-take}
 use borrow.Author.Tests.{leb-true}
-use Rattle.lists.specs.Count.{total, joined}
 use Rattle.lists.specs.Tab.{tab}
 use Rattle.lists.specs.laws.Count.{and-left, and-right, of-true}
-use Rattle.lists.specs.laws.Joined.{joined-length}
+use Rattle.lists.specs.laws.Joined.{joined-length, joined-total}
+use Rattle.lists.specs.laws.Sums.{total-times}
 use Rattle.lists.specs.laws.Tab.{tab-length, map-tab, flat-append}
 use Rattle.lists.specs.laws.Tests.{both-left, passed}
+use Rattle.lists.specs.laws.Members.{tab-in}
 use Rattle.expression.specs.Tests.{traces-within}
 use Rattle.expression.specs.laws.Refusal.{unless-none}
 use Rattle.expression.specs.declared.sizes.Limits.{Limits}
 use Rattle.expression.specs.declared.refusal.Refusal.the-variants.{SizeAtOdds}
 use Rattle.lookup.specs.Lookups.{Lookup, lookup-count, tuple-count, tuple-start, tuple-width, tuple-nodes, lookup-at, lookups-of}
-use Rattle.lookup.specs.Table.{Table}
+use Rattle.lookup.specs.Table.{Table, values-of}
 use Rattle.lookup.specs.Tests.{sizes}
 use Rattle.lookup.specs.laws.Tested.{limited, fitting, sizes-passed}
 use Rattle.lookup_buses.specs.Order.{keep}
-use Rattle.logup.specs.Ledger.{Entry, listed, met}
 use Rattle.balance.specs.Tables.{TableLists, table-count, table-at, tables-of, lists-fit}
-use Rattle.balance.specs.Groups.{Member, members}
-use Rattle.balance.specs.Entries.{entry-of, row-entries, values-of, member-entries, entries}
+use Rattle.balance.specs.Groups.{Member, members-of, members}
+use Rattle.balance.specs.Entries.{entry-of, row-entries, member-entries, entries}
 use Rattle.balance.specs.Refusals.{all, tables-refusal}
+use Rattle.balance.specs.Passes.{groups-of}
 use Rattle.balance.specs.laws.Lists.{flat-in, flat-one, flat-tab}
 use Rattle.theorems_balance.specs.OneBus.{member-of}
-use Rattle.theorems_balance.specs.Balance.{groups-of}
-use Rattle.theorems_balance.specs.laws.Lists.{tab-below}
 use Rattle.theorems_balance.specs.laws.Groups.{Kind, group-kind, in-group, sizes-of-tables}
 
 -- a part of the lists that are put together is no longer than all of them
@@ -72,44 +71,26 @@ member-length p m =
     (m .table .traces .shape .height)
     (λ r. tab-length (entry-of p (m .lookup) (values-of p (m .table) r)) 0 (length (m .lookup .tuples)))
 
-joined-total : {A : Type 0} (f : ℕ → List A) (g : ℕ → ℕ) (h n : ℕ) → ((i : ℕ) → length (f i) ≡ g i * h) → length (joined f 0 n) ≡ total g n * h
-unfolding joined total
-joined-total f g h zero each = omega arith
-joined-total f g h (suc n) each =
-    length-append (joined f 0 n) (f (0 + n)) ∙ ap₂ _+_ (joined-total f g h n each) (each (0 + n) ∙ ap (λ (i : ℕ). g i * h) (zero-add n))
-    ∙ (let k : total g n * h + g n * h ≡ (total g n + g n) * h = omega arith in k)
-
-abbrev of-table : Table → List Member
-of-table t = map (λ (l : Lookup). record { table = t; lookup = l }) (lookups-of (t .lookups))
-
-table-length : (p : ℕ) (t : Table) → length (entries p (of-table t))
+table-length : (p : ℕ) (t : Table) → length (entries p (members-of t))
     ≡ tuple-start (t .lookups .lookups) (lookup-count (t .lookups .lookups)) * t .traces .shape .height
 unfolding entries lookups-of tuple-start lookup-at
 table-length p t =
     ap (λ (ms : List Member). length (flatMap (member-entries p) ms))
     (map-tab (λ (l : Lookup). record { table = t; lookup = l }) (lookup-at (t .lookups)) (lookup-count (t .lookups .lookups)))
     ∙ ap length (flat-tab (member-entries p) (member-of t) (lookup-count (t .lookups .lookups)))
-    ∙ joined-total (λ i. member-entries p (member-of t i)) (tuple-count (t .lookups .lookups)) (t .traces .shape .height) (lookup-count (t .lookups .lookups))
+    ∙ joined-total (λ i. member-entries p (member-of t i)) (λ i. tuple-count (t .lookups .lookups) i * t .traces .shape .height) (lookup-count (t .lookups .lookups))
     (λ i. member-length p (member-of t i)
     ∙ ap (λ (n : ℕ). n * t .traces .shape .height) (tab-length (tuple-nodes (t .lookups) i) 0 (tuple-count (t .lookups .lookups) i)))
+    ∙ total-times (tuple-count (t .lookups .lookups)) (t .traces .shape .height) (lookup-count (t .lookups .lookups))
 
 -- all tables together
-tables-length : (p b : ℕ) (tables : List Table) → ((t : Table) → List·Memᴰ t tables → length (entries p (of-table t)) ≤ b)
+tables-length : (p b : ℕ) (tables : List Table) → ((t : Table) → List·Memᴰ t tables → length (entries p (members-of t)) ≤ b)
     → length (entries p (members tables)) ≤ length tables * b
 unfolding entries members flatMap
 tables-length p b [] h = omega arith
 tables-length p b (t ∷ tables) h =
-    rw (flat-append (member-entries p) (of-table t) (members tables), length-append)
+    rw (flat-append (member-entries p) (members-of t) (members tables), length-append)
     (let x = h t (List·Memᴰ·head refl) in let y = tables-length p b tables (λ u k. h u (List·Memᴰ·tail k)) in omega arith)
-
-pub met-length : (es : List Entry) → length (met es) ≤ length es
-unfolding met
-met-length [] = le-refl 0
-met-length (e ∷ es) = go (eqb (e .count) 0 || listed (e .tuple) (met es)) (met-length es)
-  where
-    go : (b : Bool) → length (met es) ≤ length es → length (cond b (met es) (e .tuple ∷ met es)) ≤ suc (length es)
-    go true l = omega arith
-    go false l = omega arith
 
 module _ (m : Limits) (p : ℕ) (l : TableLists) (e : tables-refusal m p l ≡ none) where
   -- at most as many as tables, tuples and rows allow
@@ -120,7 +101,7 @@ module _ (m : Limits) (p : ℕ) (l : TableLists) (e : tables-refusal m p l ≡ n
       let fit : T (lists-fit m l) = of-true (both-left (lists-fit m l) (all (sizes m) (tables-of l)) b) in
       rw (tab-length (table-at l) 0 (table-count (l .sizes))) (leb→le (table-count (l .sizes)) (m .tables) (search (and-left, and-right) depth 14))
 
-  few-entries : (t : Table) → List·Memᴰ t (tables-of l) → length (entries p (of-table t)) ≤ m .tuples * m .height
+  few-entries : (t : Table) → List·Memᴰ t (tables-of l) → length (entries p (members-of t)) ≤ m .tuples * m .height
   unfolding traces-within
   few-entries t k =
       let s = sizes-passed m t (sizes-of-tables m p l e k) in
@@ -142,10 +123,10 @@ module _ (m : Limits) (p : ℕ) (l : TableLists) (e : tables-refusal m p l ≡ n
       → List·Memᴰ nodes (x .lookup .tuples) → length nodes ≤ m .«tuple_words»
   unfolding members lookups-of lookup-at tuple-nodes tuple-width
   narrow k {x} i {nodes} j =
-      let (t, kt, kx) = flat-in of-table (tables-of l) (in-group (members (tables-of l)) k i) in
+      let (t, kt, kx) = flat-in members-of (tables-of l) (in-group (members (tables-of l)) k i) in
       let (u, ku, at) = Memᴰ·of-map (λ (l : Lookup). record { table = t; lookup = l }) (lookups-of (t .lookups)) kx in
-      let (n, _, is) = tab-below (lookup-at (t .lookups)) (lookup-count (t .lookups .lookups)) ku in
-      let (c, _, those) = tab-below (tuple-nodes (t .lookups) n) (tuple-count (t .lookups .lookups) n)
+      let (n, _, is) = tab-in (lookup-at (t .lookups)) 0 (lookup-count (t .lookups .lookups)) ku in
+      let (c, _, those) = tab-in (tuple-nodes (t .lookups) n) 0 (tuple-count (t .lookups .lookups) n)
       (subst (λ (l : Lookup). List·Memᴰ nodes (l .tuples)) is (subst (λ (x : Member). List·Memᴰ nodes (x .lookup .tuples)) (sym at) j)) in
       let wide = limited m (t .lookups .lookups) (t .lookups .tuples) (sizes-passed m t (sizes-of-tables m p l e kt) .2) .width
       (tuple-start (t .lookups .lookups) n + c) in

@@ -6,13 +6,14 @@ use mathlib.Core.List.{List, [], _∷_, List·Memᴰ}
 use Prim.Native.Nat.{ℕ}
 use Rattle.field.specs.Element.{zero4, add4, is-zero}
 use Rattle.field.specs.Modulus.{Modulus, Certificate}
-use Rattle.field.specs.laws.Extension.{K, h}
-use Rattle.field.specs.laws.Homomorphism.{KEl, el, el-add}
+use Rattle.field.specs.Extension.{K, KEl, el}
+use Rattle.field.specs.laws.Extension.{h}
+use Rattle.field.specs.laws.Homomorphism.{el-add}
 use Rattle.theorems_logup.specs.Inverse.{inverse}
 use Rattle.theorems_logup.specs.Tables as Tables
 use Rattle.logup.specs.Tuple.{combine, denominator, quotient4}
 use Rattle.logup.specs.Ledger.{Entry, Element}
-use Rattle.theorems_soundness.specs.laws.Setting.{into, N}
+use Rattle.theorems_soundness.specs.Entries.{into, N}
 use Rattle.theorems_soundness.specs.laws.Elements.{element-lift, element-add, element-sub, zero-iff, nonzero, quotient-is}
 use Rattle.theorems_soundness.specs.laws.Tuples.{denominator-is}
 

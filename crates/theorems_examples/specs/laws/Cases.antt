@@ -1,6 +1,5 @@
 -- The twelve worked cases of SPECIFICATION, section 12.1, hold of the definitions.
-use mathlib.Core.Bool.{Bool, true, _&&_}
-use mathlib.Core.List.{List, [], _∷_, flatMap, zipWith}
+use mathlib.Core.List.{flatMap, zipWith}
 use lib.Dec.{T}
 use Rattle.algebra.specs.Power.{powM}
 use Rattle.lookup_degree.specs.Degree.{tuple-degree, denominator-degree, numerator-degree, additive-degree, exclusive-degree, lookup-degree}

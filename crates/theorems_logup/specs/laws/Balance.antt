@@ -1,7 +1,7 @@
 -- The balance theorem: two tables have the same ledger exactly where their terminals agree at every pair of a full set.
 use mathlib.Core.Path.{_≡_, refl, sym, _∙_, ap, ap₂, subst}
 use mathlib.Core.Logic.{_≢_, _↔_, _⊎_, inl, inr, ⊎-elim, ite, if-pos, if-neg}
-use mathlib.Core.List.{List, [], _∷_, _++_, map, List-discrete, List·Memᴰ, List·Memᴰ·head, List·Memᴰ·tail, List·Memᴰ·not-nil, List·Memᴰ·cases-cons, List·Memᴰ·append-cases, Memᴰ·append-left, Memᴰ·append-right, Memᴰ·cast, Memᴰ·of-map, nil≢cons, head-eq-of-cons-eq, tail-eq-of-cons-eq}
+use mathlib.Core.List.{List, [], _∷_, _++_, append-nil, map, List-discrete, List·Memᴰ, List·Memᴰ·head, List·Memᴰ·tail, List·Memᴰ·not-nil, List·Memᴰ·cases-cons, List·Memᴰ·append-cases, Memᴰ·append-left, Memᴰ·append-right, Memᴰ·cast, Memᴰ·of-map, nil≢cons, head-eq-of-cons-eq, tail-eq-of-cons-eq}
 use Prim.Native.Nat.{ℕ, _+_, _*_, _-_, _/_, _≤_, _<_}
 use native.Mathlib.Omega.{arith}
 use native.Mathlib.Decide.{decLe}
@@ -20,7 +20,7 @@ use Rattle.theorems_logup.specs.laws.Arithmetic as Arithmetic
 use Rattle.theorems_logup.specs.laws.Sums.{sum-cong, sum-zero, sum-add, Off, numerators-zero}
 use Rattle.theorems_logup.specs.laws.Polynomial.{determined}
 use Rattle.theorems_logup.specs.laws.Pigeonhole.{pairs, pairs-count, pairs-facts, apart-of-pairs, pigeonhole}
-use Rattle.theorems_logup.specs.laws.Support.{member?}
+use Rattle.theorems_logup.specs.laws.Support.{member?, support, support-is}
 
 module _ (F : Field) where
   open CRing (F .ring) using (El as K, z as 𝟘, u as 𝟙, add as _⊕_, mul as _⊗_, neg)
@@ -148,7 +148,7 @@ module _ (F : Field) where
           (⊎-elim (λ h. (T₁ .width e h, T₁ .words e h)) (λ h. (T₂ .width e h, T₂ .words e h)) (List·Memᴰ·append-cases E₁ k))
 
       -- A beta at which all the tuples have different combinations.
-      separating : (bs : List K) → Distinct bs → (w - 1) * length S * (length S - 1) / 2 < length bs → (β : K) × List·Memᴰ β bs × Apart (combine F N β) S
+      pub separating : (bs : List K) → Distinct bs → (w - 1) * length S * (length S - 1) / 2 < length bs → (β : K) × List·Memᴰ β bs × Apart (combine F N β) S
       separating bs dist many =
           let (β, m, good) = pigeonhole (λ p β. combine F N β (p .0) ≡ combine F N β (p .1)) (λ p β. Arithmetic.equal? F (combine F N β (p .0)) (combine F N β (p .1)))
           (w - 1) (pairs S) bs
@@ -173,7 +173,7 @@ module _ (F : Field) where
       same-of-into t = into-injective (ledger F N E₁ t) (ledger F N E₂ t) (ledger-good E₁ t (T₁ .counts)) (ledger-good E₂ t (T₂ .counts))
 
       -- At a separating beta, terminals that agree at as many alphas as there are tuples.
-      back : (β : K) (αs : List K) → Apart (combine F N β) S → length S ≤ length αs → Distinct αs
+      pub back : (β : K) (αs : List K) → Apart (combine F N β) S → length S ≤ length αs → Distinct αs
           → ((α : K) → List·Memᴰ α αs → Accepts F N α β E₁ × Accepts F N α β E₂)
           → ((α : K) → List·Memᴰ α αs → terminal F N α β E₁ ≡ terminal F N α β E₂)
           → (t : List W) → ledger F N E₁ t ≡ ledger F N E₂ t
@@ -210,3 +210,25 @@ module _ (F : Field) where
             let (r, k, at) = Memᴰ·of-map (λ (r : Pairing K). r .beta) set m in
             back w E₁ E₂ S T₁ T₂ supp (r .beta) (r .alphas) (subst (λ β. Apart (combine F N β) S) (sym at) apart)
             (le-of-eq (sym (full .alphas-many r k))) (full .alphas r k) (full .accepted r k) (agree r k)
+
+    -- one table against none: its ledger is zero exactly where its terminal is at every pair of a full set
+    pub vanishes : (w : ℕ) (E : List Entry) (S : List (List W)) (set : List (Pairing K)) → Table F N w E → Support F N E S → FullSet F N w (length S) E [] set
+        → ((t : List W) → ledger F N E t ≡ zero)
+        ↔ ((r : Pairing K) → List·Memᴰ r set → (α : K) → List·Memᴰ α (r .alphas) → terminal F N α (r .beta) E ≡ 𝟘)
+    vanishes w E S set T supp full =
+        balance w E [] S set T
+        (record {
+          width = λ e m. absurd (List·Memᴰ·not-nil m);
+          words = λ e m. absurd (List·Memᴰ·not-nil m);
+          counts = λ e m. absurd (List·Memᴰ·not-nil m);
+        })
+        (subst (λ l. Support F N l S) (sym (append-nil E)) supp) full
+
+    -- a ledger that is zero makes the terminal zero at every pair, whatever the widths
+    pub zero-everywhere : (E : List Entry) → ((e : Entry) → List·Memᴰ e E → Good (count e)) → ((t : List W) → ledger F N E t ≡ zero) → (α β : K)
+        → terminal F N α β E ≡ 𝟘
+    zero-everywhere E good none α β =
+        let S : List (List W) = support F N E in
+        let g : List W → K = λ t. inverse F (α ⊖ combine F N β t) in
+        regroup g S (support-is F N E .once) E good (support-is F N E .covers)
+        ∙ sum-cong F S (λ t _. ap (λ x. x ⊗ g t) (ap into (none t) ∙ into-zero) ∙ z-mul (F .ring) (g t)) ∙ sum-zero F S

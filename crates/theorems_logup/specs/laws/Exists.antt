@@ -26,7 +26,7 @@ module _ {A : Type 0} where
   take-distinct (suc n) (y ∷ l) dist = (λ x m. dist .0 x (take-member n l x m), take-distinct n l (dist .1))
 
   -- different things that are all equal to one are one at most.
-  one-only : (c : A) (xs : List A) → Distinct xs → ((x : A) → List·Memᴰ x xs → x ≡ c) → length xs ≤ 1
+  pub one-only : (c : A) (xs : List A) → Distinct xs → ((x : A) → List·Memᴰ x xs → x ≡ c) → length xs ≤ 1
   one-only c [] dist all = omega arith
   one-only c (x ∷ []) dist all = omega arith
   one-only c (x ∷ (y ∷ l)) dist all =

@@ -92,45 +92,45 @@ module _ {B : Type 0} {R : Type 0} where
 
 module _ {B : Type 0} (Q : B → Type 0) (test : (b : B) → Dec (Q b)) where
   -- The members that pass the test, and those that do not.
-  passing : List B → List B
+  pub passing : List B → List B
   passing [] = []
   passing (b ∷ l) = keep (test b) b (passing l)
 
-  failing : List B → List B
+  pub failing : List B → List B
   failing [] = []
   failing (b ∷ l) = leave (test b) b (failing l)
 
-  split-length : (l : List B) → length (passing l) + length (failing l) ≡ length l
+  pub split-length : (l : List B) → length (passing l) + length (failing l) ≡ length l
   unfolding passing failing
   split-length [] = refl
   split-length (b ∷ l) = keep-leave (test b) b (passing l) (failing l) ∙ ap suc (split-length l)
 
-  passing-member : (l : List B) (x : B) → List·Memᴰ x (passing l) → List·Memᴰ x l
+  pub passing-member : (l : List B) (x : B) → List·Memᴰ x (passing l) → List·Memᴰ x l
   unfolding passing
   passing-member [] x m = m
   passing-member (b ∷ l) x m = ⊎-elim (λ e. List·Memᴰ·head (e .0)) (λ k. List·Memᴰ·tail (passing-member l x k)) (keep-cases (test b) b (passing l) x m)
 
-  failing-member : (l : List B) (x : B) → List·Memᴰ x (failing l) → List·Memᴰ x l
+  pub failing-member : (l : List B) (x : B) → List·Memᴰ x (failing l) → List·Memᴰ x l
   unfolding failing
   failing-member [] x m = m
   failing-member (b ∷ l) x m = ⊎-elim (λ e. List·Memᴰ·head (e .0)) (λ k. List·Memᴰ·tail (failing-member l x k)) (leave-cases (test b) b (failing l) x m)
 
-  passing-passes : (l : List B) (x : B) → List·Memᴰ x (passing l) → Q x
+  pub passing-passes : (l : List B) (x : B) → List·Memᴰ x (passing l) → Q x
   unfolding passing
   passing-passes [] x m = absurd (List·Memᴰ·not-nil m)
   passing-passes (b ∷ l) x m = ⊎-elim (λ e. subst Q (sym (e .0)) (e .1)) (passing-passes l x) (keep-cases (test b) b (passing l) x m)
 
-  failing-fails : (l : List B) (x : B) → List·Memᴰ x (failing l) → ¬ Q x
+  pub failing-fails : (l : List B) (x : B) → List·Memᴰ x (failing l) → ¬ Q x
   unfolding failing
   failing-fails [] x m = absurd (List·Memᴰ·not-nil m)
   failing-fails (b ∷ l) x m = ⊎-elim (λ e. subst (λ y. ¬ Q y) (sym (e .0)) (e .1)) (failing-fails l x) (leave-cases (test b) b (failing l) x m)
 
-  passing-distinct : (l : List B) → Distinct l → Distinct (passing l)
+  pub passing-distinct : (l : List B) → Distinct l → Distinct (passing l)
   unfolding passing
   passing-distinct [] dist = tt
   passing-distinct (b ∷ l) dist = keep-distinct (test b) b (passing l) (λ y m. dist .0 y (passing-member l y m)) (passing-distinct l (dist .1))
 
-  failing-distinct : (l : List B) → Distinct l → Distinct (failing l)
+  pub failing-distinct : (l : List B) → Distinct l → Distinct (failing l)
   unfolding failing
   failing-distinct [] dist = tt
   failing-distinct (b ∷ l) dist = leave-distinct (test b) b (failing l) (λ y m. dist .0 y (failing-member l y m)) (failing-distinct l (dist .1))

@@ -1,13 +1,14 @@
 -- The words of a list of lookups, read back.
 use mathlib.Core.Path.{_≡_, refl, sym, ap, ap₂, _∙_}
 use mathlib.Core.Bool.{Bool, true, false, cond, not}
-use mathlib.Core.List.{List, [], _∷_, _++_, append-assoc, append-nil, map, flatMap}
-use Prim.Native.Nat.{ℕ, suc, _+_, _*_, _/_, _<_, _≤_}
+use mathlib.Core.Option.{Option}
+use mathlib.Core.List.{List, [], _∷_, _++_, append-assoc, map, flatMap}
+use Prim.Native.Nat.{ℕ, zero, suc, _+_, _*_, _<_}
 use native.Mathlib.Nat.{zero-add}
 use native.Mathlib.Omega.{arith}
 use lib.Dec.{eqb}
-use lib.ListN.{length, take, drop, getD, length-append, length-map}
-use lib.Seq.{getD-append-add, drop-append-add, take-at, drop-at}
+use lib.ListN.{length, take, drop, getD, length-append, length-map, List·getD-append}
+use lib.Seq.{getD-append-add, drop-append-add, take-at}
 use Rattle.lists.specs.Count.{total}
 use Rattle.lists.specs.Tab.{tab}
 use Rattle.lists.specs.laws.Tab.{tab-none, tab-cons, tab-cong}
@@ -15,12 +16,13 @@ use Rattle.lists.specs.laws.Sums.{total-head}
 use Rattle.expression.specs.Words.{word}
 use Rattle.expression.specs.Values.{bit}
 use Rattle.lookup.specs.Lookups.{Lookups, Lookup, lookup-count, lookup-word, on-bus, name-length, exclusive, tuple-count, multiplicity-count, flag-count, name-start, tuple-start, multiplicity-start, flag-start, element-start, tuple-width, tuple-nodes, lookup-at, lookups-of}
+use Rattle.lookup.specs.Requires.{Fitting}
+use Rattle.expression.specs.declared.refusal.Refusal.{Refusal}
+use Rattle.lookup_degree.specs.Degree.{node-degrees}
 use Rattle.packing.specs.Written.{lookup-words, words-of}
-
--- every lookup has the property
-abbrev pub Each : (Lookup → Type 0) → List Lookup → Type 0
-Each P [] = Unit
-Each P (x ∷ xs) = P x × Each P xs
+use Rattle.packing.specs.PackSameBus.{columns, outcome, packing}
+use Rattle.theorems_packing.specs.Packed.{WritesPacked}
+use Rattle.theorems_packing.specs.laws.Each.{Each, packed-each}
 
 -- a local has no name
 abbrev pub Unnamed : Lookup → Type 0
@@ -40,7 +42,9 @@ tuples-back : (ts : List (List ℕ)) (ws es : List ℕ)
     → tab (λ k. take (word (map (λ (t : List ℕ). length t) ts ++ ws) k) (drop (element-start (map (λ (t : List ℕ). length t) ts ++ ws) k) (flatMap (λ (t : List ℕ). t) ts ++ es))) 0 (length ts) ≡ ts
 unfolding flatMap
 tuples-back [] ws es = tab-none (λ k. take (word ws k) (drop (element-start ws k) es)) 0
-tuples-back (t ∷ ts) ws es = tab-cons F (length ts) ∙ ap₂ (λ (x : List ℕ) (y : List (List ℕ)). x ∷ y) first (tab-cong (λ k. F (suc k)) G (length ts) (λ k _. later k) ∙ tuples-back ts ws es)
+tuples-back (t ∷ ts) ws es =
+    tab-cons F (length ts)
+    ∙ ap₂ (λ (x : List ℕ) (y : List (List ℕ)). x ∷ y) first (tab-cong (λ k. F (suc k)) G (length ts) (λ k _. later k) ∙ tuples-back ts ws es)
   where
     W : List ℕ
     W = map (λ (t : List ℕ). length t) ts ++ ws
@@ -55,7 +59,8 @@ tuples-back (t ∷ ts) ws es = tab-cons F (length ts) ∙ ap₂ (λ (x : List �
     G k = take (word W k) (drop (element-start W k) E)
 
     first : F 0 ≡ t
-    first = unfold element-start in unfold total in (ap (take (length t)) (append-assoc t (flatMap (λ (t : List ℕ). t) ts) es) ∙ take-at t E (length t) refl)
+    first =
+        unfold element-start in unfold total in (ap (take (length t)) (append-assoc t (flatMap (λ (t : List ℕ). t) ts) es) ∙ take-at t E (length t) refl)
 
     later : (k : ℕ) → F (suc k) ≡ G k
     later k =
@@ -75,7 +80,8 @@ prepend c l =
     }
 
 -- all widths of some tuples are all their elements
-widths-sum : (ts : List (List ℕ)) (ws : List ℕ) (k : ℕ) → element-start (map (λ (t : List ℕ). length t) ts ++ ws) (length ts + k) ≡ length (flatMap (λ (t : List ℕ). t) ts) + element-start ws k
+widths-sum : (ts : List (List ℕ)) (ws : List ℕ) (k : ℕ)
+    → element-start (map (λ (t : List ℕ). length t) ts ++ ws) (length ts + k) ≡ length (flatMap (λ (t : List ℕ). t) ts) + element-start ws k
 unfolding flatMap
 widths-sum [] ws k = ap (element-start ws) (zero-add k) ∙ sym (zero-add (element-start ws k))
 widths-sum (t ∷ ts) ws k =
@@ -107,19 +113,24 @@ module _ (c : Lookup) (un : Unnamed c) (l : Lookups) where
 
   names-start : (k : ℕ) → name-start (lookup-words c ++ l .lookups) (suc k) ≡ length (c .name) + name-start (l .lookups) k
   unfolding name-start
-  names-start k = total-shift (name-length (lookup-words c ++ l .lookups)) (name-length (l .lookups)) (length (c .name)) k name-first name-later
+  names-start k =
+      total-shift (name-length (lookup-words c ++ l .lookups)) (name-length (l .lookups)) (length (c .name)) k name-first name-later
 
   tuples-start : (k : ℕ) → tuple-start (lookup-words c ++ l .lookups) (suc k) ≡ length (c .tuples) + tuple-start (l .lookups) k
   unfolding tuple-start
-  tuples-start k = total-shift (tuple-count (lookup-words c ++ l .lookups)) (tuple-count (l .lookups)) (length (c .tuples)) k (unfold lookup-words in refl) (λ j. entry-later j 5)
+  tuples-start k =
+      total-shift (tuple-count (lookup-words c ++ l .lookups)) (tuple-count (l .lookups)) (length (c .tuples)) k (unfold lookup-words in refl) (λ j. entry-later j 5)
 
-  multiplicities-start : (k : ℕ) → multiplicity-start (lookup-words c ++ l .lookups) (suc k) ≡ length (c .multiplicities) + multiplicity-start (l .lookups) k
+  multiplicities-start : (k : ℕ)
+      → multiplicity-start (lookup-words c ++ l .lookups) (suc k) ≡ length (c .multiplicities) + multiplicity-start (l .lookups) k
   unfolding multiplicity-start
-  multiplicities-start k = total-shift (multiplicity-count (lookup-words c ++ l .lookups)) (multiplicity-count (l .lookups)) (length (c .multiplicities)) k (unfold lookup-words in refl) (λ j. entry-later j 6)
+  multiplicities-start k =
+      total-shift (multiplicity-count (lookup-words c ++ l .lookups)) (multiplicity-count (l .lookups)) (length (c .multiplicities)) k (unfold lookup-words in refl) (λ j. entry-later j 6)
 
   flags-start : (k : ℕ) → flag-start (lookup-words c ++ l .lookups) (suc k) ≡ length (c .flags) + flag-start (l .lookups) k
   unfolding flag-start
-  flags-start k = total-shift (flag-count (lookup-words c ++ l .lookups)) (flag-count (l .lookups)) (length (c .flags)) k (unfold lookup-words in refl) (λ j. entry-later j 7)
+  flags-start k =
+      total-shift (flag-count (lookup-words c ++ l .lookups)) (flag-count (l .lookups)) (length (c .flags)) k (unfold lookup-words in refl) (λ j. entry-later j 7)
 
   -- a part of a list with one part more in front
   part-later : (xs ys : List ℕ) (n m s t : ℕ) → n ≡ m → s ≡ length xs + t → take n (drop s (xs ++ ys)) ≡ take m (drop t ys)
@@ -196,6 +207,9 @@ unfolding words-of flatMap lookup-words
 words-long [] = refl
 words-long (c ∷ cs) = omega (arith, words-long cs)
 
+pub count-back : (cs : List Lookup) → lookup-count (words-of cs .lookups) ≡ length cs
+count-back cs = let e : lookup-count (words-of cs .lookups) ≡ length cs = omega (arith, words-long cs) in e
+
 back : (cs : List Lookup) → Each Unnamed cs → tab (lookup-at (words-of cs)) 0 (length cs) ≡ cs
 unfolding words-of flatMap
 back [] u = tab-none (lookup-at (words-of [])) 0
@@ -203,6 +217,96 @@ back (c ∷ cs) u =
     tab-cons (lookup-at (words-of (c ∷ cs))) (length cs)
     ∙ ap₂ (λ (x : Lookup) (y : List Lookup). x ∷ y) (now c (u .0) (words-of cs)) (tab-cong (λ k. lookup-at (words-of (c ∷ cs)) (suc k)) (lookup-at (words-of cs)) (length cs) (λ k _. later c (u .0) (words-of cs) k) ∙ back cs (u .1))
 
-pub read-back : (cs : List Lookup) → Each Unnamed cs → lookups-of (words-of cs) ≡ cs
+read-back : (cs : List Lookup) → Each Unnamed cs → lookups-of (words-of cs) ≡ cs
 unfolding lookups-of
-read-back cs u = ap (λ (n : ℕ). tab (lookup-at (words-of cs)) 0 n) (let e : lookup-count (words-of cs .lookups) ≡ length cs = omega (arith, words-long cs) in e) ∙ back cs u
+read-back cs u = ap (λ (n : ℕ). tab (lookup-at (words-of cs)) 0 n) (count-back cs) ∙ back cs u
+
+-- the words of lookup i
+abbrev pub nothing : Lookup
+nothing = record { local = true; name = []; weight = 0; column = 0; exclusive = false; tuples = []; multiplicities = []; flags = [] }
+
+pub word-back : (cs : List Lookup) → Each Unnamed cs → (i f : ℕ) → i < length cs → f < 8
+    → lookup-word (words-of cs .lookups) i f ≡ word (lookup-words (getD cs i nothing)) f
+unfolding words-of flatMap
+word-back [] u i f h k = absurd (omega arith)
+word-back (c ∷ cs) u zero f h k =
+    let z : 8 * 0 + f ≡ f = omega arith in
+    ap (word (lookup-words c ++ words-of cs .lookups)) z
+    ∙ List·getD-append (lookup-words c) (words-of cs .lookups) 0 f (unfold lookup-words in k)
+word-back (c ∷ cs) u (suc i) f h k = entry-later c (u .0) (words-of cs) i f ∙ word-back cs (u .1) i f (omega arith) k
+
+-- each list of the words is as long as the lookups say
+names-fit : (cs : List Lookup) → Each Unnamed cs → length (words-of cs .names) ≡ name-start (words-of cs .lookups) (length cs)
+unfolding words-of flatMap
+names-fit [] u = unfold name-start in unfold total in refl
+names-fit (c ∷ cs) u =
+    length-append (c .name) (words-of cs .names) ∙ ap (λ (n : ℕ). length (c .name) + n) (names-fit cs (u .1))
+    ∙ sym (names-start c (u .0) (words-of cs) (length cs))
+
+tuples-fit : (cs : List Lookup) → Each Unnamed cs → length (words-of cs .tuples) ≡ tuple-start (words-of cs .lookups) (length cs)
+unfolding words-of flatMap
+tuples-fit [] u = unfold tuple-start in unfold total in refl
+tuples-fit (c ∷ cs) u =
+    length-append (map (λ (t : List ℕ). length t) (c .tuples)) (words-of cs .tuples)
+    ∙ ap₂ _+_ (length-map (c .tuples) (λ (t : List ℕ). length t)) (tuples-fit cs (u .1))
+    ∙ sym (tuples-start c (u .0) (words-of cs) (length cs))
+
+multiplicities-fit : (cs : List Lookup) → Each Unnamed cs
+    → length (words-of cs .multiplicities) ≡ multiplicity-start (words-of cs .lookups) (length cs)
+unfolding words-of flatMap
+multiplicities-fit [] u = unfold multiplicity-start in unfold total in refl
+multiplicities-fit (c ∷ cs) u =
+    length-append (c .multiplicities) (words-of cs .multiplicities)
+    ∙ ap (λ (n : ℕ). length (c .multiplicities) + n) (multiplicities-fit cs (u .1))
+    ∙ sym (multiplicities-start c (u .0) (words-of cs) (length cs))
+
+flags-fit : (cs : List Lookup) → Each Unnamed cs → length (words-of cs .flags) ≡ flag-start (words-of cs .lookups) (length cs)
+unfolding words-of flatMap
+flags-fit [] u = unfold flag-start in unfold total in refl
+flags-fit (c ∷ cs) u =
+    length-append (c .flags) (words-of cs .flags) ∙ ap (λ (n : ℕ). length (c .flags) + n) (flags-fit cs (u .1))
+    ∙ sym (flags-start c (u .0) (words-of cs) (length cs))
+
+elements-fit : (cs : List Lookup) → length (words-of cs .elements) ≡ element-start (words-of cs .tuples) (length (words-of cs .tuples))
+unfolding words-of flatMap
+elements-fit [] = unfold element-start in unfold total in refl
+elements-fit (c ∷ cs) =
+    let ws : List ℕ = map (λ (t : List ℕ). length t) (c .tuples) in
+    length-append (flatMap (λ (t : List ℕ). t) (c .tuples)) (words-of cs .elements)
+    ∙ ap (λ (n : ℕ). length (flatMap (λ (t : List ℕ). t) (c .tuples)) + n) (elements-fit cs)
+    ∙ sym (widths-sum (c .tuples) (words-of cs .tuples) (length (words-of cs .tuples)))
+    ∙ ap (element-start (ws ++ words-of cs .tuples)) (ap (λ (n : ℕ). n + length (words-of cs .tuples)) (sym (length-map (c .tuples) (λ (t : List ℕ). length t))) ∙ sym (length-append ws (words-of cs .tuples)))
+
+pub words-fit : (cs : List Lookup) → Each Unnamed cs → Fitting (words-of cs)
+words-fit cs u =
+    let n : length cs ≡ lookup-count (words-of cs .lookups) = sym (count-back cs) in
+    record {
+      lookups = words-long cs ∙ ap (λ (k : ℕ). 8 * k) n;
+      names = names-fit cs u ∙ ap (name-start (words-of cs .lookups)) n;
+      tuples = tuples-fit cs u ∙ ap (tuple-start (words-of cs .lookups)) n;
+      multiplicities = multiplicities-fit cs u ∙ ap (multiplicity-start (words-of cs .lookups)) n;
+      flags = flags-fit cs u ∙ ap (flag-start (words-of cs .lookups)) n;
+      elements = elements-fit cs;
+    }
+
+-- every lookup of a table, and so every column, has a name only where it is on a bus
+pub at-unnamed : (l : Lookups) (i : ℕ) → Unnamed (lookup-at l i)
+unfolding lookup-at
+at-unnamed l i = go (drop (name-start (l .lookups) i) (l .names)) (lookup-word (l .lookups) i 1) (on-bus (l .lookups) i)
+  where
+    go : (xs : List ℕ) (n : ℕ) (b : Bool) → not b ≡ true → take (cond b n 0) xs ≡ []
+    go xs n true e = cc
+    go xs n false e = refl
+
+pub columns-unnamed : (limit : ℕ) (nodes : List ℕ) (l : Lookups) → Each Unnamed (columns limit nodes l)
+unfolding columns
+columns-unnamed limit nodes l = packed-each Unnamed l (λ i _. at-unnamed l i) (λ a b o s t. s) (λ k x s. s) (node-degrees 0 nodes) limit
+
+-- the words that packing writes say its columns
+pub columns-back : (limit : ℕ) (nodes : List ℕ) (l : Lookups) → lookups-of (words-of (columns limit nodes l)) ≡ columns limit nodes l
+columns-back limit nodes l = read-back (columns limit nodes l) (columns-unnamed limit nodes l)
+
+-- packing's own definition, at a table
+pub writes-packed : WritesPacked
+unfolding packing
+writes-packed m p limit c t lent e = ap (λ (o : Option Refusal). outcome o (words-of (columns limit (t .nodes) (t .lookups))) lent) e

@@ -1,7 +1,7 @@
 -- The packed table has the same entries on every row.
 use mathlib.Core.Path.{_≡_, refl, sym, ap, ap₂, _∙_}
 use mathlib.Core.Bool.{Bool, true, false, cond, not, _&&_}
-use mathlib.Core.List.{List, [], _∷_, _++_, append-assoc, append-nil, map, flatMap, zipWith, map-append, List·Memᴰ, List·Memᴰ·head, List·Memᴰ·tail}
+use mathlib.Core.List.{List, [], _∷_, _++_, append-assoc, append-nil, map, flatMap, zipWith, map-append}
 use Prim.Native.Nat.{ℕ, zero, suc, _+_, _<_, _≤_}
 use native.Mathlib.Nat.{zero-add}
 use native.Mathlib.Omega.{arith}
@@ -16,37 +16,63 @@ use Rattle.lists.specs.laws.Tab.{tab-length, tab-cong, map-tab, flat-append, zi
 use Rattle.lists.specs.laws.Joined.{joined-singles}
 use Rattle.field.specs.Word.{mulM}
 use Rattle.expression.specs.Words.{word}
-use Rattle.expression.specs.declared.sizes.Limits.{Limits}
-use Rattle.lookup.specs.Lookups.{Lookups, Lookup, lookup-count, on-bus, exclusive, tuple-count, multiplicity-count, flag-count, name-start, multiplicity-start, flag-start, multiplicity-node, flag-node, tuple-nodes, lookup-at, lookups-of}
+use Rattle.expression.specs.Node.{node-count}
+use Rattle.lookup.specs.Lookups.{Lookups, Lookup, lookup-count, exclusive, tuple-count, multiplicity-count, flag-count, multiplicity-start, flag-start, multiplicity-node, flag-node, tuple-nodes, lookup-at, lookups-of}
+use Rattle.lookup.specs.Requires.{Fitting, Agreeing}
 use Rattle.lookup.specs.laws.Tested.{placed}
 use Rattle.lookup_degree.specs.Sums.{sum-of}
 use Rattle.lookup_degree.specs.Degree.{node-degrees, lookup-degree}
-use Rattle.lookup_degree.specs.Formed.{Formed}
 use Rattle.lookup_degree.specs.laws.Degree.{zip-tab, part-tab}
-use Rattle.lookup_buses.specs.Order.{keep, arranged}
-use Rattle.lookup_buses.specs.laws.Order.{sum-append, arranged-in}
+use Rattle.lookup_buses.specs.Order.{keep}
+use Rattle.lookup_buses.specs.laws.Order.{sum-append}
 use Rattle.logup.specs.Tuple.{tuple}
 use Rattle.logup.specs.Ledger.{Entry, entry, count, lookup-entries, row-entries}
-use Rattle.packing.specs.Packing.{passes, on-one-bus, in-order, merged, joins, fill, filled, numbered, renumbered, packed}
+use Rattle.packing.specs.Packing.{on-one-bus, in-order, merged, joins, fill, filled, numbered, renumbered, packed}
 use Rattle.packing.specs.Written.{words-of}
 use Rattle.packing.specs.PackSameBus.{columns}
-use Rattle.packing.specs.laws.Columns.{and-both, on-one, order-sum, renumbered-sum}
+use Rattle.packing.specs.laws.Columns.{and-both, on-one, order-sum}
 use Rattle.theorems_packing.specs.inner.Entries.{record-counts, entered, record-entries, Aligned}
-use Rattle.theorems_packing.specs.laws.Back.{Each, Unnamed, read-back}
+use Rattle.theorems_packing.specs.laws.Each.{Each, lookups-each, order-each, packed-each, packed-sum-each}
+use Rattle.theorems_packing.specs.laws.Back.{at-unnamed, columns-back}
 
 -- a part whose length is n, by number
-part-by : (m : List ℕ) (c s n : ℕ) → length (take c (drop s m)) ≡ n → take c (drop s m) ≡ tab (λ k. word m (s + k)) 0 n
+pub part-by : (m : List ℕ) (c s n : ℕ) → length (take c (drop s m)) ≡ n → take c (drop s m) ≡ tab (λ k. word m (s + k)) 0 n
 part-by m c s n e =
     let h : n ≤ length (drop s m) = omega (arith, sym e ∙ length-take c (drop s m)) in
     let g : n ≤ c = omega (arith, sym e ∙ length-take c (drop s m)) in
-    cut (take c (drop s m)) n e ∙ tab-cong (λ k. word (take c (drop s m)) (0 + k)) (λ k. word m (s + k)) n (λ k l. getD-take c (drop s m) (0 + k) 0 (omega arith) ∙ getD-drop s m (0 + k) 0 ∙ ap (λ (q : ℕ). word m (s + q)) (zero-add k))
+    cut (take c (drop s m)) n e
+    ∙ tab-cong (λ k. word (take c (drop s m)) (0 + k)) (λ k. word m (s + k)) n (λ k l. getD-take c (drop s m) (0 + k) 0 (omega arith) ∙ getD-drop s m (0 + k) 0 ∙ ap (λ (q : ℕ). word m (s + q)) (zero-add k))
   where
     cut : (xs : List ℕ) (n : ℕ) → length xs ≡ n → xs ≡ tab (λ k. word xs (0 + k)) 0 n
     cut xs n e = sym (lib.Seq.take-all n xs (omega arith)) ∙ part-tab xs 0 n (omega arith)
 
+-- a kept merge is aligned where its parts are
+pub additive-both : (a b : Lookup) → on-one-bus a b ≡ true → (a .exclusive ≡ false) × (b .exclusive ≡ false)
+additive-both a b e =
+    let s = on-one a b e in (or-right-false (a .local) (a .exclusive) (s .0), or-right-false (b .local) (b .exclusive) (s .1))
+
+-- both are on a bus
+pub local-both : (a b : Lookup) → on-one-bus a b ≡ true → (a .local ≡ false) × (b .local ≡ false)
+local-both a b e = let s = on-one a b e in (or-left-false (a .local) (a .exclusive) (s .0), or-left-false (b .local) (b .exclusive) (s .1))
+
+pub merged-sound : (a b : Lookup) → on-one-bus a b ≡ true → Aligned a → Aligned b → Aligned (merged a b)
+merged-sound a b o s t =
+    let ea : a .exclusive ≡ false = additive-both a b o .0 in
+    record {
+      aligned =
+          length-append (a .multiplicities) (b .multiplicities) ∙ ap₂ _+_ (s .aligned) (t .aligned)
+          ∙ sym (length-append (a .tuples) (b .tuples));
+      flagged = λ e. cc;
+      unnamed = s .unnamed;
+    }
+
+pub numbered-sound : (k : ℕ) (x : Lookup) → Aligned x → Aligned (numbered k x)
+numbered-sound k x e = record { aligned = e .aligned; flagged = e .flagged; unnamed = e .unnamed }
+
 -- what lookup i enters, from its record
 module _ (p : ℕ) (vals : List ℕ) where
-  counts-at : (l : Lookups) (i : ℕ) → Aligned (lookup-at l i) → record-counts p vals (lookup-at l i) ≡ tab (count p l vals i) 0 (tuple-count (l .lookups) i)
+  counts-at : (l : Lookups) (i : ℕ) → Aligned (lookup-at l i)
+      → record-counts p vals (lookup-at l i) ≡ tab (count p l vals i) 0 (tuple-count (l .lookups) i)
   unfolding record-counts lookup-at count multiplicity-node flag-node
   counts-at l i s = go (exclusive (l .lookups) i) refl
     where
@@ -88,7 +114,8 @@ module _ (p : ℕ) (vals : List ℕ) where
   each-snoc (x ∷ xs) y e = let r = each-snoc xs y (e .1) in ((e .0, r .0), r .1)
 
   -- the entries of a row: those of each lookup, in list order
-  rows-at : (l : Lookups) (n : ℕ) → Each Aligned (tab (lookup-at l) 0 n) → joined (lookup-entries p l vals) 0 n ≡ flatMap (record-entries p vals) (tab (lookup-at l) 0 n)
+  rows-at : (l : Lookups) (n : ℕ) → Each Aligned (tab (lookup-at l) 0 n)
+      → joined (lookup-entries p l vals) 0 n ≡ flatMap (record-entries p vals) (tab (lookup-at l) 0 n)
   unfolding joined tab flatMap
   rows-at l zero e = refl
   rows-at l (suc n) e =
@@ -100,36 +127,14 @@ module _ (p : ℕ) (vals : List ℕ) where
   unfolding row-entries lookups-of
   row-is l e = rows-at l (lookup-count (l .lookups)) e
 
-  additive : (deg : ℕ → ℕ) (limit : ℕ) (a b : Lookup) → joins deg limit a b ≡ true → (a .exclusive ≡ false) × (b .exclusive ≡ false)
-  additive deg limit a b e =
-      let s = on-one a b (and-both (on-one-bus a b) (leb (lookup-degree deg (merged a b)) limit) e .0) in
-      (or-right-false (a .local) (a .exclusive) (s .0), or-right-false (b .local) (b .exclusive) (s .1))
-
   -- a kept merge enters what its parts enter
-  merged-entries : (a b : Lookup) → a .exclusive ≡ false → b .exclusive ≡ false → Aligned a → record-entries p vals (merged a b) ≡ record-entries p vals a ++ record-entries p vals b
+  merged-entries : (a b : Lookup) → a .exclusive ≡ false → b .exclusive ≡ false → Aligned a
+      → record-entries p vals (merged a b) ≡ record-entries p vals a ++ record-entries p vals b
   unfolding record-entries record-counts
   merged-entries a b ea eb s =
       rw (ea, eb)
       (ap (zipWith (entered vals) (a .tuples ++ b .tuples)) (map-append (word vals) (a .multiplicities) (b .multiplicities))
       ∙ zip-append (entered vals) (a .tuples) (b .tuples) (map (word vals) (a .multiplicities)) (map (word vals) (b .multiplicities)) (sym (s .aligned) ∙ sym (length-map (a .multiplicities) (word vals))))
-
-  merged-sound : (a b : Lookup) → a .exclusive ≡ false → Aligned a → Aligned b → Aligned (merged a b)
-  merged-sound a b ea s t =
-      record {
-        aligned = length-append (a .multiplicities) (b .multiplicities) ∙ ap₂ _+_ (s .aligned) (t .aligned) ∙ sym (length-append (a .tuples) (b .tuples));
-        flagged = λ e. cc;
-        unnamed = s .unnamed;
-      }
-
-  fill-sound : (deg : ℕ → ℕ) (limit : ℕ) (c : Lookup) (ls : List Lookup) → Aligned c → Each Aligned ls → Each Aligned (fill deg limit c ls)
-  unfolding fill
-  fill-sound deg limit c [] s e = (s, tt)
-  fill-sound deg limit c (l ∷ ls) s e = go (joins deg limit c l) refl (λ (q : Aligned (merged c l)). fill-sound deg limit (merged c l) ls q (e .1)) (fill-sound deg limit l ls (e .0) (e .1))
-    where
-      go : (b : Bool) → joins deg limit c l ≡ b → (Aligned (merged c l) → Each Aligned (fill deg limit (merged c l) ls)) → Each Aligned (fill deg limit l ls)
-          → Each Aligned (cond b (fill deg limit (merged c l) ls) (c ∷ fill deg limit l ls))
-      go true j x y = x (merged-sound c l (additive deg limit c l j .0) s (e .0))
-      go false j x y = (s, y)
 
   fill-entries : (deg : ℕ → ℕ) (limit : ℕ) (c : Lookup) (ls : List Lookup) → Aligned c → Each Aligned ls
       → flatMap (record-entries p vals) (fill deg limit c ls) ≡ record-entries p vals c ++ flatMap (record-entries p vals) ls
@@ -141,27 +146,22 @@ module _ (p : ℕ) (vals : List ℕ) where
       E : Lookup → List Entry
       E = record-entries p vals
 
-      go : (b : Bool) → joins deg limit c l ≡ b → (Aligned (merged c l) → flatMap E (fill deg limit (merged c l) ls) ≡ E (merged c l) ++ flatMap E ls) → flatMap E (fill deg limit l ls) ≡ E l ++ flatMap E ls
+      go : (b : Bool) → joins deg limit c l ≡ b
+          → (Aligned (merged c l) → flatMap E (fill deg limit (merged c l) ls) ≡ E (merged c l) ++ flatMap E ls)
+          → flatMap E (fill deg limit l ls) ≡ E l ++ flatMap E ls
           → flatMap E (cond b (fill deg limit (merged c l) ls) (c ∷ fill deg limit l ls)) ≡ E c ++ (E l ++ flatMap E ls)
       go true j x y =
-          let a = additive deg limit c l j in
-          x (merged-sound c l (a .0) s (e .0)) ∙ ap (λ (z : List Entry). z ++ flatMap E ls) (merged-entries c l (a .0) (a .1) s) ∙ append-assoc (E c) (E l) (flatMap E ls)
+          let o = and-both (on-one-bus c l) (leb (lookup-degree deg (merged c l)) limit) j .0 in
+          let a = additive-both c l o in
+          x (merged-sound c l o s (e .0)) ∙ ap (λ (z : List Entry). z ++ flatMap E ls) (merged-entries c l (a .0) (a .1) s)
+          ∙ append-assoc (E c) (E l) (flatMap E ls)
       go false j x y = ap (λ (z : List Entry). E c ++ z) y
 
-  filled-sound : (deg : ℕ → ℕ) (limit : ℕ) (ls : List Lookup) → Each Aligned ls → Each Aligned (filled deg limit ls)
-  unfolding filled
-  filled-sound deg limit [] e = tt
-  filled-sound deg limit (l ∷ ls) e = fill-sound deg limit l ls (e .0) (e .1)
-
-  filled-entries : (deg : ℕ → ℕ) (limit : ℕ) (ls : List Lookup) → Each Aligned ls → flatMap (record-entries p vals) (filled deg limit ls) ≡ flatMap (record-entries p vals) ls
+  filled-entries : (deg : ℕ → ℕ) (limit : ℕ) (ls : List Lookup) → Each Aligned ls
+      → flatMap (record-entries p vals) (filled deg limit ls) ≡ flatMap (record-entries p vals) ls
   unfolding filled flatMap
   filled-entries deg limit [] e = refl
   filled-entries deg limit (l ∷ ls) e = fill-entries deg limit l ls (e .0) (e .1)
-
-  numbered-sound : (k : ℕ) (ls : List Lookup) → Each Aligned ls → Each Aligned (renumbered k ls)
-  unfolding renumbered
-  numbered-sound k [] e = tt
-  numbered-sound k (l ∷ ls) e = (record { aligned = e .0 .aligned; flagged = e .0 .flagged; unnamed = e .0 .unnamed }, numbered-sound (suc k) ls (e .1))
 
   numbered-entries : (k : ℕ) (ls : List Lookup) → flatMap (record-entries p vals) (renumbered k ls) ≡ flatMap (record-entries p vals) ls
   unfolding renumbered flatMap record-entries record-counts
@@ -169,108 +169,69 @@ module _ (p : ℕ) (vals : List ℕ) where
   numbered-entries k (l ∷ ls) = ap (λ (z : List Entry). record-entries p vals l ++ z) (numbered-entries (suc k) ls)
 
   -- a sum over the entries is a sum over the lookups
-  flat-sum : (h : Entry → ℕ) (ls : List Lookup) → sum-of h (flatMap (record-entries p vals) ls) ≡ sum-of (λ (x : Lookup). sum-of h (record-entries p vals x)) ls
+  flat-sum : (h : Entry → ℕ) (ls : List Lookup)
+      → sum-of h (flatMap (record-entries p vals) ls) ≡ sum-of (λ (x : Lookup). sum-of h (record-entries p vals x)) ls
   unfolding flatMap sum-of
   flat-sum h [] = refl
-  flat-sum h (l ∷ ls) = sum-append h (record-entries p vals l) (flatMap (record-entries p vals) ls) ∙ ap (λ (n : ℕ). sum-of h (record-entries p vals l) + n) (flat-sum h ls)
+  flat-sum h (l ∷ ls) =
+      sum-append h (record-entries p vals l) (flatMap (record-entries p vals) ls)
+      ∙ ap (λ (n : ℕ). sum-of h (record-entries p vals l) + n) (flat-sum h ls)
 
 -- the lookups of a table that passed the tests
-module _ (m : Limits) (nodes : List ℕ) (l : Lookups) (f : Formed m nodes l) where
-  at-sound : (i : ℕ) → i < lookup-count (l .lookups) → Aligned (lookup-at l i)
+module _ (nodes : List ℕ) (l : Lookups) (f : Fitting l) (a : Agreeing (node-count nodes) l) where
+  pub at-sound : (i : ℕ) → i < lookup-count (l .lookups) → Aligned (lookup-at l i)
   unfolding lookup-at
   at-sound i h =
-      let q = placed l (f .fitting) i h in
+      let q = placed l (f) i h in
       let t : length (lookup-at l i .tuples) ≡ tuple-count (l .lookups) i = tab-length (tuple-nodes l i) 0 (tuple-count (l .lookups) i) in
       record {
-        aligned = lib.Seq.length-take-le _ _ (fits (l .multiplicities) _ _ (q .multiplicities)) ∙ f .agreeing .multiplicities-agree i h ∙ sym t;
-        flagged = λ e. lib.Seq.length-take-le _ _ (fits (l .flags) _ _ (q .flags)) ∙ f .agreeing .flags-agree i h ∙ ap (λ (b : Bool). cond b (tuple-count (l .lookups) i) 0) e ∙ sym t;
-        unnamed = unnamed (drop (name-start (l .lookups) i) (l .names)) (word-of 1) (on-bus (l .lookups) i);
+        aligned = lib.Seq.length-take-le _ _ (fits (l .multiplicities) _ _ (q .multiplicities)) ∙ a .multiplicities-agree i h ∙ sym t;
+        flagged = λ e. lib.Seq.length-take-le _ _ (fits (l .flags) _ _ (q .flags)) ∙ a .flags-agree i h
+            ∙ ap (λ (b : Bool). cond b (tuple-count (l .lookups) i) 0) e ∙ sym t;
+        unnamed = at-unnamed l i;
       }
     where
       fits : (xs : List ℕ) (s n : ℕ) → s + n ≤ length xs → n ≤ length (drop s xs)
       fits xs s n h = simp lib.ListN.length-drop (omega arith)
 
-      word-of : ℕ → ℕ
-      word-of f = Rattle.lookup.specs.Lookups.lookup-word (l .lookups) i f
-
-      unnamed : (xs : List ℕ) (n : ℕ) (b : Bool) → not b ≡ true → take (cond b n 0) xs ≡ []
-      unnamed xs n true e = cc
-      unnamed xs n false e = refl
-
-  map-sound : (is : List ℕ) → ((i : ℕ) → List·Memᴰ i is → i < lookup-count (l .lookups)) → Each Aligned (map (lookup-at l) is)
-  map-sound [] h = tt
-  map-sound (i ∷ is) h = (at-sound i (h i (List·Memᴰ·head refl)), map-sound is (λ (j : ℕ) q. h j (List·Memᴰ·tail q)))
-
-  each-tab : (n : ℕ) → n ≤ lookup-count (l .lookups) → Each Aligned (tab (lookup-at l) 0 n)
-  unfolding tab
-  each-tab zero h = tt
-  each-tab (suc n) h = snoc (tab (lookup-at l) 0 n) (lookup-at l (0 + n)) (each-tab n (omega arith)) (at-sound (0 + n) (omega arith))
-    where
-      snoc : (xs : List Lookup) (y : Lookup) → Each Aligned xs → Aligned y → Each Aligned (xs ++ (y ∷ []))
-      snoc [] y e s = (s, tt)
-      snoc (x ∷ xs) y e s = (e .0, snoc xs y (e .1) s)
-
   pub lookups-sound : Each Aligned (lookups-of l)
-  unfolding lookups-of
-  lookups-sound = each-tab (lookup-count (l .lookups)) (omega arith)
+  lookups-sound = lookups-each Aligned l at-sound
 
   order-sound : Each Aligned (in-order l)
-  unfolding in-order
-  order-sound = map-sound (arranged (λ i. passes (lookup-at l i)) (λ i. lookup-at l i .name) (lookup-count (l .lookups))) (arranged-in (λ i. passes (lookup-at l i)) (λ i. lookup-at l i .name) (lookup-count (l .lookups)))
+  order-sound = order-each Aligned l at-sound
 
   pub columns-sound : (limit : ℕ) → Each Aligned (columns limit nodes l)
-  unfolding columns packed
-  columns-sound limit = numbered-sound 0 [] 0 (filled (node-degrees 0 nodes) limit (in-order l)) (filled-sound 0 [] (node-degrees 0 nodes) limit (in-order l) order-sound)
-
-  -- the words that packing writes say its columns
-  pub columns-back : (limit : ℕ) → lookups-of (words-of (columns limit nodes l)) ≡ columns limit nodes l
-  columns-back limit = read-back (columns limit nodes l) (all-unnamed (columns limit nodes l) (columns-sound limit))
-    where
-      all-unnamed : (xs : List Lookup) → Each Aligned xs → Each Unnamed xs
-      all-unnamed [] e = tt
-      all-unnamed (x ∷ xs) e = (e .0 .unnamed, all-unnamed xs (e .1))
+  unfolding columns
+  columns-sound limit = packed-each Aligned l at-sound merged-sound numbered-sound (node-degrees 0 nodes) limit
 
   -- the packed table enters on a row what the lookups enter in packing's order
-  pub packed-row : (limit p : ℕ) (vals : List ℕ) → row-entries p (words-of (columns limit nodes l)) vals ≡ flatMap (record-entries p vals) (in-order l)
+  pub packed-row : (limit p : ℕ) (vals : List ℕ)
+      → row-entries p (words-of (columns limit nodes l)) vals ≡ flatMap (record-entries p vals) (in-order l)
   packed-row limit p vals =
-      row-is p vals (words-of (columns limit nodes l)) (rw (columns-back limit) (columns-sound limit))
-      ∙ ap (flatMap (record-entries p vals)) (columns-back limit)
+      row-is p vals (words-of (columns limit nodes l)) (rw (columns-back limit nodes l) (columns-sound limit))
+      ∙ ap (flatMap (record-entries p vals)) (columns-back limit nodes l)
       ∙ opened limit p vals
     where
-      opened : (limit p : ℕ) (vals : List ℕ) → flatMap (record-entries p vals) (columns limit nodes l) ≡ flatMap (record-entries p vals) (in-order l)
+      opened : (limit p : ℕ) (vals : List ℕ)
+          → flatMap (record-entries p vals) (columns limit nodes l) ≡ flatMap (record-entries p vals) (in-order l)
       opened limit p vals = unfold columns in unfold packed in (numbered-entries p vals 0 (filled (node-degrees 0 nodes) limit (in-order l)) ∙ filled-entries p vals (node-degrees 0 nodes) limit (in-order l) order-sound)
 
   -- the same entries for every row, whatever is counted of them
-  pub same-entries : (limit p : ℕ) (vals : List ℕ) (h : Entry → ℕ) → sum-of h (row-entries p (words-of (columns limit nodes l)) vals) ≡ sum-of h (row-entries p l vals)
+  pub same-row-entries : (limit p : ℕ) (vals : List ℕ) (h : Entry → ℕ)
+      → sum-of h (row-entries p (words-of (columns limit nodes l)) vals) ≡ sum-of h (row-entries p l vals)
   unfolding lookups-of
-  same-entries limit p vals h =
+  same-row-entries limit p vals h =
       ap (sum-of h) (packed-row limit p vals)
       ∙ flat-sum p vals h (in-order l)
       ∙ order-sum l (λ (x : Lookup). sum-of h (record-entries p vals x))
       ∙ sym (flat-sum p vals h (lookups-of l))
       ∙ ap (sum-of h) (sym (row-is p vals l lookups-sound))
 
-  fill-sum : (g : Lookup → ℕ) → ((a b : Lookup) → on-one-bus a b ≡ true → Aligned a → g (merged a b) ≡ g a + g b) → (deg : ℕ → ℕ) (limit : ℕ) (c : Lookup) (ls : List Lookup) → Aligned c → Each Aligned ls
-      → sum-of g (fill deg limit c ls) ≡ g c + sum-of g ls
-  unfolding fill sum-of
-  fill-sum g adds deg limit c [] s e = refl
-  fill-sum g adds deg limit c (x ∷ ls) s e = go (joins deg limit c x) refl (λ (q : Aligned (merged c x)). fill-sum g adds deg limit (merged c x) ls q (e .1)) (fill-sum g adds deg limit x ls (e .0) (e .1))
-    where
-      go : (b : Bool) → joins deg limit c x ≡ b → (Aligned (merged c x) → sum-of g (fill deg limit (merged c x) ls) ≡ g (merged c x) + sum-of g ls) → sum-of g (fill deg limit x ls) ≡ g x + sum-of g ls
-          → sum-of g (cond b (fill deg limit (merged c x) ls) (c ∷ fill deg limit x ls)) ≡ g c + (g x + sum-of g ls)
-      go true j y z =
-          let o = and-both (on-one-bus c x) (leb (lookup-degree deg (merged c x)) limit) j .0 in
-          y (merged-sound 0 [] c x (additive 0 [] deg limit c x j .0) s (e .0)) ∙ omega (arith, adds c x o s)
-      go false j y z = omega (arith, z)
-
-  columns-sum : (g : Lookup → ℕ) → ((a b : Lookup) → on-one-bus a b ≡ true → Aligned a → g (merged a b) ≡ g a + g b) → ((k : ℕ) (x : Lookup) → g (numbered k x) ≡ g x)
+  columns-sum : (g : Lookup → ℕ) → ((a b : Lookup) → on-one-bus a b ≡ true → Aligned a → Aligned b → g (merged a b) ≡ g a + g b)
+      → ((k : ℕ) (x : Lookup) → g (numbered k x) ≡ g x)
       → (limit : ℕ) → sum-of g (columns limit nodes l) ≡ sum-of g (lookups-of l)
-  unfolding columns packed
-  columns-sum g adds free limit = renumbered-sum g free 0 (filled (node-degrees 0 nodes) limit (in-order l)) ∙ all (in-order l) order-sound ∙ order-sum l g
-    where
-      all : (ls : List Lookup) → Each Aligned ls → sum-of g (filled (node-degrees 0 nodes) limit ls) ≡ sum-of g ls
-      all [] e = unfold filled in refl
-      all (x ∷ ls) e = unfold filled in unfold sum-of in fill-sum g adds (node-degrees 0 nodes) limit x ls (e .0) (e .1)
+  unfolding columns
+  columns-sum g adds free limit = packed-sum-each Aligned merged-sound g adds free l at-sound (node-degrees 0 nodes) limit
 
   -- of the lookups on one bus, exclusives too
   abbrev pub on : List ℕ → Lookup → Bool
@@ -284,7 +245,9 @@ module _ (m : Limits) (nodes : List ℕ) (l : Lookups) (f : Formed m nodes l) wh
     where
       go : {n : ℕ} (b : Bool) → sum-of h (flatMap (record-entries p vals) (keep f ls)) ≡ n
           → sum-of h (flatMap (record-entries p vals) (cond b (x ∷ keep f ls) (keep f ls))) ≡ cond b (sum-of h (record-entries p vals x)) 0 + n
-      go true e = sum-append h (record-entries p vals x) (flatMap (record-entries p vals) (keep f ls)) ∙ ap (λ (n : ℕ). sum-of h (record-entries p vals x) + n) e
+      go true e =
+          sum-append h (record-entries p vals x) (flatMap (record-entries p vals) (keep f ls))
+          ∙ ap (λ (n : ℕ). sum-of h (record-entries p vals x) + n) e
       go false e = e ∙ omega arith
 
   -- every bus has the same entries for every row
@@ -295,7 +258,8 @@ module _ (m : Limits) (nodes : List ℕ) (l : Lookups) (f : Formed m nodes l) wh
       ∙ columns-sum (λ (x : Lookup). cond (on bus x) (sum-of h (record-entries p vals x)) 0) adds free limit
       ∙ sym (kept-sum (on bus) h p vals (lookups-of l))
     where
-      free : (k : ℕ) (x : Lookup) → cond (on bus (numbered k x)) (sum-of h (record-entries p vals (numbered k x))) 0 ≡ cond (on bus x) (sum-of h (record-entries p vals x)) 0
+      free : (k : ℕ) (x : Lookup)
+          → cond (on bus (numbered k x)) (sum-of h (record-entries p vals (numbered k x))) 0 ≡ cond (on bus x) (sum-of h (record-entries p vals x)) 0
       free k x = unfold record-entries in unfold record-counts in refl
 
       own : (a b : Bool) (s t : List ℕ) → a ≡ false → b ≡ false → s ≡ t → (not b && same-list bus t) ≡ (not a && same-list bus s)
@@ -305,12 +269,11 @@ module _ (m : Limits) (nodes : List ℕ) (l : Lookups) (f : Formed m nodes l) wh
       part true x y z e = e
       part false x y z e = refl
 
-      adds : (a b : Lookup) → on-one-bus a b ≡ true → Aligned a
+      adds : (a b : Lookup) → on-one-bus a b ≡ true → Aligned a → Aligned b
           → cond (on bus (merged a b)) (sum-of h (record-entries p vals (merged a b))) 0 ≡ cond (on bus a) (sum-of h (record-entries p vals a)) 0 + cond (on bus b) (sum-of h (record-entries p vals b)) 0
-      adds a b o s =
+      adds a b o s _ =
           let q = on-one a b o in
-          let ea : a .exclusive ≡ false = or-right-false (a .local) (a .exclusive) (q .0) in
-          let eb : b .exclusive ≡ false = or-right-false (b .local) (b .exclusive) (q .1) in
+          let (ea, eb) = additive-both a b o in
           let same-on : on bus b ≡ on bus a = own (a .local) (b .local) (a .name) (b .name) (or-left-false (a .local) (a .exclusive) (q .0)) (or-left-false (b .local) (b .exclusive) (q .1)) (q .2) in
           part (on bus a) (sum-of h (record-entries p vals a)) (sum-of h (record-entries p vals b)) (sum-of h (record-entries p vals (merged a b)))
           (ap (sum-of h) (merged-entries p vals a b ea eb s) ∙ sum-append h (record-entries p vals a) (record-entries p vals b))

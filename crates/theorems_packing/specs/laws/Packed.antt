@@ -1,10 +1,8 @@
 -- A packed table says the same to balance as the table that it was packed from.
 use mathlib.Core.Path.{_≡_, refl, sym, ap, ap₂, _∙_, subst}
-use mathlib.Core.Option.{none}
-use mathlib.Core.Logic.{_↔_}
 use mathlib.Core.Bool.{Bool, true, false, cond, not, _&&_, _||_}
-use mathlib.Core.List.{List, [], _∷_, _++_, append-nil, map, flatMap}
-use Prim.Native.Nat.{ℕ, suc, _+_, _<_}
+use mathlib.Core.List.{List, [], _∷_, _++_, map, flatMap}
+use Prim.Native.Nat.{ℕ, _+_}
 use native.Mathlib.Nat.{suc-inj}
 use native.Mathlib.Omega.{arith}
 use lib.ListN.{length, getD}
@@ -15,26 +13,28 @@ use Rattle.lists.specs.laws.Tab.{tab-none, tab-cons}
 use Rattle.lists.specs.laws.Sums.{total-cong, total-zero, total-add}
 use Rattle.field.specs.Word.{mulM}
 use Rattle.expression.specs.Words.{word}
+use Rattle.expression.specs.Node.{node-count}
 use Rattle.expression.specs.Window.{Traces}
 use Rattle.expression.specs.Values.{row-values}
 use Rattle.lookup.specs.Lookups.{Lookups, Lookup, lookups-of}
+use Rattle.lookup.specs.Requires.{Fitting, Agreeing}
 use Rattle.lookup.specs.Table.{Table}
 use Rattle.logup.specs.Ledger.{Entry}
 use Rattle.lookup_buses.specs.Order.{keep}
-use Rattle.lookup_buses.specs.laws.Order.{keep-append, keep-same}
-use Rattle.packing.specs.Packing.{passes, additive-on, numbered, renumbered, packed}
+use Rattle.packing.specs.Packing.{passes, additive-on, numbered, packed}
 use Rattle.packing.specs.laws.Keeps.{packing-keeps}
 use Rattle.packing.specs.PackSameBus.{columns}
 use Rattle.lookup_degree.specs.Degree.{node-degrees}
 use Rattle.theorems_packing.specs.inner.Entries.{Aligned}
-use Rattle.theorems_packing.specs.laws.Back.{Each}
-use Rattle.theorems_packing.specs.laws.Entries.{lookups-sound, columns-sound, columns-back}
-use Rattle.balance.specs.Groups.{Member, local}
+use Rattle.theorems_packing.specs.laws.Each.{Each}
+use Rattle.theorems_packing.specs.laws.Same.{count-tally}
+use Rattle.theorems_packing.specs.laws.Back.{columns-back}
+use Rattle.theorems_packing.specs.laws.Passed.{passed-on}
+use Rattle.theorems_packing.specs.laws.Entries.{lookups-sound, columns-sound}
+use Rattle.balance.specs.Groups.{Member, local, members-of}
 use Rattle.balance.specs.Entries.{count-of, entry-of, row-entries, member-entries, entries}
-use Rattle.balance.specs.Balance.{balance}
 use Rattle.balance.specs.laws.Sums.{tally, tally-append, tally-joined}
-use Rattle.theorems_packing.specs.Same.{on, members-of, Same, AllSame, SlotsSuffice, IsPacked, AllPacked}
-use Rattle.theorems_packing.specs.laws.Same.{same-accepted}
+use Rattle.theorems_packing.specs.Same.{on, Same, AllSame, IsPacked, AllPacked}
 
 -- the additive lookups of a bus
 record Additive (x : Lookup) : Type 0 where
@@ -46,7 +46,8 @@ unfolding keep
 kept-additive bus [] a = tt
 kept-additive bus (x ∷ xs) a = go (x .local) (x .exclusive) refl (same-list bus (x .name)) (kept-additive bus xs (a .1))
   where
-    go : (l e : Bool) → x .exclusive ≡ e → (s : Bool) → Each Additive (keep (additive-on bus) xs) → Each Additive (cond (not (l || e) && s) (x ∷ keep (additive-on bus) xs) (keep (additive-on bus) xs))
+    go : (l e : Bool) → x .exclusive ≡ e → (s : Bool) → Each Additive (keep (additive-on bus) xs)
+        → Each Additive (cond (not (l || e) && s) (x ∷ keep (additive-on bus) xs) (keep (additive-on bus) xs))
     go true e q s ih = ih
     go false true q s ih = ih
     go false false q true ih = (record { plain = q; aligned = sym (a .0 .aligned) }, ih)
@@ -72,7 +73,8 @@ module _ (p : ℕ) (vals : List ℕ) where
   pairs-append [] us (m ∷ ms) ns e = absurd (omega arith)
   pairs-append (t ∷ ts) us [] ns e = absurd (omega arith)
   pairs-append (t ∷ ts) us (m ∷ ms) ns e =
-      pairs-cons t (ts ++ us) m (ms ++ ns) ∙ ap (λ (x : List Entry). pair t m ∷ x) (pairs-append ts us ms ns (suc-inj e)) ∙ ap (λ (x : List Entry). x ++ pairs us ns) (sym (pairs-cons t ts m ms))
+      pairs-cons t (ts ++ us) m (ms ++ ns) ∙ ap (λ (x : List Entry). pair t m ∷ x) (pairs-append ts us ms ns (suc-inj e))
+      ∙ ap (λ (x : List Entry). x ++ pairs us ns) (sym (pairs-cons t ts m ms))
 
   row-pairs : (x : Lookup) → x .exclusive ≡ false → row-entries p x vals ≡ pairs (x .tuples) (x .multiplicities)
   unfolding row-entries entry-of count-of pairs
@@ -100,7 +102,8 @@ module _ (p : ℕ) (t : Table) where
   abbrev enters : Lookup → List Entry
   enters x = member-entries p (at x)
 
-  by-rows : (xs : List Lookup) (l : List ℕ) → tally (flatMap enters xs) l ≡ total (λ r. tally (flatMap (λ (x : Lookup). row-entries p x (vals r)) xs) l) height
+  by-rows : (xs : List Lookup) (l : List ℕ)
+      → tally (flatMap enters xs) l ≡ total (λ r. tally (flatMap (λ (x : Lookup). row-entries p x (vals r)) xs) l) height
   unfolding flatMap member-entries
   by-rows [] l = unfold tally in sym (total-zero height)
   by-rows (x ∷ xs) l =
@@ -112,7 +115,8 @@ module _ (p : ℕ) (t : Table) where
       (λ r h. sym (tally-append (row-entries p x (vals r)) (flatMap (λ (y : Lookup). row-entries p y (vals r)) xs) l))
 
   -- additive lookups with the same tuples and multiplicities
-  additive-same : (xs ys : List Lookup) → Each Additive xs → Each Additive ys → flatMap (λ (x : Lookup). x .tuples) xs ≡ flatMap (λ (x : Lookup). x .tuples) ys
+  additive-same : (xs ys : List Lookup) → Each Additive xs → Each Additive ys
+      → flatMap (λ (x : Lookup). x .tuples) xs ≡ flatMap (λ (x : Lookup). x .tuples) ys
       → flatMap (λ (x : Lookup). x .multiplicities) xs ≡ flatMap (λ (x : Lookup). x .multiplicities) ys → (l : List ℕ) → tally (flatMap enters xs) l ≡ tally (flatMap enters ys) l
   additive-same xs ys a b et em l =
       by-rows xs l
@@ -126,7 +130,8 @@ unfolding keep
 keep-map f g [] = refl
 keep-map {A} {B} f g (x ∷ xs) = go (f (g x)) (keep-map f g xs)
   where
-    go : (b : Bool) → keep f (map g xs) ≡ map g (keep (λ x. f (g x)) xs) → cond b (g x ∷ keep f (map g xs)) (keep f (map g xs)) ≡ map g (cond b (x ∷ keep (λ x. f (g x)) xs) (keep (λ x. f (g x)) xs))
+    go : (b : Bool) → keep f (map g xs) ≡ map g (keep (λ x. f (g x)) xs)
+        → cond b (g x ∷ keep f (map g xs)) (keep f (map g xs)) ≡ map g (cond b (x ∷ keep (λ x. f (g x)) xs) (keep (λ x. f (g x)) xs))
     go true e = ap (λ (l : List B). g x ∷ l) e
     go false e = e
 
@@ -142,11 +147,16 @@ flat-map p t (x ∷ xs) = ap (λ (l : List Entry). enters p t x ++ l) (flat-map 
 abbrev on-bus : List ℕ → Lookup → Bool
 on-bus bus x = not (x .local) && same-list bus (x .name)
 
-own-locals : (p : ℕ) (t : Table) → map (member-entries p) (keep local (members-of t)) ≡ map (enters p t) (keep (λ (x : Lookup). x .local) (lookups-of (t .lookups)))
-own-locals p t = ap (map (member-entries p)) (keep-map local (at p t) (lookups-of (t .lookups))) ∙ map-map p t (keep (λ (x : Lookup). x .local) (lookups-of (t .lookups)))
+own-locals : (p : ℕ) (t : Table)
+    → map (member-entries p) (keep local (members-of t)) ≡ map (enters p t) (keep (λ (x : Lookup). x .local) (lookups-of (t .lookups)))
+own-locals p t =
+    ap (map (member-entries p)) (keep-map local (at p t) (lookups-of (t .lookups)))
+    ∙ map-map p t (keep (λ (x : Lookup). x .local) (lookups-of (t .lookups)))
 
-own-bus : (p : ℕ) (bus : List ℕ) (t : Table) → entries p (keep (on bus) (members-of t)) ≡ flatMap (enters p t) (keep (on-bus bus) (lookups-of (t .lookups)))
-own-bus p bus t = ap (entries p) (keep-map (on bus) (at p t) (lookups-of (t .lookups))) ∙ flat-map p t (keep (on-bus bus) (lookups-of (t .lookups)))
+own-bus : (p : ℕ) (bus : List ℕ) (t : Table)
+    → entries p (keep (on bus) (members-of t)) ≡ flatMap (enters p t) (keep (on-bus bus) (lookups-of (t .lookups)))
+own-bus p bus t =
+    ap (entries p) (keep-map (on bus) (at p t) (lookups-of (t .lookups))) ∙ flat-map p t (keep (on-bus bus) (lookups-of (t .lookups)))
 
 -- a lookup enters the same in the other table, and under another number
 module _ (p : ℕ) (t : Table) where
@@ -161,32 +171,6 @@ module _ (p : ℕ) (t : Table) where
   enters-numbered : (k : ℕ) (x : Lookup) → enters p t (numbered k x) ≡ enters p t x
   unfolding member-entries row-entries entry-of count-of
   enters-numbered k x = refl
-
-  -- renumbering changes nothing
-  map-numbered : (f : Lookup → Bool) → ((k : ℕ) (x : Lookup) → f (numbered k x) ≡ f x) → (k : ℕ) (xs : List Lookup) → map (enters p t) (keep f (renumbered k xs)) ≡ map (enters p t) (keep f xs)
-  unfolding keep renumbered
-  map-numbered f h k [] = refl
-  map-numbered f h k (x ∷ xs) = ap (λ (b : Bool). map (enters p t) (cond b (numbered k x ∷ keep f (renumbered (suc k) xs)) (keep f (renumbered (suc k) xs)))) (h k x) ∙ go (f x) (map-numbered f h (suc k) xs)
-    where
-      go : (b : Bool) → map (enters p t) (keep f (renumbered (suc k) xs)) ≡ map (enters p t) (keep f xs)
-          → map (enters p t) (cond b (numbered k x ∷ keep f (renumbered (suc k) xs)) (keep f (renumbered (suc k) xs))) ≡ map (enters p t) (cond b (x ∷ keep f xs) (keep f xs))
-      go true e = ap₂ (λ (a : List Entry) (l : List (List Entry)). a ∷ l) (enters-numbered k x) e
-      go false e = e
-
-  -- those that packing passes on stay, in order
-  module _ (deg : ℕ → ℕ) (limit : ℕ) where
-    passed-on : (f : Lookup → Bool) → ((k : ℕ) (x : Lookup) → f (numbered k x) ≡ f x) → ((x : Lookup) → f x ≡ true → passes x ≡ true)
-        → map (enters p t) (keep f (packed deg limit (t .lookups))) ≡ map (enters p t) (keep f (lookups-of (t .lookups)))
-    passed-on f h g =
-        let o = packing-keeps deg limit (t .lookups) .others in
-        let ls : List Lookup = lookups-of (t .lookups) in
-        let c : keep f (o .0) ≡ [] = sym (keep-same f passes g (o .0)) ∙ ap (keep f) (o .2) ∙ none f in
-        ap (λ (xs : List Lookup). map (enters p t) (keep f xs)) (o .1)
-        ∙ map-numbered f h 0 (keep passes ls ++ o .0)
-        ∙ ap (map (enters p t)) (keep-append f (keep passes ls) (o .0) ∙ ap₂ (λ (x y : List Lookup). x ++ y) (keep-same f passes g ls) c ∙ append-nil (keep f ls))
-      where
-        none : (f : Lookup → Bool) → keep f [] ≡ []
-        none f = unfold keep in refl
 
 -- a bus: its exclusives and its additive lookups
 abbrev chosen-on : List ℕ → Lookup → Bool
@@ -227,8 +211,12 @@ module _ (p : ℕ) (t : Table) (l : List ℕ) where
       go : (a e s : Bool) → S A ≡ S B + S C
           → S (cond (not a && s) (x ∷ A) A) ≡ S (cond ((not a && s) && e) (x ∷ B) B) + S (cond (not (a || e) && s) (x ∷ C) C)
       go true e s ih = ih
-      go false true true ih = more A ∙ (let k : tally (enters p t x) l + S A ≡ (tally (enters p t x) l + S B) + S C = omega (arith, ih) in k) ∙ ap (λ (n : ℕ). n + S C) (sym (more B))
-      go false false true ih = more A ∙ (let k : tally (enters p t x) l + S A ≡ S B + (tally (enters p t x) l + S C) = omega (arith, ih) in k) ∙ ap (λ (n : ℕ). S B + n) (sym (more C))
+      go false true true ih =
+          more A ∙ (let k : tally (enters p t x) l + S A ≡ (tally (enters p t x) l + S B) + S C = omega (arith, ih) in k)
+          ∙ ap (λ (n : ℕ). n + S C) (sym (more B))
+      go false false true ih =
+          more A ∙ (let k : tally (enters p t x) l + S A ≡ S B + (tally (enters p t x) l + S C) = omega (arith, ih) in k)
+          ∙ ap (λ (n : ℕ). S B + n) (sym (more C))
       go false true false ih = ih
       go false false false ih = ih
 
@@ -242,25 +230,36 @@ opened : (limit : ℕ) (nodes : List ℕ) (l : Lookups) → columns limit nodes 
 unfolding columns
 opened limit nodes l = refl
 
-sound-packed : {t u : Table} (k : IsPacked t u) → Each Aligned (packed (node-degrees 0 (t .nodes)) (k .limit) (t .lookups))
-sound-packed {t} k = subst (Each Aligned) (opened (k .limit) (t .nodes) (t .lookups)) (columns-sound (k .limits) (t .nodes) (t .lookups) (k .formed) (k .limit))
+-- what the lists of a table have that passed refusals 1 and 5
+pub record Listed (t : Table) : Type 0 where
+  pub fitting : Fitting (t .lookups)
+  pub agreeing : Agreeing (node-count (t .nodes)) (t .lookups)
+
+sound-packed : {t : Table} → Listed t → (limit : ℕ) → Each Aligned (packed (node-degrees 0 (t .nodes)) limit (t .lookups))
+sound-packed {t} f limit =
+    subst (Each Aligned) (opened limit (t .nodes) (t .lookups)) (columns-sound (t .nodes) (t .lookups) (f .fitting) (f .agreeing) limit)
 
 packs : {t u : Table} (k : IsPacked t u) → Packs (node-degrees 0 (t .nodes)) (k .limit) t u
 packs {t} {u} k =
     record {
       traces = ap (λ (x : Table). x .traces) (k .packed);
       nodes = ap (λ (x : Table). x .nodes) (k .packed);
-      lookups = ap (λ (x : Table). lookups-of (x .lookups)) (k .packed) ∙ columns-back (k .limits) (t .nodes) (t .lookups) (k .formed) (k .limit) ∙ opened (k .limit) (t .nodes) (t .lookups);
+      lookups =
+          ap (λ (x : Table). lookups-of (x .lookups)) (k .packed) ∙ columns-back (k .limit) (t .nodes) (t .lookups)
+          ∙ opened (k .limit) (t .nodes) (t .lookups);
     }
 
 -- The packed table says the same.
-packed-same : (p : ℕ) (deg : ℕ → ℕ) (limit : ℕ) (t u : Table) → Each Aligned (lookups-of (t .lookups)) → Each Aligned (packed deg limit (t .lookups)) → Packs deg limit t u → Same p t u
+packed-same : (p : ℕ) (deg : ℕ → ℕ) (limit : ℕ) (t u : Table) → Each Aligned (lookups-of (t .lookups))
+    → Each Aligned (packed deg limit (t .lookups)) → Packs deg limit t u → Same p t u
 packed-same p deg limit t u own-sound packed-sound k =
     record {
       locals =
-          own-locals p t ∙ sym (passed-on p t deg limit (λ (x : Lookup). x .local) (λ k x. refl) is-local)
+          own-locals p t
+          ∙ sym (passed-on (enters p t) (enters-numbered p t) (λ (x : Lookup). x .local) (λ k x. refl) is-local deg limit (t .lookups))
           ∙ sym (own-locals p u ∙ map-in p t u (k .traces) (k .nodes) (keep (λ (x : Lookup). x .local) (lookups-of (u .lookups))) ∙ ap (λ (xs : List Lookup). map (enters p t) (keep (λ (x : Lookup). x .local) xs)) (k .lookups));
-      buses = λ bus l. before bus l ∙ sym (after bus l);
+      buses = λ bus l. count-tally (entries p (keep (on bus) (members-of t))) l ∙ before bus l
+          ∙ sym (count-tally (entries p (keep (on bus) (members-of u))) l ∙ after bus l);
     }
   where
     ls : List Lookup
@@ -285,30 +284,27 @@ packed-same p deg limit t u own-sound packed-sound k =
     S l xs = sums l (map (enters p t) xs)
 
     -- on the bus of t, and of the packed table
-    before : (bus l : List ℕ) → tally (entries p (keep (on bus) (members-of t))) l ≡ S l (keep (chosen-on bus) ps) + S l (keep (additive-on bus) ps)
+    before : (bus l : List ℕ)
+        → tally (entries p (keep (on bus) (members-of t))) l ≡ S l (keep (chosen-on bus) ps) + S l (keep (additive-on bus) ps)
     before bus l =
         ap (λ (es : List Entry). tally es l) (own-bus p bus t) ∙ flat-sums p t l (keep (on-bus bus) ls) ∙ apart p t l bus ls
-        ∙ ap₂ _+_ (ap (sums l) (sym (passed-on p t deg limit (chosen-on bus) (λ k x. refl) (is-chosen bus))))
+        ∙ ap₂ _+_ (ap (sums l) (sym (passed-on (enters p t) (enters-numbered p t) (chosen-on bus) (λ k x. refl) (is-chosen bus) deg limit (t .lookups))))
         (sym (flat-sums p t l (keep (additive-on bus) ls))
         ∙ additive-same p t (keep (additive-on bus) ls) (keep (additive-on bus) ps) (kept-additive bus ls own-sound) (kept-additive bus ps packed-sound)
         (sym (packing-keeps deg limit (t .lookups) .tuples bus)) (sym (packing-keeps deg limit (t .lookups) .multiplicities bus)) l
         ∙ flat-sums p t l (keep (additive-on bus) ps))
 
-    after : (bus l : List ℕ) → tally (entries p (keep (on bus) (members-of u))) l ≡ S l (keep (chosen-on bus) ps) + S l (keep (additive-on bus) ps)
+    after : (bus l : List ℕ)
+        → tally (entries p (keep (on bus) (members-of u))) l ≡ S l (keep (chosen-on bus) ps) + S l (keep (additive-on bus) ps)
     after bus l =
         ap (λ (es : List Entry). tally es l) (own-bus p bus u) ∙ flat-sums p u l (keep (on-bus bus) (lookups-of (u .lookups)))
         ∙ ap (sums l) (map-in p t u (k .traces) (k .nodes) (keep (on-bus bus) (lookups-of (u .lookups))))
         ∙ ap (λ (xs : List Lookup). S l (keep (on-bus bus) xs)) (k .lookups)
         ∙ apart p t l bus ps
 
-all-same : (p : ℕ) (ts us : List Table) → AllPacked ts us → AllSame p ts us
-all-same p [] [] k = tt
-all-same p [] (u ∷ us) k = absurd k
-all-same p (t ∷ ts) [] k = absurd k
-all-same p (t ∷ ts) (u ∷ us) k =
-    (packed-same p (node-degrees 0 (t .nodes)) (k .0 .limit) t u (lookups-sound (k .0 .limits) (t .nodes) (t .lookups) (k .0 .formed)) (sound-packed (k .0)) (packs (k .0)), all-same p ts us (k .1))
-
--- With room for both, balance accepts the packed tables exactly where it accepts the tables.
-pub packing-accepted : (p room room′ : ℕ) → 0 < p → (ts us : List Table) → AllPacked ts us → SlotsSuffice p room ts → SlotsSuffice p room′ us
-    → (balance p room ts .refusal ≡ none) ↔ (balance p room′ us .refusal ≡ none)
-packing-accepted p room room′ z ts us k r r′ = same-accepted p room room′ z ts us (all-same p ts us k) r r′
+pub all-same : (p : ℕ) (ts us : List Table) → Each Listed ts → AllPacked ts us → AllSame p ts us
+all-same p [] [] f k = tt
+all-same p [] (u ∷ us) f k = absurd k
+all-same p (t ∷ ts) [] f k = absurd k
+all-same p (t ∷ ts) (u ∷ us) f k =
+    (packed-same p (node-degrees 0 (t .nodes)) (k .0 .limit) t u (lookups-sound (t .nodes) (t .lookups) (f .0 .fitting) (f .0 .agreeing)) (sound-packed (f .0) (k .0 .limit)) (packs (k .0)), all-same p ts us (f .1) (k .1))

@@ -11,7 +11,7 @@ use lib.Dec.{T, eqb, leb, ltb, le→leb}
 use lib.ListN.{length, length-append}
 use borrow.Author.Tests.{le-ltb}
 use Rattle.lists.specs.Count.{total, joined}
-use Rattle.lists.specs.laws.Count.{last-or-below, some-of-none, joined-next, of-true, true-of, false-of, eqb-true, eqb-false, eq-of-eqb}
+use Rattle.lists.specs.laws.Count.{last-or-below, some-of-none, first-all, joined-next, of-true, true-of, false-of, eqb-true, eqb-false, eq-of-eqb}
 use Rattle.field.specs.Element.{one4, is-zero, sub4}
 use Rattle.field.specs.Modulus.{Certificate}
 use Rattle.field.specs.laws.Extension.{h}
@@ -34,7 +34,6 @@ use Rattle.theorems_soundness.specs.laws.Elements.{element-sum, sub-zero
 use Rattle.theorems_soundness.specs.laws.Columns.{ones, Lawful}
 use Rattle.theorems_soundness.specs.laws.Terminals.{place-at-pair}
 use Rattle.theorems_soundness.specs.laws.Entered.{Passed, entered, Ledgered, ledgered}
-use Rattle.theorems_soundness.specs.laws.Vanishing.{first-all}
 use Rattle.theorems_soundness.specs.laws.Words.{and-of, or-right, all-below-of, joined-each, append-each, element-each}
 
 -- a chosen branch is one of the n
@@ -141,7 +140,7 @@ module _ (m : Limits) (p w : ℕ) (C : Certificate p w) (t : Table) (alpha beta 
   unfolding branches flag
   lawful-here r i lr li ex =
       record {
-        low = λ k l. flags .binary r i k lr li ex l;
+        low = λ k l. omega (arith, flags .binary r i k lr li ex l);
         few = ones-few (here r i) (branches (here r i)) (λ j k lj lk. flags .one r i j k lr li ex lj lk);
       }
 

@@ -15,8 +15,8 @@ use Rattle.field.specs.Word.{mulM}
 use Rattle.field.specs.laws.Word.{mulM-one, mulM-zero}
 use Rattle.field.specs.Element.{one4, is-zero}
 use Rattle.field.specs.Modulus.{Modulus, Certificate}
-use Rattle.field.specs.laws.Extension.{K, h}
-use Rattle.field.specs.laws.Homomorphism.{KEl, el}
+use Rattle.field.specs.Extension.{K, KEl, el}
+use Rattle.field.specs.laws.Extension.{h}
 use Rattle.theorems_logup.specs.Inverse.{inverse, minus}
 use Rattle.theorems_logup.specs.Sums.{sum}
 use Rattle.theorems_logup.specs.Tables as Tables
@@ -26,7 +26,7 @@ use Rattle.lookup.specs.Lookups.{exclusive, tuple-count, multiplicity-node}
 use Rattle.logup.specs.Tuple.{tuple, denominator, quotient4}
 use Rattle.logup.specs.Column.{Place, branches, multiplicity, flag, chosen, denom, used-denom, additive-fraction, additive-fault, branch-fraction, branch-fault, exclusive-fraction, exclusive-fault, fraction, fault}
 use Rattle.logup.specs.Ledger.{Entry, Element, count, entry, lookup-entries}
-use Rattle.theorems_soundness.specs.laws.Setting.{into, N}
+use Rattle.theorems_soundness.specs.Entries.{into, N}
 use Rattle.theorems_soundness.specs.laws.Elements.{element-lift, element-sub, element-sum, element-quotient, quotient-is, nonzero}
 use Rattle.theorems_soundness.specs.laws.Sums.{share, share-none, sum-one, sum-next, sum-joined}
 use Rattle.theorems_soundness.specs.laws.Tuples.{denominator-is}

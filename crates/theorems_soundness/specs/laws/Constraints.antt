@@ -32,6 +32,7 @@ use Rattle.logup.specs.Rows.{place, fraction-at, row-sum, accumulator, row-word
 use Rattle.logup.specs.Constraints.{trace-sizes, trace-words, constraints-refusal, verdict, Regular, IsGenerated}
 use Rattle.logup.specs.Generation.{Outcome, terminal, written, rows-outcome, entry-outcome, generation, accepts, terminal-words}
 use Rattle.logup.specs.Ledger.{Element}
+use Rattle.theorems_soundness.specs.Constraints.{GeneratedPasses, OnlyGeneratedPasses, ExactlyTheGeneratedPass}
 use Rattle.theorems_soundness.specs.laws.Words.{and-of, or-right, all-below-of, append-each, joined-each, element-each}
 use Rattle.theorems_soundness.specs.laws.Elements.{element-sum}
 use Rattle.theorems_soundness.specs.laws.Columns.{fraction-element}
@@ -94,18 +95,18 @@ module _ (m : Limits) (p w : ℕ) (M : Modulus p) (C : Certificate p w) (t : Tab
 
   module _ (regular : (r i : ℕ) → r < height → i < n → Regular p w (place p w (t .lookups) challenges values r i)) where
     -- the constraints accept no other trace and terminal than the generated ones
-    pub only-generated-passes : verdict m p w t challenges width words (some e) ≡ none → IsGenerated p w (t .lookups) challenges values height width words e
+    generated-of-verdict : verdict m p w t challenges width words (some e) ≡ none → IsGenerated p w (t .lookups) challenges values height width words e
     unfolding verdict
-    only-generated-passes v =
+    generated-of-verdict v =
         let (tests, run) = or-else-none v in
         let k : Tested = tested tests in
         exactly-generated p w M C (t .lookups) challenges values height width words e (k .words-small) (k .terminal-small) (k .rows) regular .0 run
 
     -- and they accept these, where the tests of the entry point do
-    pub generated-passes : constraints-refusal m p w t challenges width words (some e) ≡ none → IsGenerated p w (t .lookups) challenges values height width words e
+    verdict-of-generated : constraints-refusal m p w t challenges width words (some e) ≡ none → IsGenerated p w (t .lookups) challenges values height width words e
         → verdict m p w t challenges width words (some e) ≡ none
     unfolding verdict
-    generated-passes tests g =
+    verdict-of-generated tests g =
         let k : Tested = tested tests in
         ap₂ or-else tests
         (exactly-generated p w M C (t .lookups) challenges values height width words e (k .words-small) (k .terminal-small) (k .rows) regular .1 g)
@@ -210,24 +211,24 @@ module _ (m : Limits) (p w : ℕ) (M : Modulus p) (C : Certificate p w) (t : Tab
   module _ (regular : (r i : ℕ) → r < rows → i < k → Regular p w (place p w (t .lookups) challenges vs r i)) where
     passes : verdict m p w t challenges (k + 1) whole (some last) ≡ none
     passes =
-        generated-passes m p w M C t challenges (k + 1) whole last (last-element .four) regular tests-pass
+        verdict-of-generated m p w M C t challenges (k + 1) whole last (last-element .four) regular tests-pass
         (trace-generated p w C (t .lookups) challenges vs rows)
 
     only : (words e : List ℕ) → length e ≡ 4 → verdict m p w t challenges (k + 1) words (some e) ≡ none → (words ≡ whole) × (e ≡ last)
     unfolding verdict
     only words e four v =
         let g : IsGenerated p w (t .lookups) challenges vs rows (k + 1) words e =
-        only-generated-passes m p w M C t challenges (k + 1) words e four regular v in (
+        generated-of-verdict m p w M C t challenges (k + 1) words e four regular v in (
           generated-is-trace p w C (t .lookups) challenges vs rows words e
               (tested m p w M C t challenges (k + 1) words e four (or-else-none v .0) .size ∙ omega arith) g,
           g .last,
         )
 
     -- "exactly the generated trace and terminal pass": the used part of generation's buffer, and its answer
-    pub exactly-the-generated-pass : (words e : List ℕ) → length e ≡ 4
+    exactly : (words e : List ℕ) → length e ≡ 4
         → (verdict m p w t challenges (k + 1) words (some e) ≡ none)
         ↔ ((words ≡ take (used ls rows) (generation m p w t challenges buffer .buffer)) × (terminal e ≡ generation m p w t challenges buffer .answer))
-    exactly-the-generated-pass words e four = (
+    exactly words e four = (
       λ v. let q = only words e four v in (q .0 ∙ sym buffer-is, ap terminal (q .1) ∙ sym answer-is),
       λ q.
           ap₂ (λ (a b : List ℕ). verdict m p w t challenges (k + 1) a (some b)) (q .0 ∙ buffer-is) (ap terminal-words (q .1 ∙ answer-is)) ∙ passes,
@@ -240,3 +241,14 @@ module _ (m : Limits) (p w : ℕ) (M : Modulus p) (C : Certificate p w) (t : Tab
         buffer-is =
             ap (λ (o : Outcome). take (used ls rows) (o .buffer)) outcome-is
             ∙ take-at whole (drop (used ls rows) buffer) (used ls rows) (trace-used p w C (t .lookups) challenges vs rows)
+
+-- for every prime and value of X⁴ that make a field
+module _ (m : Limits) (p w : ℕ) (M : Modulus p) (C : Certificate p w) where
+  pub generated-passes : GeneratedPasses m p w
+  generated-passes t challenges width words e four regular = verdict-of-generated m p w M C t challenges width words e four regular
+
+  pub only-generated-passes : OnlyGeneratedPasses m p w
+  only-generated-passes t challenges width words e four regular = generated-of-verdict m p w M C t challenges width words e four regular
+
+  pub exactly-the-generated-pass : ExactlyTheGeneratedPass m p w
+  exactly-the-generated-pass t challenges buffer accepted lookups regular = exactly m p w M C t challenges buffer accepted lookups regular

@@ -8,8 +8,9 @@ use Rattle.lists.specs.laws.Count.{of-true}
 use Rattle.field.specs.Element.{lift, zero4, add4, sub4, scale4, sum4, product4, inverse4, is-zero}
 use Rattle.field.specs.Modulus.{Modulus, Certificate}
 use Rattle.field.specs.laws.Ring.{mk}
-use Rattle.field.specs.laws.Extension.{K, h}
-use Rattle.field.specs.laws.Homomorphism.{KEl, el, four, el-add, el-sub, el-mul}
+use Rattle.field.specs.Extension.{K, KEl, el}
+use Rattle.field.specs.laws.Extension.{h}
+use Rattle.field.specs.laws.Homomorphism.{four, el-add, el-sub, el-mul}
 use Rattle.field.specs.laws.Zero.{zero-is-zero, zero-words}
 use Rattle.field.specs.laws.Element.{four-add4, four-sub4, four-scale4, four-sum4, word-add4, word-sub4, word-scale4, word-lift, word-sum4, scale4-is}
 use Rattle.field.specs.laws.Norm.{inverse4-ok, inverse4-zero}
@@ -19,7 +20,8 @@ use Rattle.theorems_logup.specs.inner.Products.{product-to}
 use Rattle.theorems_logup.specs.laws.Arithmetic.{inverse-zero, inverse-unique, eq-of-sub, sub-of-eq}
 use Rattle.logup.specs.Tuple.{quotient4}
 use Rattle.logup.specs.Ledger.{Element}
-use Rattle.theorems_soundness.specs.laws.Setting.{into, same-of-el}
+use Rattle.theorems_soundness.specs.Entries.{into}
+use Rattle.theorems_soundness.specs.laws.Setting.{same-of-el}
 
 module _ (p w : ℕ) (C : Certificate p w) where
   abbrev ⟦_⟧ : List ℕ → KEl p w C

@@ -1,127 +1,297 @@
--- The theorem of SPECIFICATION, section 9.3, at work: one entry against none. Its hypotheses are met, and it tells the two ledgers apart.
-use Prim.Native.Nat.{ℕ, zero, suc}
+-- The theorem of SPECIFICATION, section 9.3, at work: small tables meet its hypotheses, and those under which full sets exist.
+use Prim.Native.Nat.{ℕ, zero, suc, _/_, _<_, _≤_}
 use mathlib.Core.Path.{_≡_, refl, sym, ap, _∙_, subst}
-use mathlib.Core.Bool.{Bool}
-use mathlib.Core.List.{List, [], _∷_, List·Memᴰ, List·Memᴰ·head, List·Memᴰ·not-nil, List·Memᴰ·eq-of-singleton}
+use mathlib.Core.Logic.{_≢_, _↔_, ⊎-elim}
+use mathlib.Core.Bool.{Bool, true, _&&_, not}
+use mathlib.Core.List.{List, [], _∷_, List·Memᴰ, List·Memᴰ·head, List·Memᴰ·not-nil, List·Memᴰ·eq-of-singleton, List·Memᴰ·cases-cons}
 use native.Mathlib.Omega.{arith}
-use lib.Dec.{T, eqb}
-use lib.ListN.{length, replicate}
-use Rattle.algebra.specs.Power.{powM}
+use lib.Dec.{T, eqb, leb, leb→le, lit<, lit≤}
+use lib.ListN.{length}
 use Rattle.lists.specs.Same.{same-list}
 use Rattle.lists.specs.laws.Same.{same-list-eq}
-use Rattle.lists.specs.Count.{total, every, some-of, first, joined}
-use Rattle.lists.specs.laws.Count.{of-true, true-of, eq-of-eqb}
-use Rattle.lists.specs.laws.Tests.{chain, Passed, passed}
-use Rattle.field.specs.Word.{addM, negM, subM, mulM, inverse1}
-use Rattle.field.specs.Element.{at, lift, add4, sub4, mul4, scale4, power4, sum4, conjugate, conjugate2, norm2, norm, inverse4, is-zero, element}
+use Rattle.lists.specs.Count.{total, every, joined}
+use Rattle.lists.specs.laws.Count.{and-left, and-right, every-at, of-true, true-of, eq-of-eqb, eqb-true}
+use Rattle.field.specs.Element.{at, lift}
 use Rattle.field.specs.Modulus.{babybear, babybear-w}
-use Rattle.field.specs.laws.Extension.{babybear-certificate, babybear-modulus}
+use Rattle.field.specs.laws.Extension.{babybear-certificate}
 use Rattle.theorems_logup.specs.Distinct.{Distinct}
 use Rattle.theorems_logup.specs.Sets.{Pairing}
-use Rattle.expression.specs.Words.{all-below, all-within}
 use Rattle.expression.specs.Limits.{cabinet}
-use Rattle.expression.specs.Node.{decode, node}
-use Rattle.expression.specs.Window.{row-of, window}
-use Rattle.expression.specs.Values.{node-value, values, row-values}
-use Rattle.expression.specs.Degree.{node-degree, degrees}
-use Rattle.expression.specs.Tests.{traces-within, nodes-within, traces-fit, nodes-fit, traces-below, constants-below, nodes-known, degrees-low}
-use Rattle.lookup.specs.Lookups.{name-start, tuple-start, multiplicity-start, flag-start, element-start, tuple-width, multiplicity-node, flag-node, tuple-nodes}
+use Rattle.lookup.specs.Lookups.{exclusive, tuple-count, lookup-at, name-start, tuple-start, tuple-width}
 use Rattle.lookup.specs.Table.{Table}
-use Rattle.lookup.specs.Tests.{lookups-within, lookups-fit, sizes, words-below, known, lengths-agree, nodes-present, lists-agree, in-position, has-lookups, preprocessed-enough, rows-enough}
-use Rattle.logup.specs.Tuple.{tuple, combine, denominator, quotient4}
-use Rattle.logup.specs.Column.{branches, multiplicity, flag, chosen, denom, used-denom, additive-fraction, additive-fault, exclusive-fraction, exclusive-fault, fraction, fault}
-use Rattle.logup.specs.Rows.{fault-refusal, place, fraction-at, row-sum, accumulator, row-words, fault-at, row-fault, trace, first-fault, used}
-use Rattle.logup.specs.Generation.{entry-refusal, rows-outcome, entry-outcome, generation, accepts, terminal-words}
-use Rattle.logup.specs.Ledger.{has-ledger, Element, at-pair, count, lookup-entries, row-entries, entries, listed, met, tuples-met}
-use Rattle.logup.specs.laws.Cases.{additive, no-lookup}
-use Rattle.theorems_soundness.specs.Soundness.{FullSet, AllWide, AtEachPair, SameLedger, answer-at}
+use Rattle.logup.specs.Rows.{used}
+use Rattle.logup.specs.Generation.{accepts, terminal-words}
+use Rattle.logup.specs.Ledger.{Element, tuples-met}
+use Rattle.logup.specs.laws.Cases.{no-lookup}
+use Rattle.theorems_soundness.specs.Soundness.{FullSet, AllWide, OnBus, AcceptedAt, AgreeAt, AtEachPair, SameLedger}
+use Rattle.theorems_soundness.specs.Lawful.{flag-at, LawfulFlags}
+use Rattle.theorems_soundness.specs.FullSets.{LongEnough}
 use Rattle.theorems_soundness.specs.laws.Elements.{element-lift}
-use Rattle.theorems_soundness.specs.laws.Soundness.{balanced}
+use Rattle.theorems_soundness.specs.laws.Soundness.{logup-soundness}
+use Rattle.theorems_soundness.specs.laws.FullSets.{cabinet-full-set-exists}
+use Rattle.theorems_soundness.specs.laws.Cases.{two-columns, two-branches, m-bus, buffers, forwards, backwards, single, choosing, choosing-back, lawful-on, answer-to, agree?, order-holds, single-holds, branch-holds}
 
--- row 3 once, with multiplicity 1; and a table without lookups
-abbrev entered : Table
-entered = additive 1 (3 ∷ [])
+columns-on-bus : (main : List ℕ) → OnBus m-bus (two-columns main)
+unfolding lookup-at name-start total
+columns-on-bus main zero l = (refl, refl)
+columns-on-bus main (suc i) l = absurd (omega arith)
 
--- alpha 5, beta 7
-abbrev pair : Pairing (List ℕ)
-pair = record { beta = lift 7; alphas = lift 5 ∷ [] }
+columns-wide : (main : List ℕ) → AllWide 2 (two-columns main)
+unfolding tuple-width tuple-start total
+columns-wide main zero zero l k = refl
+columns-wide main zero (suc k) l q = absurd (omega arith)
+columns-wide main (suc i) k l q = absurd (omega arith)
 
-abbrev buffers : List ℕ → List ℕ → List ℕ
-buffers a b = replicate 8 7777
+branches-on-bus : (main : List ℕ) → OnBus m-bus (two-branches main)
+unfolding lookup-at name-start total
+branches-on-bus main zero l = (refl, refl)
+branches-on-bus main (suc i) l = absurd (omega arith)
 
--- what is computed: one tuple is met, both tables have ledgers, generation accepts both at the pair, and its terminals are 1 ÷ 2 and 0
-abbrev computed : List Bool
-computed =
-    has-ledger cabinet babybear entered
-    ∷ has-ledger cabinet babybear no-lookup
-    ∷ accepts (answer-at cabinet babybear babybear-w entered buffers (lift 5) (lift 7))
-    ∷ accepts (answer-at cabinet babybear babybear-w no-lookup buffers (lift 5) (lift 7))
-    ∷ same-list (terminal-words (answer-at cabinet babybear babybear-w entered buffers (lift 5) (lift 7))) (lift 1006632961)
-    ∷ same-list (terminal-words (answer-at cabinet babybear babybear-w no-lookup buffers (lift 5) (lift 7))) (lift 0)
-    ∷ []
+branches-wide : (main : List ℕ) → AllWide 1 (two-branches main)
+unfolding tuple-width tuple-start total
+branches-wide main zero zero l k = refl
+branches-wide main zero (suc zero) l k = refl
+branches-wide main zero (suc (suc k)) l q = absurd (omega arith)
+branches-wide main (suc i) k l q = absurd (omega arith)
 
-computes : T (chain (eqb (tuples-met babybear entered no-lookup) 1) computed)
-unfolding powM addM negM subM mulM inverse1 add4 sub4 mul4 scale4 power4 sum4 conjugate conjugate2 norm2 norm inverse4 is-zero element total every some-of first joined
-    cabinet all-below all-within node decode row-of window node-value values row-values node-degree degrees traces-within nodes-within traces-fit
-    nodes-fit traces-below constants-below nodes-known degrees-low name-start tuple-start multiplicity-start flag-start element-start tuple-width
-    multiplicity-node flag-node tuple-nodes lookups-within lookups-fit sizes words-below known lengths-agree nodes-present lists-agree in-position
-    has-lookups preprocessed-enough rows-enough tuple combine denominator quotient4 branches multiplicity flag chosen denom used-denom
-    additive-fraction additive-fault exclusive-fraction exclusive-fault fraction fault fault-refusal place fraction-at row-sum accumulator row-words
-    fault-at row-fault trace first-fault used entry-refusal rows-outcome entry-outcome generation count lookup-entries row-entries entries same-list
-    listed met tuples-met has-ledger at-pair
-computes = tt
+-- the word a as an element
+lifted : (a : ℕ) → a < babybear → Element babybear (lift a)
+lifted = element-lift babybear babybear-w babybear-certificate
 
-holds : Passed (eqb (tuples-met babybear entered no-lookup) 1 ∷ computed)
-holds =
-    passed (eqb (tuples-met babybear entered no-lookup) 1) computed (true-of (chain (eqb (tuples-met babybear entered no-lookup) 1) computed) computes)
+-- lists of two
+module _ {A : Type 0} where
+  of-two : (P : A → Type 0) {a b : A} → P a → P b → (x : A) → List·Memᴰ x (a ∷ b ∷ []) → P x
+  of-two P pa pb x m =
+      ⊎-elim (λ e. subst P (sym e) pa) (λ k. subst P (sym (List·Memᴰ·eq-of-singleton k)) pb) (List·Memᴰ·cases-cons m)
 
-wide-entered : AllWide 1 entered
+  two-distinct : (a b : A) → a ≢ b → Distinct (a ∷ b ∷ [])
+  two-distinct a b n = (λ y k e. n (e ∙ List·Memᴰ·eq-of-singleton k), (λ y k. absurd (List·Memᴰ·not-nil k), tt))
+
+lift-apart : (a b : ℕ) → a ≢ b → lift a ≢ lift b
+lift-apart a b n e = n (ap (λ (l : List ℕ). at l 0) e)
+
+-- alphas 5 and 6 with each of the betas 7 and 8: a full set for two tuples of two words
+abbrev with-beta : ℕ → Pairing (List ℕ)
+with-beta b = record { beta = lift b; alphas = lift 5 ∷ lift 6 ∷ [] }
+
+abbrev four-pairs : List (Pairing (List ℕ))
+four-pairs = with-beta 7 ∷ with-beta 8 ∷ []
+
+four-full : FullSet babybear 2 2 four-pairs
+four-full =
+    record {
+      betas = two-distinct (lift 7) (lift 8) (lift-apart 7 8 (λ e. omega arith));
+      betas-many = refl;
+      beta-element = of-two (λ (r : Pairing (List ℕ)). Element babybear (r .beta)) (lifted 7 (lit< tt)) (lifted 8 (lit< tt));
+      alphas = of-two (λ (r : Pairing (List ℕ)). Distinct (r .alphas)) alphas alphas;
+      alphas-many = of-two (λ (r : Pairing (List ℕ)). length (r .alphas) ≡ 2) refl refl;
+      alpha-element = of-two (λ (r : Pairing (List ℕ)). (a : List ℕ) → List·Memᴰ a (r .alphas) → Element babybear a) elements elements;
+    }
+  where
+    alphas : Distinct (lift 5 ∷ lift 6 ∷ [])
+    alphas = two-distinct (lift 5) (lift 6) (lift-apart 5 6 (λ e. omega arith))
+
+    elements : (a : List ℕ) → List·Memᴰ a (lift 5 ∷ lift 6 ∷ []) → Element babybear a
+    elements = of-two (Element babybear) (lifted 5 (lit< tt)) (lifted 6 (lit< tt))
+
+at-four : (P : List ℕ → List ℕ → Type 0) → P (lift 5) (lift 7) → P (lift 6) (lift 7) → P (lift 5) (lift 8) → P (lift 6) (lift 8) → AtEachPair four-pairs P
+at-four P a b c d =
+    of-two (λ (r : Pairing (List ℕ)). (alpha : List ℕ) → List·Memᴰ alpha (r .alphas) → P alpha (r .beta)) (of-two (λ (x : List ℕ). P x (lift 7)) a b)
+    (of-two (λ (x : List ℕ). P x (lift 8)) c d)
+
+-- what the test of two tables at a pair says
+record AgreeSo (t₁ t₂ : Table) (a b : ℕ) : Type 0 where
+  accepted₁ : AcceptedAt cabinet babybear babybear-w t₁ buffers (lift a) (lift b)
+  accepted₂ : AcceptedAt cabinet babybear babybear-w t₂ buffers (lift a) (lift b)
+  agree : AgreeAt cabinet babybear babybear-w t₁ t₂ buffers buffers (lift a) (lift b)
+
+agree-so : (t₁ t₂ : Table) (a b : ℕ) → agree? t₁ t₂ a b ≡ true → AgreeSo t₁ t₂ a b
+agree-so t₁ t₂ a b e =
+    let x₁ = accepts (answer-to t₁ a b) in
+    let x₂ = accepts (answer-to t₂ a b) in
+    let x₃ = same-list (terminal-words (answer-to t₁ a b)) (terminal-words (answer-to t₂ a b)) in
+    record {
+      accepted₁ = and-left x₁ x₂ (and-left (x₁ && x₂) x₃ (of-true e));
+      accepted₂ = and-right x₁ x₂ (and-left (x₁ && x₂) x₃ (of-true e));
+      agree = same-list-eq _ _ (true-of x₃ (and-right (x₁ && x₂) x₃ (of-true e)));
+    }
+
+-- The terminals agree at every pair of a full set, so the ledgers are equal: two tuples of two words, at four pairs.
+pub order-is-no-matter : SameLedger babybear 2 forwards backwards
+order-is-no-matter =
+    logup-soundness forwards backwards m-bus 2 four-pairs buffers buffers
+    (record {
+      some-words = lit≤ tt;
+      on-bus₁ = columns-on-bus (1 ∷ 2 ∷ 3 ∷ 4 ∷ []);
+      on-bus₂ = columns-on-bus (3 ∷ 4 ∷ 1 ∷ 2 ∷ []);
+      wide₁ = columns-wide (1 ∷ 2 ∷ 3 ∷ 4 ∷ []);
+      wide₂ = columns-wide (3 ∷ 4 ∷ 1 ∷ 2 ∷ []);
+      ledger₁ = of-true (order-holds .0);
+      ledger₂ = of-true (order-holds .1 .0);
+    })
+    (subst (λ (n : ℕ). FullSet babybear 2 n four-pairs) (sym (eq-of-eqb (tuples-met babybear forwards backwards) 2 (order-holds .1 .1 .0))) four-full)
+    (at-four (AcceptedAt cabinet babybear babybear-w forwards buffers) (a57 .accepted₁) (a67 .accepted₁) (a58 .accepted₁) (a68 .accepted₁))
+    (at-four (AcceptedAt cabinet babybear babybear-w backwards buffers) (a57 .accepted₂) (a67 .accepted₂) (a58 .accepted₂) (a68 .accepted₂))
+    .1
+    (at-four (AgreeAt cabinet babybear babybear-w forwards backwards buffers buffers) (a57 .agree) (a67 .agree) (a58 .agree) (a68 .agree))
+  where
+    a57 : AgreeSo forwards backwards 5 7
+    a57 = agree-so forwards backwards 5 7 (order-holds .1 .1 .1 .0)
+
+    a67 : AgreeSo forwards backwards 6 7
+    a67 = agree-so forwards backwards 6 7 (order-holds .1 .1 .1 .1 .0)
+
+    a58 : AgreeSo forwards backwards 5 8
+    a58 = agree-so forwards backwards 5 8 (order-holds .1 .1 .1 .1 .1 .0)
+
+    a68 : AgreeSo forwards backwards 6 8
+    a68 = agree-so forwards backwards 6 8 (order-holds .1 .1 .1 .1 .1 .1 .0)
+
+single-on-bus : OnBus m-bus single
+unfolding lookup-at name-start total joined
+single-on-bus zero l = (refl, refl)
+single-on-bus (suc i) l = absurd (omega arith)
+
+single-wide : AllWide 1 single
 unfolding tuple-width tuple-start total joined
-wide-entered zero zero l k = refl
-wide-entered zero (suc k) l q = absurd (omega arith)
-wide-entered (suc i) k l q = absurd (omega arith)
+single-wide zero zero l k = refl
+single-wide zero (suc k) l q = absurd (omega arith)
+single-wide (suc i) k l q = absurd (omega arith)
 
-wide-none : AllWide 1 no-lookup
+none-on-bus : OnBus m-bus no-lookup
 unfolding joined
-wide-none i k l = absurd (omega arith)
+none-on-bus i l = absurd (omega arith)
 
-full : FullSet babybear 1 1 (pair ∷ [])
-full =
+none-wide : AllWide 1 no-lookup
+unfolding joined
+none-wide i k l = absurd (omega arith)
+
+-- alpha 5 with beta 7: a full set for one tuple
+abbrev pub one-pair : List (Pairing (List ℕ))
+one-pair = record { beta = lift 7; alphas = lift 5 ∷ [] } ∷ []
+
+of-one : {A : Type 0} (P : A → Type 0) {a : A} → P a → (x : A) → List·Memᴰ x (a ∷ []) → P x
+of-one P pa x m = subst P (sym (List·Memᴰ·eq-of-singleton m)) pa
+
+pub one-full : FullSet babybear 1 1 one-pair
+one-full =
     record {
       betas = (λ y k. absurd (List·Memᴰ·not-nil k), tt);
       betas-many = refl;
-      beta-element =
-          λ r k.
-          subst (λ (r : Pairing (List ℕ)). Element babybear (r .beta)) (sym (List·Memᴰ·eq-of-singleton k))
-          (element-lift babybear babybear-w babybear-certificate 7 (omega arith));
-      alphas =
-          λ r k.
-          subst (λ (r : Pairing (List ℕ)). Distinct (r .alphas)) (sym (List·Memᴰ·eq-of-singleton k)) (λ y k. absurd (List·Memᴰ·not-nil k), tt);
-      alphas-many = λ r k. ap (λ (r : Pairing (List ℕ)). length (r .alphas)) (List·Memᴰ·eq-of-singleton k);
+      beta-element = of-one (λ (r : Pairing (List ℕ)). Element babybear (r .beta)) (lifted 7 (lit< tt));
+      alphas = of-one (λ (r : Pairing (List ℕ)). Distinct (r .alphas)) (λ y k. absurd (List·Memᴰ·not-nil k), tt);
+      alphas-many = of-one (λ (r : Pairing (List ℕ)). length (r .alphas) ≡ 1) refl;
       alpha-element =
-          λ r k.
-          subst (λ (r : Pairing (List ℕ)). (a : List ℕ) → List·Memᴰ a (r .alphas) → Element babybear a) (sym (List·Memᴰ·eq-of-singleton k))
-          (λ a m.
-          subst (Element babybear) (sym (List·Memᴰ·eq-of-singleton m)) (element-lift babybear babybear-w babybear-certificate 5 (omega arith)));
+          of-one (λ (r : Pairing (List ℕ)). (a : List ℕ) → List·Memᴰ a (r .alphas) → Element babybear a)
+          (of-one (Element babybear) (lifted 5 (lit< tt)));
     }
 
--- the set has one pair
-only-pair : (P : List ℕ → List ℕ → Type 0) → P (lift 5) (lift 7) → AtEachPair (pair ∷ []) P
-only-pair P x r k =
-    subst (λ (r : Pairing (List ℕ)). (a : List ℕ) → List·Memᴰ a (r .alphas) → P a (r .beta)) (sym (List·Memᴰ·eq-of-singleton k))
-    (λ a m. subst (λ (a : List ℕ). P a (lift 7)) (sym (List·Memᴰ·eq-of-singleton m)) x)
+pub at-one : (P : List ℕ → List ℕ → Type 0) → P (lift 5) (lift 7) → AtEachPair one-pair P
+at-one P x =
+    of-one (λ (r : Pairing (List ℕ)). (a : List ℕ) → List·Memᴰ a (r .alphas) → P a (r .beta)) (of-one (λ (a : List ℕ). P a (lift 7)) x)
 
--- the terminals differ, so the ledgers do
-pub told-apart : SameLedger babybear 1 entered no-lookup → ⊥
+-- "a table with one entry is told from a table with none at the one pair that n = 1 asks for"
+pub told-apart : SameLedger babybear 1 single no-lookup → ⊥
 told-apart same =
+    let k = single-holds in
     let agree =
-    balanced cabinet babybear babybear-w babybear-modulus babybear-certificate entered no-lookup 1 (pair ∷ []) buffers buffers wide-entered
-    wide-none (of-true (holds .1 .0)) (of-true (holds .1 .1 .0))
-    (subst (λ (n : ℕ). FullSet babybear 1 n (pair ∷ [])) (sym (eq-of-eqb (tuples-met babybear entered no-lookup) 1 (holds .0))) full)
-    (only-pair (λ a b. T (accepts (answer-at cabinet babybear babybear-w entered buffers a b))) (of-true (holds .1 .1 .1 .0)))
-    (only-pair (λ a b. T (accepts (answer-at cabinet babybear babybear-w no-lookup buffers a b))) (of-true (holds .1 .1 .1 .1 .0)))
-    .0 same pair (List·Memᴰ·head refl) (lift 5) (List·Memᴰ·head refl) in
+    logup-soundness single no-lookup m-bus 1 one-pair buffers buffers
+    (record {
+      some-words = lit≤ tt;
+      on-bus₁ = single-on-bus;
+      on-bus₂ = none-on-bus;
+      wide₁ = single-wide;
+      wide₂ = none-wide;
+      ledger₁ = of-true (k .0);
+      ledger₂ = of-true (k .1 .0);
+    })
+    (subst (λ (n : ℕ). FullSet babybear 1 n one-pair) (sym (eq-of-eqb (tuples-met babybear single no-lookup) 1 (k .1 .1 .0))) one-full)
+    (at-one (AcceptedAt cabinet babybear babybear-w single buffers) (of-true (k .1 .1 .1 .0)))
+    (at-one (AcceptedAt cabinet babybear babybear-w no-lookup buffers) (of-true (k .1 .1 .1 .1 .0)))
+    .0 same _ (List·Memᴰ·head refl) (lift 5) (List·Memᴰ·head refl) in
     let z : _≡_ {A = ℕ} 1006632961 0 = ap (λ (l : List ℕ). at l 0)
-    (sym (same-list-eq _ _ (holds .1 .1 .1 .1 .1 .0))
-    ∙ agree ∙ same-list-eq _ _ (holds .1 .1 .1 .1 .1 .1 .0)) in
+    (sym (same-list-eq _ _ (k .1 .1 .1 .1 .1 .0)) ∙ agree ∙ same-list-eq _ _ (k .1 .1 .1 .1 .1 .1 .0)) in
     omega arith
+
+-- the two flags of each row of such a table
+module _ (main : List ℕ) (tests : T (every (lawful-on (two-branches main)) (length main / 3))) where
+  abbrev here : Table
+  here = two-branches main
+
+  abbrev flag₀ : ℕ → ℕ
+  flag₀ r = flag-at babybear here r 0 0
+
+  abbrev flag₁ : ℕ → ℕ
+  flag₁ r = flag-at babybear here r 0 1
+
+  row-test : (r : ℕ) → r < length main / 3 → T (lawful-on here r)
+  row-test r l = every-at (lawful-on here) (length main / 3) r tests l
+
+  not-both : (r : ℕ) → r < length main / 3 → flag₀ r ≡ 1 → flag₁ r ≡ 1 → ⊥
+  not-both r l e f =
+      subst (λ (b : Bool). T (not b)) (ap (λ (b : Bool). b && eqb (flag₁ r) 1) (eqb-true e) ∙ eqb-true f)
+      (and-right (leb (flag₀ r) 1 && leb (flag₁ r) 1) (not (eqb (flag₀ r) 1 && eqb (flag₁ r) 1)) (row-test r l))
+
+  low₀ : (r : ℕ) → r < length main / 3 → flag₀ r ≤ 1
+  low₀ r l =
+      leb→le (flag₀ r) 1
+      (and-left (leb (flag₀ r) 1) (leb (flag₁ r) 1)
+      (and-left (leb (flag₀ r) 1 && leb (flag₁ r) 1) (not (eqb (flag₀ r) 1 && eqb (flag₁ r) 1)) (row-test r l)))
+
+  low₁ : (r : ℕ) → r < length main / 3 → flag₁ r ≤ 1
+  low₁ r l =
+      leb→le (flag₁ r) 1
+      (and-right (leb (flag₀ r) 1) (leb (flag₁ r) 1)
+      (and-left (leb (flag₀ r) 1 && leb (flag₁ r) 1) (not (eqb (flag₀ r) 1 && eqb (flag₁ r) 1)) (row-test r l)))
+
+  lawful : LawfulFlags babybear here
+  lawful = record { binary = binary; one = one }
+    where
+      binary : (r i k : ℕ) → r < length main / 3 → i < 1 → exclusive (here .lookups .lookups) i ≡ true → k < tuple-count (here .lookups .lookups) i
+          → flag-at babybear here r i k ≤ 1
+      binary r zero zero lr li ex lk = low₀ r lr
+      binary r zero (suc zero) lr li ex lk = low₁ r lr
+      binary r zero (suc (suc k)) lr li ex lk = absurd (omega arith)
+      binary r (suc i) k lr li ex lk = absurd (omega arith)
+
+      one : (r i j k : ℕ) → r < length main / 3 → i < 1 → exclusive (here .lookups .lookups) i ≡ true → j < tuple-count (here .lookups .lookups) i
+          → k < tuple-count (here .lookups .lookups) i → flag-at babybear here r i j ≡ 1 → flag-at babybear here r i k ≡ 1 → j ≡ k
+      one r zero zero zero lr li ex lj lk e f = refl
+      one r zero zero (suc zero) lr li ex lj lk e f = absurd (not-both r lr e f)
+      one r zero zero (suc (suc k)) lr li ex lj lk e f = absurd (omega arith)
+      one r zero (suc zero) zero lr li ex lj lk e f = absurd (not-both r lr f e)
+      one r zero (suc zero) (suc zero) lr li ex lj lk e f = refl
+      one r zero (suc zero) (suc (suc k)) lr li ex lj lk e f = absurd (omega arith)
+      one r zero (suc (suc j)) k lr li ex lj lk e f = absurd (omega arith)
+      one r (suc i) j k lr li ex lj lk e f = absurd (omega arith)
+
+room : LongEnough choosing buffers
+unfolding used
+room a b = lit≤ tt
+
+room-back : LongEnough choosing-back buffers
+unfolding used
+room-back a b = lit≤ tt
+
+-- A full set exists for two tables with lawful flags, and at its pairs the theorem says whether their ledgers are equal.
+pub branches-compared : (set : List (Pairing (List ℕ)))
+    × (SameLedger babybear 1 choosing choosing-back ↔ AtEachPair set (AgreeAt cabinet babybear babybear-w choosing choosing-back buffers buffers))
+branches-compared =
+    let k = branch-holds in
+    let (set, full, accepted₁, accepted₂) =
+    cabinet-full-set-exists choosing choosing-back 1 buffers buffers (lit≤ tt) (of-true (k .0)) (of-true (k .1 .0))
+    (lawful (3 ∷ 1 ∷ 0 ∷ 4 ∷ 0 ∷ 1 ∷ 5 ∷ 0 ∷ 0 ∷ []) (of-true (k .1 .1 .0))) (lawful (5 ∷ 0 ∷ 1 ∷ 3 ∷ 1 ∷ 0 ∷ []) (of-true (k .1 .1 .1 .0))) room
+    room-back in (
+      set,
+      logup-soundness choosing choosing-back m-bus 1 set buffers buffers
+          (record {
+            some-words = lit≤ tt;
+            on-bus₁ = branches-on-bus (3 ∷ 1 ∷ 0 ∷ 4 ∷ 0 ∷ 1 ∷ 5 ∷ 0 ∷ 0 ∷ []);
+            on-bus₂ = branches-on-bus (5 ∷ 0 ∷ 1 ∷ 3 ∷ 1 ∷ 0 ∷ []);
+            wide₁ = branches-wide (3 ∷ 1 ∷ 0 ∷ 4 ∷ 0 ∷ 1 ∷ 5 ∷ 0 ∷ 0 ∷ []);
+            wide₂ = branches-wide (5 ∷ 0 ∷ 1 ∷ 3 ∷ 1 ∷ 0 ∷ []);
+            ledger₁ = of-true (k .0);
+            ledger₂ = of-true (k .1 .0);
+          })
+          full accepted₁ accepted₂,
+    )

@@ -14,8 +14,9 @@ use Rattle.lists.specs.Count.{total}
 use Rattle.lists.specs.laws.Count.{eq-of-eqb}
 use Rattle.field.specs.Element.{lift, one4, add4, sub4, mul4, scale4, sum4, is-zero}
 use Rattle.field.specs.Modulus.{Modulus, Certificate}
-use Rattle.field.specs.laws.Extension.{K, h}
-use Rattle.field.specs.laws.Homomorphism.{KEl, el, el-add, el-sub, el-mul}
+use Rattle.field.specs.Extension.{K, KEl, el}
+use Rattle.field.specs.laws.Extension.{h}
+use Rattle.field.specs.laws.Homomorphism.{el-add, el-sub, el-mul}
 use Rattle.theorems_logup.specs.Inverse.{inverse}
 use Rattle.theorems_logup.specs.Sums.{sum-to}
 use Rattle.theorems_logup.specs.inner.Products.{product-to}
@@ -27,7 +28,8 @@ use Rattle.logup.specs.Tuple.{quotient4}
 use Rattle.logup.specs.Column.{Place, branches, multiplicity, flag, chosen, denom, used-denom, additive-fraction, additive-fault, branch-fraction, exclusive-fraction, exclusive-fault, fraction, fault}
 use Rattle.logup.specs.Constraints.{others, additive-numerator, additive-denominator, exclusive-numerator, exclusive-denominator, numerator, common-denominator, Regular}
 use Rattle.logup.specs.Ledger.{Element}
-use Rattle.theorems_soundness.specs.laws.Setting.{into, same-of-el}
+use Rattle.theorems_soundness.specs.Entries.{into}
+use Rattle.theorems_soundness.specs.laws.Setting.{same-of-el}
 use Rattle.theorems_soundness.specs.laws.Elements.{element-lift, element-add, element-quotient, nonzero, sub-zero-iff, sum-is, product-is, scale-is}
 use Rattle.theorems_soundness.specs.laws.Columns.{ones, ones-pos, lawful, flag-zero, chosen-sound, denom-element, additive-element, branch-quotient, used-quotient}
 

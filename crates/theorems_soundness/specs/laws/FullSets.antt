@@ -1,20 +1,18 @@
 -- The theorem of SPECIFICATION, section 9.3, is not empty: any two tables with ledgers and lawful flags have a full set at each pair of
 -- which generation accepts both, if the field is large enough; the cabinet's is, for all tables within its limits.
-use mathlib.Core.Path.{_≡_, refl, sym, ap, ap₂, _∙_, subst}
-use mathlib.Core.Logic.{⊎-elim}
+use mathlib.Core.Path.{_≡_, refl, sym, ap, _∙_, subst}
 use mathlib.Core.Bool.{Bool, true, false, cond, _||_}
-use mathlib.Core.List.{List, [], _∷_, _++_, map, List-discrete, List·Memᴰ, List·Memᴰ·not-nil, List·Memᴰ·cases-cons, Memᴰ·append-left, Memᴰ·append-right, Memᴰ·map}
-use Prim.Native.Nat.{ℕ, zero, suc, _+_, _*_, _-_, _/_, _%_, _<_, _≤_}
+use mathlib.Core.List.{List, [], _∷_, _++_, map, List-discrete, List·Memᴰ, Memᴰ·append-left, Memᴰ·append-right, Memᴰ·map}
+use Prim.Native.Nat.{ℕ, suc, _+_, _*_, _-_, _/_, _<_, _≤_}
 use native.Mathlib.Omega.{arith}
 use native.Mathlib.Decide.{ℕ-discrete}
-use native.Mathlib.Nat.{le-refl, mod-lt, div-add-mod, div-lt-iff-lt-mul, mul-le-mul, zero-add}
+use native.Mathlib.Nat.{le-refl, mul-le-mul}
 use lib.Dec.{T, eqb, eqb→eq, leb→le}
 use lib.ListN.{length, take, length-append, length-map}
 use lib.Seq.{length-take-le}
-use Rattle.lists.specs.Count.{total, joined}
+use Rattle.lists.specs.Count.{total}
 use Rattle.lists.specs.laws.Count.{and-left, and-right}
-use Rattle.lists.specs.laws.Joined.{joined-length}
-use Rattle.field.specs.Element.{at}
+use Rattle.lists.specs.laws.Joined.{joined-length, joined-total}
 use Rattle.field.specs.Modulus.{Certificate, babybear, babybear-w}
 use Rattle.field.specs.laws.Extension.{h, babybear-certificate}
 use Rattle.theorems_logup.specs.Distinct.{Distinct}
@@ -28,57 +26,17 @@ use Rattle.lookup.specs.Lookups.{lookup-count, tuple-count, tuple-start}
 use Rattle.lookup.specs.Table.{Table}
 use Rattle.lookup.specs.Tests.{lookups-within, lookups-fit, sizes}
 use Rattle.logup.specs.Tuple.{combine}
-use Rattle.logup.specs.Rows.{used}
-use Rattle.logup.specs.Generation.{accepts}
 use Rattle.logup.specs.Ledger.{has-ledger, Entry, Element, entry, lookup-entries, row-entries, entries, met, listed, tuples-met}
-use Rattle.theorems_soundness.specs.Soundness.{FullSet, answer-at, AtEachPair}
+use Rattle.theorems_soundness.specs.Soundness.{FullSet, Buffers, AcceptedAt, AtEachPair}
+use Rattle.theorems_soundness.specs.FullSets.{LongEnough, FullSetsExist}
 use Rattle.theorems_soundness.specs.Lawful.{LawfulFlags}
+use Rattle.theorems_soundness.specs.laws.Points.{elements, elements-many, elements-distinct, elements-are}
 use Rattle.theorems_soundness.specs.laws.Entered.{ledgered}
 use Rattle.theorems_soundness.specs.laws.Accepts.{accepts-at}
 
--- as many elements as are asked for: two words of each, the other two 0
-module _ (p : ℕ) (pos : 0 < p) where
-  abbrev point : ℕ → List ℕ
-  point k = (k % p) ∷ (k / p) ∷ 0 ∷ 0 ∷ []
-
-  point-injective : (j k : ℕ) → point j ≡ point k → j ≡ k
-  point-injective j k e =
-      sym (div-add-mod j p) ∙ ap₂ (λ (a b : ℕ). p * a + b) (ap (λ (l : List ℕ). at l 1) e) (ap (λ (l : List ℕ). at l 0) e) ∙ div-add-mod k p
-
-  point-element : (k : ℕ) → k < p * p → Element p (point k)
-  point-element k l =
-      record { four = refl; below = record { w0 = mod-lt k pos; w1 = div-lt-iff-lt-mul {k = p} {x = k} {y = p} pos .1 l; w2 = pos; w3 = pos } }
-
-  points : ℕ → List (List ℕ)
-  points zero = []
-  points (suc n) = point n ∷ points n
-
-  points-length : (n : ℕ) → length (points n) ≡ n
-  unfolding points
-  points-length zero = refl
-  points-length (suc n) = ap suc (points-length n)
-
-  points-member : (n : ℕ) (x : List ℕ) → List·Memᴰ x (points n) → (k : ℕ) × (k < n) × (x ≡ point k)
-  unfolding points
-  points-member zero x m = absurd (List·Memᴰ·not-nil m)
-  points-member (suc n) x m =
-      ⊎-elim (λ e. (n, le-refl (suc n), e)) (λ q. let (k, l, e) = points-member n x q in (k, omega arith, e)) (List·Memᴰ·cases-cons m)
-
-  points-distinct : (n : ℕ) → Distinct (points n)
-  unfolding points
-  points-distinct zero = tt
-  points-distinct (suc n) = (
-    λ y m e. let (k, l, q) = points-member n y m in let same : n ≡ k = point-injective n k (e ∙ q) in omega arith,
-    points-distinct n,
-  )
-
-  points-element : (n : ℕ) → n ≤ p * p → (x : List ℕ) → List·Memᴰ x (points n) → Element p x
-  points-element n l x m = let (k, q, e) = points-member n x m in subst (Element p) (sym e) (point-element k (omega arith))
-
-module _ (m : Limits) (p w : ℕ) (C : Certificate p w) (t₁ t₂ : Table) (width : ℕ) (buffers₁ buffers₂ : List ℕ → List ℕ → List ℕ)
+module _ (m : Limits) (p w : ℕ) (C : Certificate p w) (t₁ t₂ : Table) (width : ℕ) (buffers₁ buffers₂ : Buffers)
     (ok₁ : T (has-ledger m p t₁)) (ok₂ : T (has-ledger m p t₂)) (flags₁ : LawfulFlags p t₁) (flags₂ : LawfulFlags p t₂)
-    (room₁ : (a b : List ℕ) → used (t₁ .lookups .lookups) (t₁ .traces .shape .height) ≤ length (buffers₁ a b))
-    (room₂ : (a b : List ℕ) → used (t₂ .lookups .lookups) (t₂ .traces .shape .height) ≤ length (buffers₂ a b)) where
+    (room₁ : LongEnough t₁ buffers₁) (room₂ : LongEnough t₂ buffers₂) where
   abbrev all : List Entry
   all = entries p t₁ ++ entries p t₂
 
@@ -95,25 +53,24 @@ module _ (m : Limits) (p w : ℕ) (C : Certificate p w) (t₁ t₂ : Table) (wid
   avoid-length : (beta : List ℕ) → length (avoid beta) ≡ length (entries p t₁) + length (entries p t₂)
   avoid-length beta = length-map all (λ (e : Entry). combine p w beta (e .tuple)) ∙ length-append (entries p t₁) (entries p t₂)
 
-  pub full-set-exists : n + (length (entries p t₁) + length (entries p t₂)) ≤ p * p → betas ≤ p * p
+  pub full-set-exists : n + (length (entries p t₁) + length (entries p t₂)) ≤ p * p * p * p → betas ≤ p * p * p * p
       → (set : List (Pairing (List ℕ))) × FullSet p width n set
-      × AtEachPair set (λ a b. T (accepts (answer-at m p w t₁ buffers₁ a b)))
-      × AtEachPair set (λ a b. T (accepts (answer-at m p w t₂ buffers₂ a b)))
+      × AtEachPair set (AcceptedAt m p w t₁ buffers₁) × AtEachPair set (AcceptedAt m p w t₂ buffers₂)
   full-set-exists enough many =
       let pos : 0 < p = h p w C in
-      let ps : List (List ℕ) = points p pos (p * p) in
-      let long : length ps ≡ p * p = points-length p pos (p * p) in
+      let ps : List (List ℕ) = elements p pos in
+      let long : length ps ≡ p * p * p * p = elements-many p pos in
       let (set, at, fines) =
-      pairings (List-discrete ℕ-discrete) ps (points-distinct p pos (p * p)) avoid n (λ beta. rw (avoid-length beta, long) enough) (take betas ps) in
+      pairings (List-discrete ℕ-discrete) ps (elements-distinct p pos) avoid n (λ beta. rw (avoid-length beta, long) enough) (take betas ps) in
       let alpha-ok : (r : Pairing (List ℕ)) → List·Memᴰ r set → (a : List ℕ) → List·Memᴰ a (r .alphas) → Element p a =
-      λ r k a ma. points-element p pos (p * p) (le-refl (p * p)) a (fines r k .within a ma) in
+      λ r k a ma. elements-are p pos a (fines r k .within a ma) in
       let beta-ok : (r : Pairing (List ℕ)) → List·Memᴰ r set → Element p (r .beta) =
       λ r k.
-      points-element p pos (p * p) (le-refl (p * p)) (r .beta)
+      elements-are p pos (r .beta)
       (take-member betas ps (r .beta) (subst (List·Memᴰ (r .beta)) at (Memᴰ·map (λ (r : Pairing (List ℕ)). r .beta) k))) in (
         set,
         record {
-          betas = subst Distinct (sym at) (take-distinct betas ps (points-distinct p pos (p * p)));
+          betas = subst Distinct (sym at) (take-distinct betas ps (elements-distinct p pos));
           betas-many = sym (length-map set (λ (r : Pairing (List ℕ)). r .beta)) ∙ ap length at ∙ length-take-le betas ps (rw long many);
           beta-element = beta-ok;
           alphas = λ r k. fines r k .distinct;
@@ -129,12 +86,6 @@ module _ (m : Limits) (p w : ℕ) (C : Certificate p w) (t₁ t₂ : Table) (wid
       )
 
 -- how many entries a table has
-joined-total : {A : Type 0} (f : ℕ → List A) (g : ℕ → ℕ) (n : ℕ) → ((i : ℕ) → length (f i) ≡ g i) → length (joined f 0 n) ≡ total g n
-unfolding joined total
-joined-total f g zero each = refl
-joined-total f g (suc n) each =
-    length-append (joined f 0 n) (f (0 + n)) ∙ ap₂ _+_ (joined-total f g n each) (each (0 + n) ∙ ap g (zero-add n))
-
 entries-length : (p : ℕ) (t : Table) → length (entries p t) ≡ tuple-start (t .lookups .lookups) (lookup-count (t .lookups .lookups)) * t .traces .shape .height
 unfolding entries row-entries lookup-entries tuple-start
 entries-length p t =
@@ -144,7 +95,7 @@ entries-length p t =
     joined-total (lookup-entries p (t .lookups) (row-values p (t .nodes) (t .traces) r)) (tuple-count (t .lookups .lookups)) (lookup-count (t .lookups .lookups))
     (λ i. joined-length (λ k. entry p (t .lookups) (row-values p (t .nodes) (t .traces) r) i k ∷ []) 1 (tuple-count (t .lookups .lookups) i) (λ k. refl) ∙ omega arith))
 
-met-length : (es : List Entry) → length (met es) ≤ length es
+pub met-length : (es : List Entry) → length (met es) ≤ length es
 unfolding met
 met-length [] = le-refl 0
 met-length (e ∷ es) = go (eqb (e .count) 0 || listed (e .tuple) (met es)) (met-length es)
@@ -163,7 +114,14 @@ cabinet-entries p t ok =
     eqb→eq (length (t .lookups .tuples)) (tuple-start (t .lookups .lookups) (lookup-count (t .lookups .lookups))) (search (and-left, and-right) depth 14) in
     rw (entries-length p t, sym same) (mul-le-mul few high)
 
-betas-few : (width n : ℕ) → width ≤ 8 → n ≤ 134217728 → 1 + (width - 1) * n * (n - 1) / 2 ≤ babybear * babybear
+-- and so few tuples are met
+pub cabinet-met : (p : ℕ) (t₁ t₂ : Table) → T (has-ledger cabinet p t₁) → T (has-ledger cabinet p t₂) → tuples-met p t₁ t₂ ≤ 134217728
+unfolding tuples-met
+cabinet-met p t₁ t₂ ok₁ ok₂ =
+    omega
+    (arith, met-length (entries p t₁ ++ entries p t₂), length-append (entries p t₁) (entries p t₂), cabinet-entries p t₁ (ledgered cabinet p t₁ ok₁ .one), cabinet-entries p t₂ (ledgered cabinet p t₂ ok₂ .one))
+
+betas-few : (width n : ℕ) → width ≤ 8 → n ≤ 134217728 → 1 + (width - 1) * n * (n - 1) / 2 ≤ babybear * babybear * babybear * babybear
 betas-few width n lw ln =
     let a : width - 1 ≤ 7 = omega arith in
     let b : n - 1 ≤ 134217728 = omega arith in
@@ -171,20 +129,10 @@ betas-few width n lw ln =
     omega arith
 
 -- A full set exists in the cabinet's field for all tables within its limits, of tuples of at most 8 words
-pub cabinet-full-set-exists : (t₁ t₂ : Table) (width : ℕ) (buffers₁ buffers₂ : List ℕ → List ℕ → List ℕ) → width ≤ 8
-    → T (has-ledger cabinet babybear t₁) → T (has-ledger cabinet babybear t₂) → LawfulFlags babybear t₁ → LawfulFlags babybear t₂
-    → ((a b : List ℕ) → used (t₁ .lookups .lookups) (t₁ .traces .shape .height) ≤ length (buffers₁ a b))
-    → ((a b : List ℕ) → used (t₂ .lookups .lookups) (t₂ .traces .shape .height) ≤ length (buffers₂ a b))
-    → (set : List (Pairing (List ℕ))) × FullSet babybear width (tuples-met babybear t₁ t₂) set
-    × AtEachPair set (λ a b. T (accepts (answer-at cabinet babybear babybear-w t₁ buffers₁ a b)))
-    × AtEachPair set (λ a b. T (accepts (answer-at cabinet babybear babybear-w t₂ buffers₂ a b)))
-unfolding tuples-met
+pub cabinet-full-set-exists : FullSetsExist cabinet babybear babybear-w
 cabinet-full-set-exists t₁ t₂ width buffers₁ buffers₂ lw ok₁ ok₂ flags₁ flags₂ room₁ room₂ =
     let few₁ : length (entries babybear t₁) ≤ 67108864 = cabinet-entries babybear t₁ (ledgered cabinet babybear t₁ ok₁ .one) in
     let few₂ : length (entries babybear t₂) ≤ 67108864 = cabinet-entries babybear t₂ (ledgered cabinet babybear t₂ ok₂ .one) in
-    let both : length (entries babybear t₁ ++ entries babybear t₂) ≡ length (entries babybear t₁) + length (entries babybear t₂) =
-    length-append (entries babybear t₁) (entries babybear t₂) in
-    let n-few : length (met (entries babybear t₁ ++ entries babybear t₂)) ≤ length (entries babybear t₁ ++ entries babybear t₂) =
-    met-length (entries babybear t₁ ++ entries babybear t₂) in
+    let few : tuples-met babybear t₁ t₂ ≤ 134217728 = cabinet-met babybear t₁ t₂ ok₁ ok₂ in
     full-set-exists cabinet babybear babybear-w babybear-certificate t₁ t₂ width buffers₁ buffers₂ ok₁ ok₂ flags₁ flags₂ room₁ room₂
-    (omega arith) (betas-few width (tuples-met babybear t₁ t₂) lw (omega arith))
+    (omega arith) (betas-few width (tuples-met babybear t₁ t₂) lw few)

@@ -14,7 +14,8 @@ use Rattle.lists.specs.laws.Count.{joined-member, true-of, false-of, eqb-true, 
 use Rattle.field.specs.Word.{addM}
 use Rattle.field.specs.laws.Word.{addM-below, addM-assoc, addM-zero, zero-addM}
 use Rattle.field.specs.Modulus.{Modulus, Certificate}
-use Rattle.field.specs.laws.Extension.{K, h}
+use Rattle.field.specs.Extension.{K}
+use Rattle.field.specs.laws.Extension.{h}
 use Rattle.theorems_logup.specs.Tables as Tables
 use Rattle.theorems_logup.specs.laws.Support.{member?, support}
 use Rattle.expression.specs.Values.{row-values}
@@ -24,7 +25,7 @@ use Rattle.lookup.specs.Tests.{words-below}
 use Rattle.lookup.specs.Requires.{Fitting}
 use Rattle.logup.specs.Ledger.{Entry, entry, lookup-entries, row-entries, entries, post, ledger, listed, met}
 use Rattle.theorems_soundness.specs.Soundness.{AllWide}
-use Rattle.theorems_soundness.specs.laws.Setting.{N}
+use Rattle.theorems_soundness.specs.Entries.{N}
 use Rattle.theorems_soundness.specs.laws.Values.{row-below, count-below, tuple-below, tuple-length}
 
 -- the test of two lists

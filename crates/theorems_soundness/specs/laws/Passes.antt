@@ -9,7 +9,7 @@ use native.Mathlib.Omega.{arith}
 use native.Mathlib.Numerals.{add-one}
 use Rattle.field.specs.Element.{zero4, add4, sum4, element, is-zero}
 use Rattle.field.specs.Modulus.{Modulus, Certificate}
-use Rattle.field.specs.laws.Homomorphism.{el}
+use Rattle.field.specs.Extension.{el}
 use Rattle.field.specs.laws.Element.{sum4-cong}
 use Rattle.expression.specs.Requires.{Below}
 use Rattle.lookup.specs.Lookups.{Lookups, lookup-count}

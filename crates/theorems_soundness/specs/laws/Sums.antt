@@ -9,14 +9,14 @@ use Rattle.lists.specs.Count.{joined}
 use Rattle.lists.specs.laws.Count.{joined-next}
 use Rattle.field.specs.Element.{sum4}
 use Rattle.field.specs.Modulus.{Certificate}
-use Rattle.field.specs.laws.Extension.{K}
-use Rattle.field.specs.laws.Homomorphism.{KEl, el, el-add}
+use Rattle.field.specs.Extension.{K, KEl, el}
+use Rattle.field.specs.laws.Homomorphism.{el-add}
 use Rattle.theorems_logup.specs.Inverse.{inverse, minus}
 use Rattle.theorems_logup.specs.Sums.{sum}
 use Rattle.theorems_logup.specs.Tables.{combine}
 use Rattle.theorems_logup.specs.laws.Sums.{sum-append}
 use Rattle.logup.specs.Ledger.{Entry}
-use Rattle.theorems_soundness.specs.laws.Setting.{into, N}
+use Rattle.theorems_soundness.specs.Entries.{into, N}
 
 module _ (p w : ℕ) (C : Certificate p w) where
   -- 1 ÷ (alpha - combined t)

@@ -3,7 +3,7 @@ use mathlib.Core.Path.{_≡_, sym, ap, _∙_, subst}
 use mathlib.Core.Logic.{_≢_, ⊎-elim}
 use mathlib.Core.Option.{none}
 use mathlib.Core.List.{List, [], _∷_, _++_, List·Memᴰ, List·Memᴰ·not-nil}
-use Prim.Native.Nat.{ℕ, _+_, _*_, _<_, _≤_}
+use Prim.Native.Nat.{ℕ, _+_, _*_, _<_}
 use native.Mathlib.Omega.{arith}
 use lib.Dec.{T}
 use lib.ListN.{length, length-append, List·getD-append}
@@ -11,8 +11,8 @@ use lib.Seq.{getD-append-add}
 use Rattle.lists.specs.Count.{joined}
 use Rattle.field.specs.Element.{element}
 use Rattle.field.specs.Modulus.{Modulus, Certificate}
-use Rattle.field.specs.laws.Extension.{K, h}
-use Rattle.field.specs.laws.Homomorphism.{KEl, el}
+use Rattle.field.specs.Extension.{K, KEl, el}
+use Rattle.field.specs.laws.Extension.{h}
 use Rattle.theorems_logup.specs.Inverse.{minus}
 use Rattle.theorems_logup.specs.Sums.{sum}
 use Rattle.theorems_logup.specs.Tables as Tables
@@ -21,15 +21,16 @@ use Rattle.expression.specs.Words.{word}
 use Rattle.expression.specs.Values.{row-values}
 use Rattle.expression.specs.declared.sizes.Limits.{Limits}
 use Rattle.lookup.specs.Lookups.{lookup-count}
-use Rattle.lookup.specs.Table.{Table}
+use Rattle.lookup.specs.Table.{Table, values-of}
 use Rattle.lookup.specs.Tests.{words-below}
 use Rattle.logup.specs.Column.{Place, fraction, fault}
 use Rattle.logup.specs.Rows.{place, fraction-at, row-sum, accumulator, first-fault}
 use Rattle.logup.specs.Generation.{Answer, absent, terminal, terminal-words}
 use Rattle.logup.specs.Ledger.{Entry, Element, lookup-entries, row-entries, entries, at-pair}
-use Rattle.theorems_soundness.specs.Paper.{paper-fraction, paper-row, paper-sum}
+use Rattle.theorems_soundness.specs.Paper.{paper-fraction, paper-row, Faultless, FractionIsTheSum, AccumulatorIsTheSum}
 use Rattle.theorems_soundness.specs.laws.Joined.{word-joined, joined-none, joined-empty}
-use Rattle.theorems_soundness.specs.laws.Setting.{N, as-four}
+use Rattle.theorems_soundness.specs.Entries.{N}
+use Rattle.theorems_soundness.specs.laws.Setting.{as-four}
 use Rattle.theorems_soundness.specs.laws.Elements.{element-lift, element-sum, sum-is}
 use Rattle.theorems_soundness.specs.laws.Values.{row-below}
 use Rattle.theorems_soundness.specs.laws.Sums.{share, sum-joined}
@@ -38,32 +39,25 @@ use Rattle.theorems_soundness.specs.laws.Ledgers.{whence}
 use Rattle.theorems_soundness.specs.laws.Answers.{no-fault, Accepted}
 
 -- any challenges
-module _ (p w : ℕ) (M : Modulus p) (C : Certificate p w) (t : Table) (challenges : List ℕ) (ok : T (words-below p t))
-    (fine : first-fault p w (t .lookups) challenges (row-values p (t .nodes) (t .traces)) (t .traces .shape .height) ≡ none) where
-  abbrev values : ℕ → List ℕ
-  values = row-values p (t .nodes) (t .traces)
+pub fraction-is-the-sum : (p w : ℕ) → Modulus p → (C : Certificate p w) → FractionIsTheSum p w C
+unfolding fraction-at place
+fraction-is-the-sum p w M C t challenges ok fine r i lr li =
+    fraction-is p w M C (place p w (t .lookups) challenges (values-of p t) r i) (row-below p M t ok r)
+    (no-fault p w (t .lookups) challenges (values-of p t) (t .traces .shape .height) fine r i lr li)
 
-  abbrev height : ℕ
-  height = t .traces .shape .height
+pub row-is-the-sum : (p w : ℕ) → Modulus p → (C : Certificate p w) (t : Table) (challenges : List ℕ) → T (words-below p t) → Faultless p w t challenges
+    → (r : ℕ) → r < t .traces .shape .height → el p w C (row-sum p w (t .lookups) challenges (values-of p t) r) ≡ paper-row p w C t challenges r
+unfolding row-sum
+row-is-the-sum p w M C t challenges ok fine r lr =
+    sum-is p w C (fraction-at p w (t .lookups) challenges (values-of p t) r) (lookup-count (t .lookups .lookups))
+    ∙ sum-to-cong (K p w C) _ (paper-fraction p w C t challenges r) (lookup-count (t .lookups .lookups))
+    (λ i li. fraction-is-the-sum p w M C t challenges ok fine r i lr li)
 
-  pub fraction-is-the-sum : (r i : ℕ) → r < height → i < lookup-count (t .lookups .lookups)
-      → el p w C (fraction-at p w (t .lookups) challenges values r i) ≡ paper-fraction p w C t challenges r i
-  unfolding fraction-at place
-  fraction-is-the-sum r i lr li =
-      fraction-is p w M C (place p w (t .lookups) challenges values r i) (row-below p M t ok r)
-      (no-fault p w (t .lookups) challenges values height fine r i lr li)
-
-  pub row-is-the-sum : (r : ℕ) → r < height → el p w C (row-sum p w (t .lookups) challenges values r) ≡ paper-row p w C t challenges r
-  unfolding row-sum
-  row-is-the-sum r lr =
-      sum-is p w C (fraction-at p w (t .lookups) challenges values r) (lookup-count (t .lookups .lookups))
-      ∙ sum-to-cong (K p w C) _ (paper-fraction p w C t challenges r) (lookup-count (t .lookups .lookups)) (λ i li. fraction-is-the-sum r i lr li)
-
-  pub accumulator-is-the-sum : (n : ℕ) → n ≤ height → el p w C (accumulator p w (t .lookups) challenges values n) ≡ paper-sum p w C t challenges n
-  unfolding accumulator
-  accumulator-is-the-sum n l =
-      sum-is p w C (row-sum p w (t .lookups) challenges values) n
-      ∙ sum-to-cong (K p w C) _ (paper-row p w C t challenges) n (λ r k. row-is-the-sum r (omega arith))
+pub accumulator-is-the-sum : (p w : ℕ) → Modulus p → (C : Certificate p w) → AccumulatorIsTheSum p w C
+unfolding accumulator
+accumulator-is-the-sum p w M C t challenges ok fine n l =
+    sum-is p w C (row-sum p w (t .lookups) challenges (values-of p t)) n
+    ∙ sum-to-cong (K p w C) _ (paper-row p w C t challenges) n (λ r k. row-is-the-sum p w M C t challenges ok fine r (omega arith))
 
 -- the challenges at a pair: alpha and beta for each lookup
 module _ (a b : List ℕ) (n i : ℕ) (la : length a ≡ 4) (lb : length b ≡ 4) (l : i < n) where

@@ -10,16 +10,16 @@ use Rattle.algebra.specs.Ring.{CRing}
 use Rattle.algebra.specs.laws.Solve.{X, _⊕_, _⊗_, solve, mul-z, u-mul}
 use Rattle.field.specs.Element.{scale4, sum4, power4}
 use Rattle.field.specs.Modulus.{Certificate}
-use Rattle.field.specs.laws.Extension.{K}
+use Rattle.field.specs.Extension.{K, KEl, el}
 use Rattle.field.specs.laws.Powers.{power4-zero, power4-suc}
-use Rattle.field.specs.laws.Homomorphism.{KEl, el, el-add, el-sub, el-mul}
+use Rattle.field.specs.laws.Homomorphism.{el-add, el-sub, el-mul}
 use Rattle.theorems_logup.specs.Inverse.{minus}
 use Rattle.theorems_logup.specs.Polynomial.{horner}
 use Rattle.theorems_logup.specs.Tables as Tables
 use Rattle.theorems_logup.specs.laws.Polynomial.{horner-snoc}
 use Rattle.expression.specs.Words.{word}
 use Rattle.logup.specs.Tuple.{exponent, combine, denominator}
-use Rattle.theorems_soundness.specs.laws.Setting.{into, N}
+use Rattle.theorems_soundness.specs.Entries.{into, N}
 use Rattle.theorems_soundness.specs.laws.Elements.{scale-is}
 
 module _ (p w : ℕ) (C : Certificate p w) (beta : List ℕ) where

@@ -4,29 +4,21 @@ use mathlib.Core.Logic.{_↔_}
 use mathlib.Core.Bool.{Bool, true, false, cond}
 use mathlib.Core.Option.{Option, none, some, Option·some-ne-none}
 use mathlib.Core.List.{List}
-use Prim.Native.Nat.{ℕ, zero, suc, _+_, _<_}
-use native.Mathlib.Omega.{arith}
-use native.Mathlib.Nat.{le-refl}
+use Prim.Native.Nat.{ℕ, _+_}
 use lib.Dec.{eqb, ltb, ltb→lt, nltb→le, not-T}
 use borrow.Author.Tests.{lt-ltb, le-ltb}
-use Rattle.lists.specs.Count.{first, or-else}
-use Rattle.lists.specs.laws.Count.{first-none, or-else-none, of-true, not-of-false, eqb-true, eq-of-eqb}
+use Rattle.lists.specs.Count.{or-else}
+use Rattle.lists.specs.laws.Count.{first-none, first-all, or-else-none, of-true, not-of-false, eqb-true, eq-of-eqb}
 use Rattle.field.specs.Element.{is-zero}
 use Rattle.expression.specs.Values.{row-values}
 use Rattle.expression.specs.declared.sizes.Limits.{Limits}
 use Rattle.expression.specs.declared.refusal.Refusal.{Refusal}
 use Rattle.expression.specs.declared.refusal.Refusal.the-variants.{ConstraintNotZero}
 use Rattle.lookup.specs.Lookups.{Lookups, lookup-count}
-use Rattle.lookup.specs.Table.{Table}
-use Rattle.logup.specs.Constraints.{must-vanish, cell, lookup-constraint, step, binding, row-verdict, rows-verdict, constraints-refusal, verdict}
-use Rattle.theorems_soundness.specs.Vanishing.{RowVanishes, Vanishes}
+use Rattle.logup.specs.Constraints.{must-vanish, cell, lookup-constraint, step, binding, row-verdict, rows-verdict, verdict}
+use Rattle.theorems_soundness.specs.Vanishing.{RowVanishes, Vanishes, PassesExactly, AcceptedExactly}
 
 module _ {A : Type 0} where
-  pub first-all : (f : ℕ → Option A) (n : ℕ) → ((i : ℕ) → i < n → f i ≡ none) → first f n ≡ none
-  unfolding first
-  first-all f zero e = refl
-  first-all f (suc n) e = ap₂ or-else (first-all f n (λ i l. e i (omega arith))) (e n (le-refl (suc n)))
-
   both-none : (a b : Option A) → a ≡ none → b ≡ none → or-else a b ≡ none
   both-none a b e q = ap₂ or-else e q
 
@@ -90,15 +82,15 @@ module _ (p w : ℕ) (l : Lookups) (challenges : List ℕ) (values : ℕ → Lis
       last-case true q = vanish-iff (by-step r) r (n + 1) .1 (v .steps (ltb→lt (r + 1) height (of-true q)))
       last-case false q = vanish-iff (by-terminal r) r (n + 2) .1 (v .ends (nltb→le (r + 1) height (not-T (ltb (r + 1) height) (not-of-false q))))
 
-  pub passes-exactly : (rows-verdict p w l challenges values width words e height ≡ none) ↔ Vanishes p w l challenges values height width words e
+  vanish : (rows-verdict p w l challenges values width words e height ≡ none) ↔ Vanishes p w l challenges values height width words e
   unfolding rows-verdict
-  passes-exactly = (λ v r k. row-holds r (first-none row height r v k), λ v. first-all row height (λ r k. of-row-holds r (v r k)))
+  vanish = (λ v r k. row-holds r (first-none row height r v k), λ v. first-all row height (λ r k. of-row-holds r (v r k)))
+
+pub passes-exactly : (p w : ℕ) → PassesExactly p w
+passes-exactly p w l challenges values height width words e = vanish p w l challenges values height width words e
 
 -- the entry point: "none where all constraints hold"
-pub accepted-exactly : (m : Limits) (p w : ℕ) (t : Table) (challenges : List ℕ) (width : ℕ) (words e : List ℕ)
-    → (verdict m p w t challenges width words (some e) ≡ none)
-    ↔ ((constraints-refusal m p w t challenges width words (some e) ≡ none)
-    × Vanishes p w (t .lookups) challenges (row-values p (t .nodes) (t .traces)) (t .traces .shape .height) width words e)
+pub accepted-exactly : (m : Limits) (p w : ℕ) → AcceptedExactly m p w
 unfolding verdict
 accepted-exactly m p w t challenges width words e =
     let q = passes-exactly p w (t .lookups) challenges (row-values p (t .nodes) (t .traces)) (t .traces .shape .height) width words e in
