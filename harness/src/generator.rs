@@ -552,7 +552,7 @@ fn case_of(random: &mut Random, tables: Vec<Table>) -> Case {
         negated: [apart.below(tables[0].node_count() as u64 + 1) as u32, apart.weight()],
         counted: tables[0].node_count() as u64,
         reader: reader(apart, &tables[0]),
-        exponent: if apart.one_in(8) { apart.below(5_000) as u32 } else { apart.below(40) as u32 },
+        exponent: if apart.one_in(8) { apart.below(1 << 32) as u32 } else { apart.below(40) as u32 },
         seed: apart.pick(&[0, 1, (1 << 31) - 1, u64::MAX, apart.0, apart.0, apart.0]),
         edits: if apart.one_in(2) { vec![longer(apart)] } else { vec![] },
         tables,

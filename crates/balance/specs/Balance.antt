@@ -4,6 +4,7 @@ use mathlib.Core.Option.{Option, none, some}
 use mathlib.Core.List.{List}
 use lib.ListN.{length, replicate}
 use Rattle.lists.specs.Fold.{fold}
+use Rattle.expression.specs.Refusal.{Numbers, numbers}
 use Rattle.expression.specs.declared.sizes.Limits.{Limits}
 use Rattle.expression.specs.declared.refusal.Refusal.{Refusal}
 use Rattle.lookup.specs.Table.{Table}
@@ -52,3 +53,11 @@ outcome none v workspace = record { refusal = v .refusal; workspace = v .workspa
 -- the entry point: within limits m, modulo p, the tables' lists, and the workspace as it is lent
 unfoldable pub check : Limits → ℕ → TableLists → List ℕ → Outcome
 check m p l workspace = outcome (tables-refusal m p l) (balance p (length workspace) (tables-of l)) workspace
+
+-- SPECIFICATION, section 1.4: "An answer is a number and three 64-bit details"; beside it the workspace afterwards
+pub record BalanceNumbers : Type 0 where
+  pub answer : Numbers
+  pub workspace : List ℕ
+
+unfoldable pub in-numbers : Outcome → BalanceNumbers
+in-numbers o = record { answer = numbers (o .refusal); workspace = o .workspace }

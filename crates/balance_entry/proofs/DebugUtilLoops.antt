@@ -19,7 +19,7 @@ use Rattle.lookup.specs.Lookups.{lookup-count}
 use Rattle.balance.specs.Tables.{TableLists, table-count, table-at, tables-of, lists-fit}
 use Rattle.balance.specs.Refusals.{tables-refusal}
 use Rattle.balance.specs.Groups.{members, groups}
-use Rattle.balance.specs.Balance.{Visited, visit, unvisited, balance, Outcome, outcome, check}
+use Rattle.balance.specs.Balance.{Visited, visit, unvisited, balance, Outcome, outcome, check, in-numbers}
 use Rattle.balance.specs.laws.Whole.{fitted}
 use Rattle.balance_groups.specs.inner.ByNumber.{groups-to}
 use Rattle.balance_groups.specs.inner.Visits.{accepts}
@@ -61,6 +61,7 @@ module _ (m : Limits) (p : ℕ) (l : TableLists) (workspace : List ℕ) where
       ap (λ (v : Visited). record { refusal = v .refusal; workspace = v .workspace }) (h ∙ ap (fold (visit p (length workspace)) (unvisited (length workspace))) (sym (groups-are l (fitted m p l g o e))))
       ∙ sym (ap (λ (r : Option Refusal). outcome r (fold (visit p (length workspace)) (unvisited (length workspace)) (groups (members (tables-of l)))) workspace) e)
 
--- the entry point's own limits
-pub at-limits : {m : Limits} {x : Outcome} (k : Limits) (p : ℕ) (l : TableLists) (workspace : List ℕ) → m ≡ k → x ≡ check m p l workspace → x ≡ check k p l workspace
-at-limits k p l workspace e h = h ∙ ap (λ (m : Limits). check m p l workspace) e
+-- the entry point's own limits, and the answer in numbers
+pub at-limits : {m : Limits} {x : Outcome} (k : Limits) (p : ℕ) (l : TableLists) (workspace : List ℕ) → m ≡ k → x ≡ check m p l workspace
+    → in-numbers x ≡ in-numbers (check k p l workspace)
+at-limits k p l workspace e h = ap in-numbers (h ∙ ap (λ (m : Limits). check m p l workspace) e)

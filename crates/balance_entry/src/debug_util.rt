@@ -15,7 +15,7 @@ ghost use Rattle.field.specs.Modulus.{Modulus, babybear};
 ghost use Rattle.expression.specs.Limits as Sizes;
 ghost use Rattle.expression.specs.Limits.{Sane};
 ghost use Rattle.expression.specs.Refusal.{refusal};
-ghost use Rattle.balance.specs.Balance.{check};
+ghost use Rattle.balance.specs.Balance.{check, in-numbers};
 ghost use Rattle.balance.specs.Tables.{TableLists, lent-tables};
 
 // The answer within these limits, modulo p.
@@ -114,11 +114,11 @@ pub fn check_lookups(
     seed: u64,
     workspace: &mut [u32],
 ) -> Verdict
-    ensures { λ r. ⌜ record { refusal = refusal r; workspace = now (workspace .exit) }
-        ≡ check Sizes.cabinet babybear
+    ensures { λ r. ⌜ in-numbers (record { refusal = refusal r; workspace = now (workspace .exit) })
+        ≡ in-numbers (check Sizes.cabinet babybear
         (lent-tables (now (sizes .entry)) (now (main .entry)) (now (preprocessed .entry)) (now («public_values» .entry)) (now (nodes .entry))
         (now (lookups .entry)) (now (names .entry)) (now (tuples .entry)) (now (multiplicities .entry)) (now (flags .entry)) (now (elements .entry)))
-        (now (workspace .entry)) ⌝ }
+        (now (workspace .entry))) ⌝ }
 {
     let limits = cabinet();
     check_within(

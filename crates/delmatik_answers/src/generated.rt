@@ -38,7 +38,7 @@ pub fn generation_details(g: Generated) -> ThreeDetails
 
 // 1 and the terminal's four words, or zeros where there is none.
 fn put_terminal(g: Generated, out: &mut [u32; 5])
-    ensures { λ _. ⌜ now (out .exit) ≡ marked-words (answer-of g) ⌝ }
+    ensures { λ _. ⌜ now (out .exit) ≡ marked-words (answer-of g .terminal) ⌝ }
 {
     match g {
         Generated::Terminal(t) => {

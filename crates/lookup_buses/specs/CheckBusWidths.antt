@@ -6,7 +6,7 @@ use Prim.Native.Nat.{ℕ, _%_}
 use lib.Dec.{eqb, leb}
 use lib.ListN.{length}
 use Rattle.lists.specs.Count.{every}
-use Rattle.expression.specs.Refusal.{unless}
+use Rattle.expression.specs.Refusal.{Numbers, numbers, unless}
 use Rattle.expression.specs.declared.sizes.Limits.{Limits}
 use Rattle.expression.specs.declared.refusal.Refusal.{Refusal}
 use Rattle.expression.specs.declared.refusal.Refusal.the-variants.{SizeAtOdds, LookupInvalid}
@@ -80,3 +80,14 @@ widths-answer m l =
 -- the tables from the lists that are lent
 abbrev pub lent-bus-tables : List ℕ → List ℕ → List ℕ → List ℕ → BusTables
 lent-bus-tables lookups names tuples sizes = record { lookups = lookups; names = names; tuples = tuples; sizes = sizes }
+
+-- SPECIFICATION, sections 1.4 and 7.1: "An answer is a number and three 64-bit details", "the width of the widest tuple on any bus" beside it,
+-- 0 where it is refused
+pub record WidthsNumbers : Type 0 where
+  pub answer : Numbers
+  pub width : ℕ
+
+-- for each case of the code's enum
+unfoldable pub in-numbers : WidthsAnswer → WidthsNumbers
+in-numbers (Widest n) = record { answer = numbers none; width = n }
+in-numbers (Refused f) = record { answer = numbers (some f); width = 0 }

@@ -22,7 +22,7 @@ ghost use mathlib.Core.Bool.{true};
 ghost use Rattle.lists.specs.Count.{every};
 ghost use Rattle.expression.specs.Limits.{Sane, cabinet};
 ghost use Rattle.lookup.specs.Sizes.{table-count};
-ghost use Rattle.lookup_buses.specs.CheckBusWidths.{BusTables, bus-sizes, table-at, lists-fit, table-fits, all-fit, widths-answer, lent-bus-tables};
+ghost use Rattle.lookup_buses.specs.CheckBusWidths.{BusTables, bus-sizes, table-at, lists-fit, table-fits, all-fit, widths-answer, in-numbers, lent-bus-tables};
 ghost use Rattle.lookup_buses.specs.inner.Requires.{BusListsCover};
 ghost use Rattle.lookup.specs.Lookups.{bus-lookups};
 
@@ -132,7 +132,8 @@ pub fn check_bus_widths(
     tuples: &[u32],
     sizes: &[u32],
 ) -> WidthsAnswer
-    ensures { λ r. ⌜ r ≡ widths-answer cabinet (lent-bus-tables (now (lookups .entry)) (now (names .entry)) (now (tuples .entry)) (now (sizes .entry))) ⌝ }
+    ensures { λ r. ⌜ in-numbers r
+        ≡ in-numbers (widths-answer cabinet (lent-bus-tables (now (lookups .entry)) (now (names .entry)) (now (tuples .entry)) (now (sizes .entry)))) ⌝ }
 {
     let limits = cabinet();
     widths_within(limits, lookups, names, tuples, sizes)

@@ -9,7 +9,7 @@ use lib.IntN.{ℤ, pos, negsuc}
 use lib.ListN.{length, take, drop}
 use Rattle.field.specs.Word.{negM}
 use Rattle.expression.specs.Node.{node-words}
-use Rattle.expression.specs.Refusal.{unless}
+use Rattle.expression.specs.Refusal.{Numbers, numbers, unless}
 use Rattle.expression.specs.declared.sizes.Limits.{Limits}
 use Rattle.expression.specs.declared.refusal.Refusal.{Refusal}
 use Rattle.expression.specs.declared.refusal.Refusal.the-variants.{SizeAtOdds, NodeInvalid}
@@ -74,3 +74,22 @@ from-i32 m p nodes used x = outcome (count-refusal m nodes used) nodes used cons
 -- the count with the other sign
 unfoldable pub negated : Limits → List ℕ → ℕ → Count → Outcome
 negated m nodes used c = outcome (negation-refusal m nodes used (c .node)) nodes used negation-kind (c .node) (c .weight)
+
+-- SPECIFICATION, sections 1.4 and 6.4: "An answer is a number and three 64-bit details", a count beside it, its node and its weight, both 0 where
+-- it is refused, and the lent list afterwards
+pub record CountNumbers : Type 0 where
+  pub answer : Numbers
+  pub count : Count
+  pub nodes : List ℕ
+
+-- for each case of the code's enum
+abbrev pub refusal-of : Counted → Option Refusal
+refusal-of (Added c) = none
+refusal-of (Refused f) = some f
+
+abbrev pub added-of : Counted → Count
+added-of (Added c) = c
+added-of (Refused f) = count-of 0 0
+
+unfoldable pub in-numbers : Outcome → CountNumbers
+in-numbers o = record { answer = numbers (refusal-of (o .answer)); count = added-of (o .answer); nodes = o .nodes }

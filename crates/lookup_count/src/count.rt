@@ -16,7 +16,7 @@ ghost use lib.ListN.{length};
 ghost use Rattle.field.specs.Modulus.{Modulus, babybear};
 ghost use Rattle.expression.specs.Limits as Sizes;
 ghost use Rattle.expression.specs.Node.{node-words};
-ghost use Rattle.lookup_count.specs.Count.{constant-kind, negation-kind, count-of, negative, magnitude, residue, count-refusal, negation-refusal, counted, nodes-after, from-i32, negated};
+ghost use Rattle.lookup_count.specs.Count.{constant-kind, negation-kind, count-of, negative, magnitude, residue, count-refusal, negation-refusal, counted, nodes-after, from-i32, negated, in-numbers};
 
 // The kinds of the nodes that are added.
 const CONSTANT_KIND: u32 = 0;
@@ -117,7 +117,7 @@ fn magnitude(x: i32) -> u32
 
 // The count of a number, with the limits and the field of SPECIFICATION, sections 2.1 and 11.
 pub fn from_i32(nodes: &mut [u32], used: usize, x: i32) -> Counted
-    ensures { λ r. ⌜ record { answer = r; nodes = now (nodes .exit) } ≡ from-i32 Sizes.cabinet babybear (now (nodes .entry)) used x ⌝ }
+    ensures { λ r. ⌜ in-numbers (record { answer = r; nodes = now (nodes .exit) }) ≡ in-numbers (from-i32 Sizes.cabinet babybear (now (nodes .entry)) used x) ⌝ }
 {
     constant(cabinet(), BABYBEAR, nodes, used, x < 0, magnitude(x))
 }
@@ -147,7 +147,7 @@ pub fn negation(limits: Limits, nodes: &mut [u32], used: usize, count: Count) ->
 
 // Negation, with the limits of SPECIFICATION, section 11.
 pub fn negated(nodes: &mut [u32], used: usize, count: Count) -> Counted
-    ensures { λ r. ⌜ record { answer = r; nodes = now (nodes .exit) } ≡ negated Sizes.cabinet (now (nodes .entry)) used count ⌝ }
+    ensures { λ r. ⌜ in-numbers (record { answer = r; nodes = now (nodes .exit) }) ≡ in-numbers (negated Sizes.cabinet (now (nodes .entry)) used count) ⌝ }
 {
     negation(cabinet(), nodes, used, count)
 }

@@ -32,7 +32,7 @@ ghost use Rattle.expression.specs.Words.{word};
 ghost use Rattle.lookup.specs.Lookups.{lookup-count};
 ghost use Rattle.lookup_protocol.specs.Height.{table-lookups, weight-sum, table-weight, height-sum, lookups-small, tables-within, tables-fit, height-refusal};
 ghost use Rattle.lookup_protocol.specs.inner.Requires.{LookupsCounted, HeightLists, height-lists};
-ghost use Rattle.expression.specs.Refusal.{refusal};
+ghost use Rattle.expression.specs.Refusal.{refusal, numbers};
 ghost use Rattle.lookup_protocol.specs.Terminals.{terminal-words, terminal-count, present, terminal, terminal-below, with-terminal, terminal-sum, terminals-refusal};
 
 // The words of a terminal: a mark, 0 where it is absent, and its element.
@@ -146,7 +146,7 @@ pub fn terminals_refusal(limits: Limits, p: u32, terminals: &[u32]) -> Verdict
 
 // The terminals of a batch cancel, with the limits and the field of SPECIFICATION, sections 2.1 and 11.
 pub fn verify_terminal_sum(terminals: &[u32]) -> Verdict
-    ensures { λ r. ⌜ refusal r ≡ terminals-refusal Sizes.cabinet babybear (now (terminals .entry)) ⌝ }
+    ensures { λ r. ⌜ numbers (refusal r) ≡ numbers (terminals-refusal Sizes.cabinet babybear (now (terminals .entry))) ⌝ }
 {
     terminals_refusal(cabinet(), BABYBEAR, terminals)
 }
@@ -262,7 +262,8 @@ pub fn height_refusal(
 
 // The height bound, with the limits and the field of SPECIFICATION, sections 2.1 and 11.
 pub fn check_multiplicity_height_bound(lookups: &[u32], counts: &[u32], heights: &[u32]) -> Verdict
-    ensures { λ r. ⌜ refusal r ≡ height-refusal Sizes.cabinet babybear (now (lookups .entry)) (now (counts .entry)) (now (heights .entry)) ⌝ }
+    ensures { λ r. ⌜ numbers (refusal r)
+        ≡ numbers (height-refusal Sizes.cabinet babybear (now (lookups .entry)) (now (counts .entry)) (now (heights .entry))) ⌝ }
 {
     height_refusal(cabinet(), BABYBEAR, lookups, counts, heights)
 }

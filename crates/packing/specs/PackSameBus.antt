@@ -6,7 +6,7 @@ use Prim.Native.Nat.{ℕ}
 use lib.Dec.{leb}
 use lib.ListN.{length}
 use Rattle.lists.specs.Count.{or-else}
-use Rattle.expression.specs.Refusal.{unless}
+use Rattle.expression.specs.Refusal.{Numbers, numbers, unless}
 use Rattle.expression.specs.declared.sizes.Limits.{Limits}
 use Rattle.expression.specs.declared.refusal.Refusal.{Refusal}
 use Rattle.expression.specs.declared.refusal.Refusal.the-variants.{SizeAtOdds, WeightTooLarge}
@@ -83,3 +83,22 @@ outcome none w lent = record { answer = Packed (counts w); lists = all-written w
 -- the table's columns, nodes and lookups, and the lent lists
 unfoldable pub packing : Limits → ℕ → ℕ → Columns → List ℕ → Lookups → Lookups → Outcome
 packing m p limit c nodes l lent = outcome (packing-refusal m p limit c nodes l lent) (words-of (columns limit nodes l)) lent
+
+-- SPECIFICATION, sections 1.4 and 6.2: "An answer is a number and three 64-bit details", "how much of each list was written" beside it, 0 of each
+-- where it is refused, and the lent lists afterwards
+pub record PackingNumbers : Type 0 where
+  pub answer : Numbers
+  pub used : Counts
+  pub lists : Lookups
+
+-- for each case of the code's enum
+abbrev pub refusal-of : PackingAnswer → Option Refusal
+refusal-of (Packed c) = none
+refusal-of (Refused f) = some f
+
+abbrev pub used-of : PackingAnswer → Counts
+used-of (Packed c) = c
+used-of (Refused f) = record { lookups = 0; names = 0; tuples = 0; multiplicities = 0; flags = 0; elements = 0 }
+
+unfoldable pub in-numbers : Outcome → PackingNumbers
+in-numbers o = record { answer = numbers (refusal-of (o .answer)); used = used-of (o .answer); lists = o .lists }

@@ -21,7 +21,7 @@ ghost use Rattle.expression.specs.Limits as Sizes;
 ghost use Rattle.expression.specs.Limits.{Sane};
 ghost use Rattle.lookup.specs.Lookups.{lent-lookups};
 ghost use Rattle.lookup_degree.specs.Formed.{Formed};
-ghost use Rattle.packing.specs.PackSameBus.{holds, packing};
+ghost use Rattle.packing.specs.PackSameBus.{holds, packing, in-numbers};
 ghost use Rattle.packing_columns.specs.inner.Layout.{formed-outcome, ListsExact, PackSource, pack-source};
 
 // Packing of a table that has none of refusals 1 to 5, into lists that hold it. Nothing is written before the last refusal is known.
@@ -186,16 +186,16 @@ pub fn pack_same_bus(
     flags_out: &mut [u32],
     elements_out: &mut [u32],
 ) -> PackingAnswer
-    ensures { λ r. ⌜ record {
+    ensures { λ r. ⌜ in-numbers (record {
       answer = r;
       lists = lent-lookups (now («lookups_out» .exit)) (now («names_out» .exit)) (now («tuples_out» .exit))
           (now («multiplicities_out» .exit)) (now («flags_out» .exit)) (now («elements_out» .exit));
-    }
-        ≡ packing Sizes.cabinet babybear limit columns (now (nodes .entry))
+    })
+        ≡ in-numbers (packing Sizes.cabinet babybear limit columns (now (nodes .entry))
         (lent-lookups (now (lookups .entry)) (now (names .entry)) (now (tuples .entry)) (now (multiplicities .entry)) (now (flags .entry))
         (now (elements .entry)))
         (lent-lookups (now («lookups_out» .entry)) (now («names_out» .entry)) (now («tuples_out» .entry)) (now («multiplicities_out» .entry))
-        (now («flags_out» .entry)) (now («elements_out» .entry))) ⌝ }
+        (now («flags_out» .entry)) (now («elements_out» .entry)))) ⌝ }
 {
     pack_within(
         cabinet(),

@@ -1,5 +1,6 @@
 use mathlib.Core.Path.{ap, _∙_}
 use Rattle.balance.specs.Balance.{Outcome}
+use Rattle.balance.specs.laws.Balance.{in-numbers-injective}
 use Rattle.delmatik.specs.Exports.{exported-balance, exported-verdict}
 use Rattle.delmatik.proofs.Answered.{verdict-is}
 use borrow.Author.Needs.{needs}
@@ -18,7 +19,7 @@ same-length c = search needs
 returns : tie.Need-returns
 unfolding exported-balance exported-verdict
 returns c =
-    let o = c .before .before .before .before .check-lookups .ensures in
+    let o = in-numbers-injective _ _ (c .before .before .before .before .check-lookups .ensures) in
     let v = verdict-is (c .write-answer .ensures) (ap (λ (x : Outcome). x .refusal) o) in
     λ i. record { number = v i .number; details = v i .details; workspace = o i .workspace }
 

@@ -4,6 +4,7 @@ use mir.ValLaws.{toZ-ofZ}
 use Rattle.expression.specs.Limits.{cabinet}
 use Rattle.field.specs.Modulus.{babybear}
 use Rattle.lookup_count.specs.Count.{Outcome, from-i32}
+use Rattle.lookup_count.specs.laws.Count.{in-numbers-injective}
 use Rattle.delmatik_answers.specs.Count.{count-refused, counted-words}
 use Rattle.delmatik.specs.Exports.{exported-count, exported-verdict}
 use Rattle.delmatik.proofs.Answered.{verdict-is}
@@ -34,7 +35,7 @@ returns c =
     let start = at-7 .before .before .before in
     let args = start .args in
     let lent = args .count .now in
-    let o = at-7 .from-i32 .ensures ∙ ap (from-i32 cabinet babybear (args .nodes .now) (args .used)) (toZ-ofZ w32 (args .x) (start .fits .x)) in
+    let o = in-numbers-injective _ _ (at-7 .from-i32 .ensures) ∙ ap (from-i32 cabinet babybear (args .nodes .now) (args .used)) (toZ-ofZ w32 (args .x) (start .fits .x)) in
     let v = verdict-is (c .write-answer .ensures) (c .before .before .count-verdict .ensures ∙ ap (λ (x : Outcome). count-refused (x .answer)) o) in
     let written = at-3 .write-counted .ensures ∙ ap (λ (x : Outcome). counted-words (x .answer) lent) o in
     λ i. record { number = v i .number; details = v i .details; count = written i; nodes = o i .nodes }

@@ -1,5 +1,6 @@
 use mathlib.Core.Path.{ap, _∙_}
 use Rattle.lookup_count.specs.Count.{Outcome}
+use Rattle.lookup_count.specs.laws.Count.{in-numbers-injective}
 use Rattle.delmatik_answers.specs.Count.{count-refused, counted-words}
 use Rattle.delmatik.specs.Exports.{exported-count, exported-verdict}
 use Rattle.delmatik.proofs.Answered.{verdict-is}
@@ -28,7 +29,7 @@ returns c =
     let at-3 = c .before .before .before in
     let at-7 = at-3 .before .before .before .before in
     let lent = at-7 .before .before .before .args .count .now in
-    let o = at-7 .negated .ensures in
+    let o = in-numbers-injective _ _ (at-7 .negated .ensures) in
     let v = verdict-is (c .write-answer .ensures) (c .before .before .count-verdict .ensures ∙ ap (λ (x : Outcome). count-refused (x .answer)) o) in
     let written = at-3 .write-counted .ensures ∙ ap (λ (x : Outcome). counted-words (x .answer) lent) o in
     λ i. record { number = v i .number; details = v i .details; count = written i; nodes = o i .nodes }

@@ -9,12 +9,12 @@ row-requires c κs = search needs
 write-part-requires : tie.Need-write-part-requires
 write-part-requires c κs =
     let start = c .before .before .before in
-    start-fits (start .args .trace .now) (start .args .lookups) (start .args .height) (start .args .r) (start .good .0 .1) (c .before .row .ensures)
+    start-fits (start .args .trace .now) (start .args .lookups) (start .args .height) (start .args .r) (start .good .0 .1) (c .before .row .ensures .words)
 
 returns : tie.Need-returns
 returns c =
     let start = c .before .before .before .before in
-    row-told (start .args .trace .now) (start .args .lookups) (start .args .height) (start .args .r) (c .before .before .row .ensures) (c .write-part
+    row-told (start .args .trace .now) (start .args .lookups) (start .args .height) (start .args .r) (c .before .before .row .ensures .words) (c .write-part
     .ensures)
 
 pub delmatik-row-spec : {M : Type 1} → statement M

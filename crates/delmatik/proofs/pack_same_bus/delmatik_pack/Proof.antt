@@ -1,5 +1,6 @@
 use mathlib.Core.Path.{ap, _∙_}
 use Rattle.packing.specs.PackSameBus.{Outcome}
+use Rattle.packing.specs.laws.PackSameBus.{in-numbers-injective}
 use Rattle.delmatik_answers.specs.Packing.{packing-refused, packing-used}
 use Rattle.delmatik.specs.Exports.{exported-packing, exported-verdict}
 use Rattle.delmatik.proofs.Answered.{verdict-is}
@@ -42,7 +43,7 @@ unfolding exported-packing exported-verdict
 returns c =
     let at-17 = c .before .before .before .before .before .before .before .before .before .before .before .before .before .before .before .before
     .before in
-    let o = at-17 .pack-same-bus .ensures in
+    let o = in-numbers-injective _ _ (at-17 .pack-same-bus .ensures) in
     let v = verdict-is (c .write-answer .ensures) (c .before .before .packing-verdict .ensures ∙ ap (λ (x : Outcome). packing-refused (x .answer)) o) in
     let lent = at-17 .before .before .before .before .before .before .before .before .before .before .before .before .before .before .before .before .before .before .before .before .args .used .now in
     let used = c .before .before .before .write-used .ensures ∙ ap (λ (x : Outcome). packing-used (x .answer) lent) o in

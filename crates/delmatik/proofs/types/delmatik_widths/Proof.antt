@@ -1,5 +1,6 @@
 use Rattle.lookup_buses.specs.declared.check_bus_widths.WidthsAnswer.{WidthsAnswer}
 use mathlib.Core.Path.{ap, _∙_}
+use Rattle.lookup_buses.specs.laws.CheckBusWidths.{in-numbers-injective}
 use Rattle.delmatik_answers.specs.Types.{widths-refused, widest-value}
 use Rattle.delmatik.specs.Exports.{exported-widest, exported-verdict}
 use Rattle.delmatik.proofs.Answered.{verdict-is}
@@ -23,7 +24,7 @@ returns : tie.Need-returns
 unfolding exported-widest exported-verdict
 returns c =
     let at-5 = c .before .before .before .before .before in
-    let a = at-5 .check-bus-widths .ensures in
+    let a = in-numbers-injective _ _ (at-5 .check-bus-widths .ensures) in
     let v = verdict-is (c .write-answer .ensures) (c .before .before .widths-verdict .ensures ∙ ap widths-refused a) in
     let lent = at-5 .before .before .before .before .before .args .widest .now in
     let written = c .before .before .before .write-widest .ensures ∙ ap (λ (x : WidthsAnswer). widest-value x lent) a in

@@ -1,3 +1,4 @@
+use Rattle.balance.specs.laws.Balance.{in-numbers-injective}
 use Rattle.wire.specs.laws.Room.{scaled}
 use Prim.Native.Nat.{zero-le}
 use borrow.Author.Needs.{needs}
@@ -204,7 +205,7 @@ same-length c = search needs
 returns : tie.Need-returns
 returns c =
     let at-check-lookups = c .before .before in
-    at-check-lookups .check-lookups .ensures
+    in-numbers-injective _ _ (at-check-lookups .check-lookups .ensures)
 
 pub check-in-spec : {M : Type 1} → statement M
 check-in-spec =

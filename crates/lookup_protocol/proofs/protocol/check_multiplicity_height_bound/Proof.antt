@@ -1,3 +1,5 @@
+use mathlib.Core.Path.{ap}
+use Rattle.expression.specs.Refusal.{numbers}
 use Rattle.expression.specs.laws.Tested.{cabinet-sane}
 use Rattle.expression.specs.Limits.{Sane}
 use borrow.Author.Needs.{needs}
@@ -11,7 +13,7 @@ height-refusal-requires : tie.Need-height-refusal-requires
 height-refusal-requires c κs = rw (c .cabinet .ensures) cabinet-sane
 
 returns : tie.Need-returns
-returns c = rw (← (c .before .cabinet .ensures)) (c .height-refusal .ensures)
+returns c = rw (← (c .before .cabinet .ensures)) (ap numbers (c .height-refusal .ensures))
 
 pub check-multiplicity-height-bound-spec : {M : Type 1} → statement M
 check-multiplicity-height-bound-spec =

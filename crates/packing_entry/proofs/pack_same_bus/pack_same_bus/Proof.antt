@@ -1,4 +1,5 @@
 use Rattle.field.specs.Modulus.{babybear}
+use Rattle.packing.specs.PackSameBus.{in-numbers}
 use Rattle.packing_entry.proofs.Answers.{cabinet-asks, at-cabinet}
 use Rattle.lookup.specs.Lookups.{lent-lookups}
 use borrow.Author.Needs.{needs}
@@ -38,7 +39,7 @@ returns c =
     .names .now) (at-33 .args .tuples .now) (at-33 .args .multiplicities .now) (at-33 .args .flags .now) (at-33 .args .elements .now)) (lent-lookups
     (at-33 .args .lookups-out .now) (at-33 .args .names-out .now) (at-33 .args .tuples-out .now) (at-33 .args .multiplicities-out .now) (at-33 .args
     .flags-out .now) (at-33 .args .elements-out .now)) (at-19 .cabinet .ensures) (at-12 .pack-within .ensures) in
-    λ i. record { answer = k .0 i; lists = k .1 i }
+    λ i. in-numbers (record { answer = k .0 i; lists = k .1 i })
 
 pub pack-same-bus-spec : {M : Type 1} → statement M
 pack-same-bus-spec =
