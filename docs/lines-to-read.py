@@ -27,7 +27,7 @@ ENTRIES = {
 EXPORTS = ["delmatik", "delmatik_bytes"]
 
 # the files with the statements of the theorems; `use` lines lead on from there
-STATEMENTS = ["theorems_*/specs/*.antt"]
+STATEMENTS = ["theorems_*/specs/*.antt", "packing/specs/Keeps.antt", "balance/specs/Passes.antt"]
 
 USE = re.compile(r"^\s*(?:ghost )?use (?:Rattle·(\w+)(?:·specs)?\.specs\.)([\w.]+?)(?:\.\{([^}]*)\}| as ([\w-]+))?;?\s*$", re.M)
 
