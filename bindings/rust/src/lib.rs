@@ -438,7 +438,7 @@ pub(crate) fn drawn_seed() -> u64 {
 }
 
 /// `check_lookups`: the workspace, of ten words a slot, holds the last group visited afterwards. The seed of the search is drawn for each
-/// call, so that no trace can be chosen to make it slow.
+/// call, so that tuples chosen beforehand are spread like any others.
 pub fn balance(tables: &[Table], workspace: &mut [u32]) -> Result<(), Refusal> {
     balance_with_seed(tables, drawn_seed(), workspace)
 }
