@@ -18,7 +18,7 @@ ghost use mathlib.Core.List.{_++_, map};
 ghost use Prim.Native.Nat.{_+_, _*_, _-_, _<_, _≤_};
 ghost use lib.ListN.{length, replicate};
 ghost use Rattle.lists.specs.Fold.{fold};
-ghost use Rattle.field.specs.Modulus.{Modulus};
+ghost use Rattle.field.specs.inner.Requires.{KnownPrime};
 ghost use Rattle.expression.specs.Words.{word};
 ghost use Rattle.expression.specs.Window.{lent-traces};
 ghost use Rattle.expression.specs.Values.{row-values};
@@ -54,7 +54,7 @@ fn add_tuple(
     nodes: &[u32],
     count: u32,
 ) -> LinkedUse
-    requires { ⌜ Modulus p × (length (now nodes) ≤ tuple-words) × ChainsLinked seed (now heads) (now workspace) u ⌝ }
+    requires { ⌜ KnownPrime p × (length (now nodes) ≤ tuple-words) × ChainsLinked seed (now heads) (now workspace) u ⌝ }
     ensures { λ r. ⌜ (plain-work (now (workspace .exit)) r ≡ step p (plain-work (now (workspace .entry)) u) (record { tuple = map (word (now (vals .entry))) (now (nodes .entry)); count = count })) × ChainsLinked seed (now (heads .exit)) (now (workspace .exit)) r ⌝ }
 {
     let t = tuple_values(vals, nodes);
@@ -71,7 +71,7 @@ fn entry_count(
     flags: &[u32],
     k: usize,
 ) -> u32
-    requires { ⌜ Modulus p × Below p (now vals) × (starts .multiplicities + k < length (now multiplicities)) × (starts .exclusive ≡ true → starts .flags + k < length (now flags)) ⌝ }
+    requires { ⌜ KnownPrime p × Below p (now vals) × (starts .multiplicities + k < length (now multiplicities)) × (starts .exclusive ≡ true → starts .flags + k < length (now flags)) ⌝ }
     ensures { λ r. ⌜ r ≡ count-from p starts (now (multiplicities .entry)) (now (flags .entry)) (now (vals .entry)) k ⌝ }
 {
     let multiplicity = word_at(vals, to_usize(multiplicities[starts.multiplicities + k]));
@@ -98,7 +98,7 @@ fn add_tuples(
 ) -> LinkedUse
     ghost { PartLists }
     requires { λ l. ⌜ part-lists (now tuples) (now multiplicities) (now flags) (now elements) ≡ l ⌝ }
-    requires { λ l. ⌜ Modulus p × Below p (now vals) × ChainsLinked seed (now heads) (now workspace) u × StartsWithin starts l ⌝ }
+    requires { λ l. ⌜ KnownPrime p × Below p (now vals) × ChainsLinked seed (now heads) (now workspace) u × StartsWithin starts l ⌝ }
     ensures { λ l r. ⌜ (plain-work (now (workspace .exit)) r ≡ fold (step p) (plain-work (now (workspace .entry)) u) (entries-from p starts l (now (vals .entry)))) × ChainsLinked seed (now (heads .exit)) (now (workspace .exit)) r ⌝ }
 {
     let n = starts.count;

@@ -1,15 +1,18 @@
 -- The ways out of the entry point.
-use mathlib.Core.Path.{_≡_, refl, sym, ap, _∙_}
-use mathlib.Core.Bool.{Bool, true, false, not, true≢false}
+use mathlib.Core.Path.{_≡_, refl, sym, ap, ap₂, _∙_}
+use mathlib.Core.Bool.{Bool, true, false, not, cond, true≢false}
 use mathlib.Core.Option.{Option, none, some}
 use mathlib.Core.List.{List, _++_}
 use Prim.Native.Nat.{ℕ, _+_, _-_}
 use lib.ListN.{length}
 use borrow.Author.Tests.{not-true, not-false}
 use Rattle.lists.specs.Fold.{fold}
-use Rattle.field.specs.Modulus.{Modulus}
+use Rattle.field.specs.inner.Requires.{KnownPrime}
+use Rattle.field.specs.Known.{prime-of}
 use Rattle.expression.specs.Limits.{Sane}
+use Rattle.expression.specs.Choices.{known, limits-of}
 use Rattle.expression.specs.Refusal.{refusal}
+use Rattle.expression.specs.declared.choices.Choices.{Choices}
 use Rattle.expression.specs.declared.sizes.Limits.{Limits}
 use Rattle.expression.specs.declared.refusal.Refusal.{Refusal}
 use Rattle.expression.specs.declared.refusal.Refusal.the-variants.{SizeAtOdds}
@@ -19,7 +22,7 @@ use Rattle.lookup.specs.Lookups.{lookup-count}
 use Rattle.balance.specs.Tables.{TableLists, table-count, table-at, tables-of, lists-fit}
 use Rattle.balance.specs.Refusals.{tables-refusal}
 use Rattle.balance.specs.Groups.{members, groups}
-use Rattle.balance.specs.Balance.{Visited, visit, unvisited, balance, Outcome, outcome, check, in-numbers}
+use Rattle.balance.specs.Balance.{Visited, visit, unvisited, balance, Outcome, outcome, check, check-at, in-numbers}
 use Rattle.balance.specs.laws.Whole.{fitted}
 use Rattle.balance_groups.specs.inner.ByNumber.{groups-to}
 use Rattle.balance_groups.specs.inner.Visits.{accepts}
@@ -53,7 +56,7 @@ module _ (m : Limits) (p : ℕ) (l : TableLists) (workspace : List ℕ) where
   pub nothing : {b a : Bool} (v : Verdict) → b ≡ lists-fit m l → not b ≡ false → refusal v ≡ lowest (λ t. one-refusal m p (table-at l t)) (table-count (l .sizes)) → a ≡ accepts v → not a ≡ false → tables-refusal m p l ≡ none
   nothing {b} {a} v e t h f s = sym (found e t h) ∙ none-of v (sym f ∙ not-false a s)
 
-  pub answered : {x : Visited} → Sane m → Modulus p → tables-refusal m p l ≡ none
+  pub answered : {x : Visited} → Sane m → KnownPrime p → tables-refusal m p l ≡ none
       → x ≡ fold (visit p (length workspace)) (unvisited (length workspace)) (groups-to l false (lookup-count (l .lookups .lookups)) ++ groups-to l true (lookup-count (l .lookups .lookups)))
       → record { refusal = x .refusal; workspace = x .workspace } ≡ check m p l workspace
   unfolding check balance
@@ -61,7 +64,17 @@ module _ (m : Limits) (p : ℕ) (l : TableLists) (workspace : List ℕ) where
       ap (λ (v : Visited). record { refusal = v .refusal; workspace = v .workspace }) (h ∙ ap (fold (visit p (length workspace)) (unvisited (length workspace))) (sym (groups-are l (fitted m p l g o e))))
       ∙ sym (ap (λ (r : Option Refusal). outcome r (fold (visit p (length workspace)) (unvisited (length workspace)) (groups (members (tables-of l)))) workspace) e)
 
--- the entry point's own limits, and the answer in numbers
-pub at-limits : {m : Limits} {x : Outcome} (k : Limits) (p : ℕ) (l : TableLists) (workspace : List ℕ) → m ≡ k → x ≡ check m p l workspace
-    → in-numbers x ≡ in-numbers (check k p l workspace)
-at-limits k p l workspace e h = ap in-numbers (h ∙ ap (λ (m : Limits). check m p l workspace) e)
+-- the entry point at its choices, and the answer in numbers
+module _ (c : Choices) (l : TableLists) (workspace : List ℕ) where
+  abbrev at-known : Bool → Outcome
+  at-known b = cond b (check (limits-of (c .profile)) (prime-of (c .field)) l workspace) (record { refusal = some SizeAtOdds; workspace = workspace })
+
+  pub unknown : {b : Bool} → b ≡ known c → not b ≡ true → in-numbers (record { refusal = some SizeAtOdds; workspace = workspace }) ≡ in-numbers (check-at c l workspace)
+  unfolding check-at
+  unknown {b} e t = ap (λ (x : Bool). in-numbers (at-known x)) (sym (not-true b t) ∙ e)
+
+  pub at-choices : {b : Bool} {m : Limits} {p : ℕ} {x : Outcome} → b ≡ known c → not b ≡ false → m ≡ limits-of (c .profile) → p ≡ prime-of (c .field)
+      → x ≡ check m p l workspace → in-numbers x ≡ in-numbers (check-at c l workspace)
+  unfolding check-at
+  at-choices {b} e t f g h =
+      ap in-numbers (h ∙ ap₂ (λ (m : Limits) (p : ℕ). check m p l workspace) f g) ∙ ap (λ (x : Bool). in-numbers (at-known x)) (sym (not-false b t) ∙ e)

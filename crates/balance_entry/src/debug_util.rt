@@ -5,17 +5,18 @@ use balance_groups::tests::lists_fit;
 use balance_groups::tests::tables_verdict;
 use balance_slots::hash::Seed;
 use balance_slots::hash::seed_of;
+use expression::choices::Choices;
+use expression::choices::known;
+use expression::choices::limits_of;
 use expression::refusal::Refusal;
 use expression::refusal::Verdict;
 use expression::sizes::Limits;
-use expression::sizes::cabinet;
-use field::modulus::BABYBEAR;
+use field::modulus::prime_of;
 ghost use mathlib.Core.Path.{_≡_};
-ghost use Rattle.field.specs.Modulus.{Modulus, babybear};
-ghost use Rattle.expression.specs.Limits as Sizes;
+ghost use Rattle.field.specs.inner.Requires.{KnownPrime};
 ghost use Rattle.expression.specs.Limits.{Sane};
 ghost use Rattle.expression.specs.Refusal.{refusal};
-ghost use Rattle.balance.specs.Balance.{check, in-numbers};
+ghost use Rattle.balance.specs.Balance.{check, check-at, in-numbers};
 ghost use Rattle.balance.specs.Tables.{TableLists, lent-tables};
 
 // The answer within these limits, modulo p.
@@ -38,7 +39,7 @@ pub fn check_within(
 ) -> Verdict
     ghost { TableLists }
     requires { λ l. ⌜ lent-tables (now sizes) (now main) (now preprocessed) (now «public_values») (now nodes) (now lookups) (now names) (now tuples) (now multiplicities) (now flags) (now elements) ≡ l ⌝ }
-    requires { λ l. ⌜ Sane limits × Modulus p ⌝ }
+    requires { λ l. ⌜ Sane limits × KnownPrime p ⌝ }
     ensures { λ l r. ⌜ record { refusal = refusal r; workspace = now (workspace .exit) } ≡ check limits p l (now (workspace .entry)) ⌝ }
 {
     if !lists_fit(
@@ -97,9 +98,10 @@ pub fn check_within(
 // Several tables, one after the other in each list; `sizes` has fourteen words for each of them: main width, height,
 // preprocessed width, preprocessed height, then how many main words, preprocessed words, public values, nodes, lookups,
 // bytes of names, tuples, multiplicities, flags and elements it has. A slot of the workspace has ten words. The seed is any number,
-// drawn where traces come from others: it decides in which chain a tuple is searched. `check`, the right side of the contract, takes
+// drawn where traces come from others: it decides in which chain a tuple is searched. `check-at`, the right side of the contract, takes
 // no seed: so it changes the time and never the answer.
 pub fn check_lookups(
+    choices: Choices,
     sizes: &[u32],
     main: &[u32],
     preprocessed: &[u32],
@@ -115,15 +117,17 @@ pub fn check_lookups(
     workspace: &mut [u32],
 ) -> Verdict
     ensures { λ r. ⌜ in-numbers (record { refusal = refusal r; workspace = now (workspace .exit) })
-        ≡ in-numbers (check Sizes.cabinet babybear
+        ≡ in-numbers (check-at choices
         (lent-tables (now (sizes .entry)) (now (main .entry)) (now (preprocessed .entry)) (now («public_values» .entry)) (now (nodes .entry))
         (now (lookups .entry)) (now (names .entry)) (now (tuples .entry)) (now (multiplicities .entry)) (now (flags .entry)) (now (elements .entry)))
         (now (workspace .entry))) ⌝ }
 {
-    let limits = cabinet();
+    if !known(choices) {
+        return Verdict::Refused(Refusal::SizeAtOdds);
+    }
     check_within(
-        limits,
-        BABYBEAR,
+        limits_of(choices.profile),
+        prime_of(choices.field),
         sizes,
         main,
         preprocessed,

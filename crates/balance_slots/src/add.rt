@@ -9,7 +9,7 @@ use expression::words::clear;
 ghost use mathlib.Core.Path.{_≡_};
 ghost use Prim.Native.Nat.{_+_, _*_, _≤_};
 ghost use lib.ListN.{length};
-ghost use Rattle.field.specs.Modulus.{Modulus};
+ghost use Rattle.field.specs.inner.Requires.{KnownPrime};
 ghost use Rattle.balance_slots.specs.inner.Work.{new-at, add-nonzero-at, step};
 ghost use Rattle.balance_slots.specs.inner.Chain.{Chained, SlotsLinked, ChainsLinked, plain, plain-work};
 ghost use Rattle.balance_slots.specs.Workspace.{slot-words, tuple-words};
@@ -51,7 +51,7 @@ fn add_nonzero(
     t: &[u32],
     count: u32,
 ) -> LinkedUse
-    requires { ⌜ Modulus p × (length (now t) ≤ tuple-words) × ChainsLinked seed (now heads) (now workspace) v ⌝ }
+    requires { ⌜ KnownPrime p × (length (now t) ≤ tuple-words) × ChainsLinked seed (now heads) (now workspace) v ⌝ }
     ensures { λ r. ⌜ (plain-work (now (workspace .exit)) r ≡ add-nonzero-at p (plain-work (now (workspace .entry)) v) (now (t .entry)) count) × ChainsLinked seed (now (heads .exit)) (now (workspace .exit)) r ⌝ }
 {
     let n = v.used;
@@ -92,7 +92,7 @@ pub fn add(
     t: &[u32],
     count: u32,
 ) -> LinkedUse
-    requires { ⌜ Modulus p × (length (now t) ≤ tuple-words) × ChainsLinked seed (now heads) (now workspace) v ⌝ }
+    requires { ⌜ KnownPrime p × (length (now t) ≤ tuple-words) × ChainsLinked seed (now heads) (now workspace) v ⌝ }
     ensures { λ r. ⌜ (plain-work (now (workspace .exit)) r ≡ step p (plain-work (now (workspace .entry)) v) (record { tuple = now (t .entry); count = count })) × ChainsLinked seed (now (heads .exit)) (now (workspace .exit)) r ⌝ }
 {
     if v.full {

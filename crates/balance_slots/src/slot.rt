@@ -5,7 +5,7 @@ use field::word;
 ghost use mathlib.Core.Path.{_≡_};
 ghost use Prim.Native.Nat.{_+_, _*_, _≤_};
 ghost use lib.ListN.{length};
-ghost use Rattle.field.specs.Modulus.{Modulus};
+ghost use Rattle.field.specs.inner.Requires.{KnownPrime};
 ghost use Rattle.expression.specs.Words.{word};
 ghost use Rattle.balance_slots.specs.inner.Work.{added-at, new-words, new-at};
 ghost use Rattle.balance_slots.specs.Workspace.{slot-words, tuple-words};
@@ -28,7 +28,7 @@ pub struct SlotUse {
 
 // A count is added to slot k's net.
 pub fn add_count(p: u32, workspace: &mut [u32], k: usize, count: u32)
-    requires { ⌜ Modulus p × (slot-words * k + slot-words ≤ length (now workspace)) ⌝ }
+    requires { ⌜ KnownPrime p × (slot-words * k + slot-words ≤ length (now workspace)) ⌝ }
     ensures { λ _. ⌜ now (workspace .exit) ≡ added-at p (now (workspace .entry)) k count ⌝ }
 {
     let at = SLOT_WORDS * k + NET_WORD;

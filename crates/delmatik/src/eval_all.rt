@@ -1,14 +1,14 @@
 // The constraints over a whole trace, for callers that hold words.
 use delmatik_answers::answer::write_answer;
 use delmatik_answers::terminal::marked_terminal;
+use expression::choices::Choices;
 use expression::sizes::Shape;
 use logup_constraints::eval_all::eval_all;
 ghost use mathlib.Core.Path.{_≡_};
-ghost use Rattle.expression.specs.Limits.{cabinet};
-ghost use Rattle.field.specs.Modulus.{babybear, babybear-w};
+ghost use Rattle.expression.specs.Choices.{choices-of};
 ghost use Rattle.lookup.specs.Lookups.{lent-lookups};
 ghost use Rattle.lookup.specs.Table.{lent-table};
-ghost use Rattle.logup.specs.Constraints.{verdict};
+ghost use Rattle.logup.specs.Constraints.{verdict-at};
 ghost use Rattle.delmatik_answers.specs.Generation.{shape-of};
 ghost use Rattle.delmatik_answers.specs.Constraints.{marked-terminal};
 ghost use Rattle.delmatik.specs.Exports.{exported-verdict};
@@ -17,6 +17,9 @@ ghost use Rattle.delmatik.specs.Exports.{exported-verdict};
 // is a mark, 0 where it is absent, and its four words.
 #[no_mangle]
 pub extern "C" fn delmatik_constraints(
+    field: u32,
+    profile: u32,
+    rule: u32,
     main_width: usize,
     height: usize,
     pre_width: usize,
@@ -42,13 +45,15 @@ pub extern "C" fn delmatik_constraints(
     details: &mut [u64; 3],
 ) -> u32
     ensures { λ r. ⌜ record { number = r; details = now (details .exit) }
-        ≡ exported-verdict (verdict cabinet babybear babybear-w
+        ≡ exported-verdict (verdict-at (choices-of field profile) rule
         (lent-table (shape-of «main_width» height «pre_width» «pre_height») (now (main .entry)) (now (preprocessed .entry)) (now («public_values» .entry))
         (now (nodes .entry))
         (lent-lookups (now (lookups .entry)) (now (names .entry)) (now (tuples .entry)) (now (multiplicities .entry)) (now (flags .entry))
         (now (elements .entry)))) (now (challenges .entry)) «trace_width» (now (trace .entry)) (marked-terminal «terminal_present» t0 t1 t2 t3)) ⌝ }
 {
     let v = eval_all(
+        Choices { field, profile },
+        rule,
         Shape {
             main_width,
             height,

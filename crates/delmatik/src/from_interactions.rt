@@ -2,13 +2,13 @@
 use delmatik_answers::answer::write_answer;
 use delmatik_answers::built::building_verdict;
 use delmatik_answers::built::write_built;
+use expression::choices::Choices;
 use lookup::refusals::Columns;
 use lookup_builder::answer::Kinds;
 use lookup_builder::builder::from_interactions;
 ghost use mathlib.Core.Path.{_≡_};
-ghost use Rattle.expression.specs.Limits.{cabinet};
-ghost use Rattle.field.specs.Modulus.{babybear};
-ghost use Rattle.lookup_builder.specs.FromInteractions.{lent-interactions, building};
+ghost use Rattle.expression.specs.Choices.{choices-of};
+ghost use Rattle.lookup_builder.specs.FromInteractions.{lent-interactions, building-at};
 ghost use Rattle.delmatik_answers.specs.Types.{columns-of};
 ghost use Rattle.delmatik_answers.specs.Building.{kinds-of};
 ghost use Rattle.delmatik.specs.Exports.{exported-building};
@@ -18,6 +18,8 @@ ghost use Rattle.delmatik.specs.Exports.{exported-building};
 // number as they were.
 #[no_mangle]
 pub extern "C" fn delmatik_build(
+    field: u32,
+    profile: u32,
     main_width: usize,
     pre_width: usize,
     public_values: usize,
@@ -37,12 +39,13 @@ pub extern "C" fn delmatik_build(
     details: &mut [u64; 3],
 ) -> u32
     ensures { λ r. ⌜ record { number = r; details = now (details .exit); used = now (used .exit); lookups = now («lookups_out» .exit) }
-        ≡ exported-building (building cabinet babybear (columns-of «main_width» «pre_width» «public_values»)
+        ≡ exported-building (building-at (choices-of field profile) (columns-of «main_width» «pre_width» «public_values»)
         (now (nodes .entry)) (kinds-of locals globals exclusives)
         (lent-interactions (now (interactions .entry)) (now (weights .entry)) (now (names .entry)) (now (tuples .entry)) (now (multiplicities .entry))
         (now (flags .entry)) (now (elements .entry))) (now («lookups_out» .entry))) (now (used .entry)) ⌝ }
 {
     let a = from_interactions(
+        Choices { field, profile },
         Columns {
             main: main_width,
             preprocessed: pre_width,

@@ -4,17 +4,17 @@ use delmatik_answers::generated::generation_details;
 use delmatik_answers::generated::generation_number;
 use delmatik_answers::generated::write_terminal;
 use delmatik_answers::row::write_part;
+use expression::choices::Choices;
 use expression::sizes::Shape;
 use logup_generation::generate_permutation::generate;
 use logup_generation::generate_permutation::row;
 ghost use mathlib.Core.Path.{_≡_};
 ghost use lib.ListN.{take, drop};
-ghost use Rattle.expression.specs.Limits.{cabinet};
+ghost use Rattle.expression.specs.Choices.{choices-of};
 ghost use Rattle.expression.specs.Words.{word};
-ghost use Rattle.field.specs.Modulus.{babybear, babybear-w};
 ghost use Rattle.lookup.specs.Lookups.{lent-lookups};
 ghost use Rattle.lookup.specs.Table.{lent-table};
-ghost use Rattle.logup.specs.Generation.{generation};
+ghost use Rattle.logup.specs.Generation.{generation-at};
 ghost use Rattle.delmatik_answers.specs.Generation.{shape-of};
 ghost use Rattle.delmatik_answers.specs.Row.{exported-row};
 ghost use Rattle.delmatik.specs.Exports.{exported-generation};
@@ -23,6 +23,9 @@ ghost use Rattle.delmatik.specs.Exports.{exported-generation};
 // Refusals 1 to 12 leave terminal and trace as they were; after 13 to 15 the terminal is five zeros.
 #[no_mangle]
 pub extern "C" fn delmatik_generate(
+    field: u32,
+    profile: u32,
+    rule: u32,
     main_width: usize,
     height: usize,
     pre_width: usize,
@@ -43,13 +46,15 @@ pub extern "C" fn delmatik_generate(
     details_out: &mut [u64; 3],
 ) -> u32
     ensures { λ r. ⌜ record { number = r; details = now («details_out» .exit); terminal = now (terminal .exit); trace = now (trace .exit) }
-        ≡ exported-generation (generation cabinet babybear babybear-w
+        ≡ exported-generation (generation-at (choices-of field profile) rule
         (lent-table (shape-of «main_width» height «pre_width» «pre_height») (now (main .entry)) (now (preprocessed .entry)) (now («public_values» .entry))
         (now (nodes .entry))
         (lent-lookups (now (lookups .entry)) (now (names .entry)) (now (tuples .entry)) (now (multiplicities .entry)) (now (flags .entry))
         (now (elements .entry)))) (now (challenges .entry)) (now (trace .entry))) (now (terminal .entry)) ⌝ }
 {
     let g = generate(
+        Choices { field, profile },
+        rule,
         Shape {
             main_width,
             height,

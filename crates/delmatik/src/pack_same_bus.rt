@@ -2,13 +2,13 @@
 use delmatik_answers::answer::write_answer;
 use delmatik_answers::packed::packing_verdict;
 use delmatik_answers::packed::write_used;
+use expression::choices::Choices;
 use lookup::refusals::Columns;
 use packing_entry::pack_same_bus::pack_same_bus;
 ghost use mathlib.Core.Path.{_≡_};
-ghost use Rattle.expression.specs.Limits.{cabinet};
-ghost use Rattle.field.specs.Modulus.{babybear};
+ghost use Rattle.expression.specs.Choices.{choices-of};
 ghost use Rattle.lookup.specs.Lookups.{lent-lookups};
-ghost use Rattle.packing.specs.PackSameBus.{packing};
+ghost use Rattle.packing.specs.PackSameBus.{packing-at};
 ghost use Rattle.delmatik_answers.specs.Types.{columns-of};
 ghost use Rattle.delmatik.specs.Exports.{exported-packing};
 
@@ -16,6 +16,8 @@ ghost use Rattle.delmatik.specs.Exports.{exported-packing};
 // used. A refusal leaves the lists and these numbers as they were.
 #[no_mangle]
 pub extern "C" fn delmatik_pack(
+    field: u32,
+    profile: u32,
     limit: u64,
     main_width: usize,
     pre_width: usize,
@@ -43,13 +45,14 @@ pub extern "C" fn delmatik_pack(
       lists = lent-lookups (now («lookups_out» .exit))
           (now («names_out» .exit)) (now («tuples_out» .exit)) (now («multiplicities_out» .exit)) (now («flags_out» .exit)) (now («elements_out» .exit));
     }
-        ≡ exported-packing (packing cabinet babybear limit (columns-of «main_width» «pre_width» «public_values») (now (nodes .entry))
+        ≡ exported-packing (packing-at (choices-of field profile) limit (columns-of «main_width» «pre_width» «public_values») (now (nodes .entry))
         (lent-lookups (now (lookups .entry)) (now (names .entry)) (now (tuples .entry)) (now (multiplicities .entry)) (now (flags .entry))
         (now (elements .entry)))
         (lent-lookups (now («lookups_out» .entry)) (now («names_out» .entry)) (now («tuples_out» .entry)) (now («multiplicities_out» .entry))
         (now («flags_out» .entry)) (now («elements_out» .entry)))) (now (used .entry)) ⌝ }
 {
     let a = pack_same_bus(
+        Choices { field, profile },
         limit,
         Columns {
             main: main_width,

@@ -3,13 +3,13 @@ use Prim.Native.Nat.{ℕ}
 use mathlib.Core.Bool.{cond, _&&_}
 use mathlib.Core.Option.{Option, some}
 use mathlib.Core.List.{List, [], _∷_}
-use Rattle.field.specs.Modulus.{babybear}
-use Rattle.expression.specs.Limits.{cabinet}
+use Rattle.expression.specs.Choices.{known}
 use Rattle.expression.specs.Refusal.{answer-number, answer-details}
+use Rattle.expression.specs.declared.choices.Choices.{Choices}
 use Rattle.expression.specs.declared.refusal.Refusal.{Refusal}
 use Rattle.expression.specs.declared.refusal.Refusal.the-variants.{SizeAtOdds}
 use Rattle.balance.specs.Tables.{TableLists}
-use Rattle.balance.specs.Balance.{Outcome, check}
+use Rattle.balance.specs.Balance.{Outcome, check-at}
 use Rattle.wire.specs.Wire.{words-of, bytes-of}
 use Rattle.wire.specs.Room.{fit, all-words}
 use Rattle.delmatik_bytes.specs.Bytes.{decoded-lookups, lookup-lists}
@@ -52,9 +52,9 @@ lists-of l = l .main ∷ l .preprocessed ∷ l .public-values ∷ l .nodes ∷ l
 abbrev pub in-bytes : Outcome → List ℕ → Balance
 in-bytes o room = answered (o .refusal) (bytes-of (o .workspace)) room (o .workspace)
 
--- refusal 1, and nothing is written, where bytes are not whole words or a room has another number of words
-unfoldable pub balance-on-bytes : TableLists → List ℕ → List ℕ → List ℕ → Balance
-balance-on-bytes l workspace room workspace-room =
-    cond (fit (lists-of l) room && fit (workspace ∷ []) workspace-room)
-    (in-bytes (check cabinet babybear (decoded-lists l) (words-of workspace)) (all-words (lists-of l)))
+-- refusal 1, and nothing is written, where a choice is unknown, bytes are not whole words or a room has another number of words
+unfoldable pub balance-on-bytes : Choices → TableLists → List ℕ → List ℕ → List ℕ → Balance
+balance-on-bytes c l workspace room workspace-room =
+    cond (known c && fit (lists-of l) room && fit (workspace ∷ []) workspace-room)
+    (in-bytes (check-at c (decoded-lists l) (words-of workspace)) (all-words (lists-of l)))
     (answered (some SizeAtOdds) workspace room workspace-room)

@@ -2,11 +2,11 @@
 use Prim.Native.Nat.{ℕ}
 use mathlib.Core.Bool.{cond, _&&_}
 use mathlib.Core.List.{List, [], _∷_}
-use Rattle.field.specs.Modulus.{babybear, babybear-w}
-use Rattle.expression.specs.Limits.{cabinet}
+use Rattle.expression.specs.Choices.{known, known-rule}
+use Rattle.expression.specs.declared.choices.Choices.{Choices}
 use Rattle.expression.specs.declared.refusal.Refusal.the-variants.{SizeAtOdds}
 use Rattle.lookup.specs.Table.{Table}
-use Rattle.logup.specs.Generation.{Answer, refused, Outcome, generation}
+use Rattle.logup.specs.Generation.{Answer, refused, Outcome, generation-at}
 use Rattle.delmatik_answers.specs.Generation.{generation-number, generation-details, generation-terminal}
 use Rattle.wire.specs.Wire.{words-of, bytes-of}
 use Rattle.wire.specs.Room.{fit, all-words}
@@ -42,9 +42,9 @@ lists-of t challenges = t .traces .main ∷ t .traces .preprocessed ∷ t .trace
 abbrev pub in-bytes : Outcome → List ℕ → List ℕ → Generation
 in-bytes o terminal room = answered (o .answer) terminal (bytes-of (o .buffer)) room (o .buffer)
 
--- refusal 1, and nothing is written, where bytes are not whole words or a room has another number of words
-unfoldable pub generation-on-bytes : Table → List ℕ → List ℕ → List ℕ → List ℕ → List ℕ → Generation
-generation-on-bytes t challenges trace terminal room trace-room =
-    cond (fit (lists-of t challenges) room && fit (trace ∷ []) trace-room)
-    (in-bytes (generation cabinet babybear babybear-w (decoded-table t) (words-of challenges) (words-of trace)) terminal (all-words (lists-of t challenges)))
+-- refusal 1, and nothing is written, where a choice is unknown, bytes are not whole words or a room has another number of words
+unfoldable pub generation-on-bytes : Choices → ℕ → Table → List ℕ → List ℕ → List ℕ → List ℕ → List ℕ → Generation
+generation-on-bytes c rule t challenges trace terminal room trace-room =
+    cond (known c && known-rule rule && fit (lists-of t challenges) room && fit (trace ∷ []) trace-room)
+    (in-bytes (generation-at c rule (decoded-table t) (words-of challenges) (words-of trace)) terminal (all-words (lists-of t challenges)))
     (answered (refused SizeAtOdds) terminal trace room trace-room)

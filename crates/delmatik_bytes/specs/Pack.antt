@@ -2,13 +2,13 @@
 use Prim.Native.Nat.{ℕ}
 use mathlib.Core.Bool.{cond, _&&_}
 use mathlib.Core.List.{List, _∷_}
-use Rattle.field.specs.Modulus.{babybear}
-use Rattle.expression.specs.Limits.{cabinet}
+use Rattle.expression.specs.Choices.{known}
 use Rattle.expression.specs.Refusal.{answer-number, answer-details}
+use Rattle.expression.specs.declared.choices.Choices.{Choices}
 use Rattle.expression.specs.declared.refusal.Refusal.the-variants.{SizeAtOdds}
 use Rattle.lookup.specs.Lookups.{Lookups}
 use Rattle.lookup.specs.declared.refusals.Columns.{Columns}
-use Rattle.packing.specs.PackSameBus.{Outcome, packing}
+use Rattle.packing.specs.PackSameBus.{Outcome, packing-at}
 use Rattle.packing.specs.declared.answer.PackingAnswer.{PackingAnswer}
 use Rattle.packing.specs.declared.answer.PackingAnswer.the-variants.{Refused}
 use Rattle.delmatik_answers.specs.Packing.{packing-refused, packing-used}
@@ -43,9 +43,9 @@ answered a used lists room out-room =
 abbrev pub in-bytes : Outcome → List ℕ → List ℕ → Packing
 in-bytes o used room = answered (o .answer) used (encoded-lookups (o .lists)) room (flat (lookup-lists (o .lists)))
 
--- refusal 1, and nothing is written, where bytes are not whole words or a room has another number of words
-unfoldable pub packing-on-bytes : ℕ → Columns → List ℕ → Lookups → Lookups → List ℕ → List ℕ → List ℕ → Packing
-packing-on-bytes limit columns nodes l lent used room out-room =
-    cond (fit (nodes ∷ lookup-lists l) room && fit (lookup-lists lent) out-room)
-    (in-bytes (packing cabinet babybear limit columns (words-of nodes) (decoded-lookups l) (decoded-lookups lent)) used (all-words (nodes ∷ lookup-lists l)))
+-- refusal 1, and nothing is written, where a choice is unknown, bytes are not whole words or a room has another number of words
+unfoldable pub packing-on-bytes : Choices → ℕ → Columns → List ℕ → Lookups → Lookups → List ℕ → List ℕ → List ℕ → Packing
+packing-on-bytes c limit columns nodes l lent used room out-room =
+    cond (known c && fit (nodes ∷ lookup-lists l) room && fit (lookup-lists lent) out-room)
+    (in-bytes (packing-at c limit columns (words-of nodes) (decoded-lookups l) (decoded-lookups lent)) used (all-words (nodes ∷ lookup-lists l)))
     (answered (Refused SizeAtOdds) used lent room out-room)

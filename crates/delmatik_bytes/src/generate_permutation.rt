@@ -3,6 +3,9 @@ use delmatik_answers::answer::write_details;
 use delmatik_answers::generated::generation_details;
 use delmatik_answers::generated::generation_number;
 use delmatik_answers::generated::write_terminal;
+use expression::choices::Choices;
+use expression::choices::known;
+use expression::choices::known_rule;
 use expression::refusal::Refusal;
 use expression::sizes::Shape;
 use logup::logup::Generated;
@@ -16,11 +19,12 @@ use wire::room::less;
 use wire::room::less_five;
 use wire::words::encode;
 ghost use mathlib.Core.Path.{_≡_};
-ghost use Rattle.logup.specs.Generation.{answer-of};
+ghost use lib.ListN.{length};
+ghost use Rattle.expression.specs.Choices.{choices-of};
 ghost use Rattle.lookup.specs.Lookups.{lent-lookups};
 ghost use Rattle.lookup.specs.Table.{lent-table};
+ghost use Rattle.logup.specs.Generation.{answer-of};
 ghost use Rattle.delmatik_answers.specs.Generation.{generation-number, generation-details, generation-terminal, shape-of};
-ghost use lib.ListN.{length};
 ghost use Rattle.wire.specs.inner.Place.{parts, Ordered, both-ends};
 ghost use Rattle.delmatik_bytes.specs.Generate.{generation-on-bytes};
 ghost use Rattle.delmatik_bytes.specs.inner.Words.{generation-on-words};
@@ -36,6 +40,8 @@ fn tell_generated(g: Generated, terminal: &mut [u32; 5], details_out: &mut [u64;
 
 // Generation on the words in a room: main, preprocessed, public values, nodes and challenges end at these places, and then the lists of the lookups.
 fn generate_in(
+    choices: Choices,
+    rule: u32,
     shape: Shape,
     room: &[u32],
     front: Ends,
@@ -44,7 +50,7 @@ fn generate_in(
     trace: &mut [u32],
 ) -> Generated
     requires { ⌜ Ordered front back (length (now room)) ⌝ }
-    ensures { λ r. ⌜ record { answer = answer-of r; buffer = now (trace .exit) } ≡ generation-on-words shape (now (names .entry)) (parts (now (room .entry)) 0 (both-ends front back)) (now (trace .entry)) ⌝ }
+    ensures { λ r. ⌜ record { answer = answer-of r; buffer = now (trace .exit) } ≡ generation-on-words choices rule shape (now (names .entry)) (parts (now (room .entry)) 0 (both-ends front back)) (now (trace .entry)) ⌝ }
 {
     let a = front.first;
     let b = front.second;
@@ -57,6 +63,8 @@ fn generate_in(
     let i = back.fourth;
     let j = back.fifth;
     generate(
+        choices,
+        rule,
         shape,
         &room[0..a],
         &room[a..b],
@@ -78,6 +86,9 @@ fn generate_in(
 // where generation is refused.
 #[no_mangle]
 pub extern "C" fn delmatik_generate_bytes(
+    field: u32,
+    profile: u32,
+    rule: u32,
     main_width: usize,
     height: usize,
     pre_width: usize,
@@ -100,11 +111,19 @@ pub extern "C" fn delmatik_generate_bytes(
     details_out: &mut [u64; 3],
 ) -> u32
     ensures { λ r. ⌜ record { number = r; details = now («details_out» .exit); terminal = now (terminal .exit); trace = now (trace .exit); room = now (room .exit); trace-room = now («trace_room» .exit) }
-        ≡ generation-on-bytes
+        ≡ generation-on-bytes (choices-of field profile) rule
         (lent-table (shape-of «main_width» height «pre_width» «pre_height») (now (main .entry)) (now (preprocessed .entry)) (now («public_values» .entry)) (now (nodes .entry))
         (lent-lookups (now (lookups .entry)) (now (names .entry)) (now (tuples .entry)) (now (multiplicities .entry)) (now (flags .entry)) (now (elements .entry))))
         (now (challenges .entry)) (now (trace .entry)) (now (terminal .entry)) (now (room .entry)) (now («trace_room» .entry)) ⌝ }
 {
+    let choices = Choices { field, profile };
+    if !(known(choices) & known_rule(rule)) {
+        return tell_generated(
+            Generated::Refused(Refusal::SizeAtOdds),
+            terminal,
+            details_out,
+        );
+    }
     let left = less_five(
         Left {
             fits: true,
@@ -158,6 +177,8 @@ pub extern "C" fn delmatik_generate_bytes(
     );
     fill(trace, trace_room, 0);
     let answer = generate_in(
+        choices,
+        rule,
         Shape {
             main_width,
             height,

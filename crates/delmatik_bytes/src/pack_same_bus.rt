@@ -3,10 +3,13 @@
 use delmatik_answers::answer::write_answer;
 use delmatik_answers::packed::packing_verdict;
 use delmatik_answers::packed::write_used;
+use expression::choices::Choices;
+use expression::choices::known;
+use expression::choices::limits_of;
 use expression::refusal::Refusal;
 use expression::refusal::Verdict;
-use expression::sizes::cabinet;
-use field::modulus::BABYBEAR;
+use expression::sizes::Limits;
+use field::modulus::prime_of;
 use lookup::refusals::Columns;
 use lookup::refusals::form_refusal;
 use lookup::types::LOOKUP_WORDS;
@@ -34,7 +37,7 @@ ghost use mathlib.Core.Bool.{true};
 ghost use Prim.Native.Nat.{_-_, _≤_};
 ghost use mathlib.Core.List.{[], _∷_, map};
 ghost use lib.ListN.{length, take, drop};
-ghost use Rattle.expression.specs.Limits as Sizes;
+ghost use Rattle.expression.specs.Choices.{choices-of};
 ghost use Rattle.lookup.specs.Lookups.{lent-lookups, lookup-count};
 ghost use Rattle.packing_columns.specs.inner.LookupLists.{list-start, list-parts};
 ghost use Rattle.packing_columns.specs.inner.LookupListsRequires.{LookupNumbers, FewTuples};
@@ -138,6 +141,7 @@ fn write_in(
 
 // Packing of a table that has none of refusals 1 to 5, into parts that hold it. Nothing is written before the last refusal is known.
 fn pack_formed(
+    limits: Limits,
     limit: u64,
     nodes: &[u32],
     lookups: &[u32],
@@ -150,7 +154,7 @@ fn pack_formed(
     names_out: &mut [u8],
     room: &mut [u32],
 ) -> PackingAnswer
-    requires { ⌜ Formed Sizes.cabinet (now nodes) (lent-lookups (now lookups) (now names) (now tuples) (now multiplicities) (now flags) (now elements))
+    requires { ⌜ Formed limits (now nodes) (lent-lookups (now lookups) (now names) (now tuples) (now multiplicities) (now flags) (now elements))
         × ListsExact (now lookups) (now names) (now tuples) × Split ends (length (now room))
         × (holds (lookups-in (now «names_out») (parts (now room) 0 (five-ends ends))) (lent-lookups (now lookups) (now names) (now tuples) (now multiplicities) (now flags) (now elements)) ≡ true) ⌝ }
     ensures { λ r. ⌜ record { answer = r; lists = lookups-in (now («names_out» .exit)) (parts (now (room .exit)) 0 (five-ends ends)) }
@@ -159,7 +163,7 @@ fn pack_formed(
         (lookups-in (now («names_out» .entry)) (parts (now (room .entry)) 0 (five-ends ends))) ⌝ }
 {
     let plan = plan_of(
-        cabinet(),
+        limits,
         limit,
         nodes,
         lookups,
@@ -193,6 +197,7 @@ fn pack_formed(
 
 // Packing of the words in a room: the nodes, and then the lists of the lookups. What is written goes into the parts of another room.
 fn pack_in(
+    choices: Choices,
     limit: u64,
     columns: Columns,
     room: &[u32],
@@ -205,7 +210,7 @@ fn pack_in(
 ) -> PackingAnswer
     requires { ⌜ After «nodes_end» ends (length (now room)) × Split «out_ends» (length (now «out_room»)) ⌝ }
     ensures { λ r. ⌜ record { answer = r; lists = lookups-in (now («names_out» .exit)) (parts (now («out_room» .exit)) 0 (five-ends «out_ends»)) }
-        ≡ packing-on-words limit columns (now (names .entry)) (parts (now (room .entry)) 0 («nodes_end» ∷ five-ends ends))
+        ≡ packing-on-words choices limit columns (now (names .entry)) (parts (now (room .entry)) 0 («nodes_end» ∷ five-ends ends))
         (lookups-in (now («names_out» .entry)) (parts (now («out_room» .entry)) 0 (five-ends «out_ends»))) ⌝ }
 {
     let a = ends.first;
@@ -238,9 +243,10 @@ fn pack_in(
     if !counts_hold(own, lent) {
         return PackingAnswer::Refused(Refusal::SizeAtOdds);
     }
+    let limits = limits_of(choices.profile);
     let v = form_refusal(
-        cabinet(),
-        BABYBEAR,
+        limits,
+        prime_of(choices.field),
         columns,
         nodes,
         lookups,
@@ -253,6 +259,7 @@ fn pack_in(
     match v {
         Verdict::Refused(f) => PackingAnswer::Refused(f),
         Verdict::Accepted => pack_formed(
+            limits,
             limit,
             nodes,
             lookups,
@@ -308,6 +315,8 @@ fn tell_packed(a: PackingAnswer, used: &mut [u64; 6], details: &mut [u64; 3]) ->
 // of their lists also where packing is refused.
 #[no_mangle]
 pub extern "C" fn delmatik_pack_bytes(
+    field: u32,
+    profile: u32,
     limit: u64,
     main_width: usize,
     pre_width: usize,
@@ -338,11 +347,15 @@ pub extern "C" fn delmatik_pack_bytes(
       room = now (room .exit);
       out-room = now («out_room» .exit);
     }
-        ≡ packing-on-bytes limit (columns-of «main_width» «pre_width» «public_values») (now (nodes .entry))
+        ≡ packing-on-bytes (choices-of field profile) limit (columns-of «main_width» «pre_width» «public_values») (now (nodes .entry))
         (lent-lookups (now (lookups .entry)) (now (names .entry)) (now (tuples .entry)) (now (multiplicities .entry)) (now (flags .entry)) (now (elements .entry)))
         (lent-lookups (now («lookups_out» .entry)) (now («names_out» .entry)) (now («tuples_out» .entry)) (now («multiplicities_out» .entry)) (now («flags_out» .entry)) (now («elements_out» .entry)))
         (now (used .entry)) (now (room .entry)) (now («out_room» .entry)) ⌝ }
 {
+    let choices = Choices { field, profile };
+    if !known(choices) {
+        return tell_packed(PackingAnswer::Refused(Refusal::SizeAtOdds), used, details);
+    }
     let left = less(
         Left {
             fits: true,
@@ -392,6 +405,7 @@ pub extern "C" fn delmatik_pack_bytes(
         0,
     );
     let answer = pack_in(
+        choices,
         limit,
         Columns {
             main: main_width,

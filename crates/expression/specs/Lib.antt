@@ -1,6 +1,7 @@
 pub mod Words
 pub mod Refusal
 pub mod Limits
+pub mod Choices
 pub mod Node
 pub mod Window
 pub mod Values

@@ -4,7 +4,7 @@ use mathlib.Core.Path.{_≡_}
 use mathlib.Core.Bool.{true}
 use mathlib.Core.List.{List}
 use lib.ListN.{length}
-use Rattle.field.specs.Modulus.{Modulus}
+use Rattle.field.specs.inner.Requires.{KnownPrime}
 use Rattle.expression.specs.Words.{word}
 use Rattle.expression.specs.Node.{node, node-count}
 use Rattle.expression.specs.Window.{Traces}
@@ -31,7 +31,7 @@ pub record Slots (p : ℕ) (l : List ℕ) : Type 0 where
 
 -- a table whose rows may be evaluated
 pub record Evaluable (p : ℕ) (t : Traces) (nodes : List ℕ) : Type 0 where
-  pub modulus : Modulus p
+  pub modulus : KnownPrime p
   pub few : node-count nodes ≤ 1024
   pub main-fits : t .shape .«main_width» * t .shape .height ≤ length (t .main)
   pub pre-fits : t .shape .«pre_width» * t .shape .height ≤ length (t .preprocessed)
@@ -58,7 +58,7 @@ Readable p main0 main1 pre0 pre1 public-values Unknown = Unit
 
 -- the rows that one row's values are computed from: the words below p
 pub record Rows (p : ℕ) (main0 main1 pre0 pre1 public-values : List ℕ) (row height : ℕ) : Type 0 where
-  pub modulus : Modulus p
+  pub modulus : KnownPrime p
   pub inside : row < height
   pub main0-below : Below p main0
   pub main1-below : Below p main1

@@ -1,4 +1,4 @@
--- Extension elements. SPECIFICATION, section 2.1: "four field words c0, c1, c2, c3", "c0 + c1·X + c2·X² + c3·X³ with X⁴ = 11"; here X⁴ = w,
+-- Extension elements. SPECIFICATION, section 2.1: "four field words c0, c1, c2, c3", "c0 + c1·X + c2·X² + c3·X³"; here X⁴ = w,
 -- and an element is the list of its four words.
 use Prim.Native.Nat.{ℕ, zero, suc, _+_, _*_, _<_, _%_}
 use mathlib.Core.Bool.{Bool, _&&_}

@@ -4,7 +4,7 @@ use mathlib.Core.Logic.{_≢_}
 use Prim.Native.Nat.{ℕ, _*_, _-_, _<_, _≤_, _%_}
 use Rattle.algebra.specs.Prime.{Prime}
 
--- a modulus that the code takes: above 2, and small enough that four products of words fit 64 bits
+-- a modulus that the laws take: above 2, and at most 2^31, so that an inverse is a power of at most 32 binary digits
 pub record Modulus (p : ℕ) : Type 0 where
   pub big : 2 < p
   pub small : p ≤ 2147483648
@@ -15,10 +15,3 @@ pub record Certificate (p w : ℕ) : Type 0 where
   pub nonsquare : (s : ℕ) → s < p → (s * s) % p ≢ w % p
   pub root : ℕ
   pub root-squared : (root * root) % p ≡ (p - 1) % p
-
--- SPECIFICATION, section 2.1: "p = 2013265921", "X⁴ = 11"
-abbrev pub babybear : ℕ
-babybear = 2013265921
-
-abbrev pub babybear-w : ℕ
-babybear-w = 11

@@ -1,6 +1,7 @@
 pub mod Word
 pub mod Ring
 pub mod Extension
+pub mod Known
 pub mod Homomorphism
 pub mod Slice
 pub mod Zero

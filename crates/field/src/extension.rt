@@ -3,7 +3,8 @@ use crate::word;
 ghost use mathlib.Core.Path.{_≡_};
 ghost use Prim.Native.Nat.{_<_, _≤_, _+_, _*_};
 ghost use lib.ListN.{length};
-ghost use Rattle.field.specs.Modulus.{Modulus, Certificate};
+ghost use Rattle.field.specs.Modulus.{Certificate};
+ghost use Rattle.field.specs.inner.Requires.{KnownPrime};
 ghost use Rattle.field.specs.Element.{at, Word4, add4, sub4, neg4, mul4, scale4, power4, norm2, norm, cofactor, lift, inverse4, is-zero, same4, element};
 ghost use Rattle.field.specs.Ext.{ext-words};
 
@@ -15,7 +16,7 @@ pub struct Ext {
 }
 
 pub fn add(p: u32, a: Ext, b: Ext) -> Ext
-    requires { ⌜ Modulus p × Word4 p (ext-words a) × Word4 p (ext-words b) ⌝ }
+    requires { ⌜ KnownPrime p × Word4 p (ext-words a) × Word4 p (ext-words b) ⌝ }
     ensures { λ r. ⌜ Word4 p (ext-words r) × (ext-words r ≡ add4 p (ext-words a) (ext-words b)) ⌝ }
 {
     Ext {
@@ -27,7 +28,7 @@ pub fn add(p: u32, a: Ext, b: Ext) -> Ext
 }
 
 pub fn sub(p: u32, a: Ext, b: Ext) -> Ext
-    requires { ⌜ Modulus p × Word4 p (ext-words a) × Word4 p (ext-words b) ⌝ }
+    requires { ⌜ KnownPrime p × Word4 p (ext-words a) × Word4 p (ext-words b) ⌝ }
     ensures { λ r. ⌜ Word4 p (ext-words r) × (ext-words r ≡ sub4 p (ext-words a) (ext-words b)) ⌝ }
 {
     Ext {
@@ -39,7 +40,7 @@ pub fn sub(p: u32, a: Ext, b: Ext) -> Ext
 }
 
 pub fn neg(p: u32, a: Ext) -> Ext
-    requires { ⌜ Modulus p × Word4 p (ext-words a) ⌝ }
+    requires { ⌜ KnownPrime p × Word4 p (ext-words a) ⌝ }
     ensures { λ r. ⌜ Word4 p (ext-words r) × (ext-words r ≡ neg4 p (ext-words a)) ⌝ }
 {
     Ext {
@@ -52,7 +53,7 @@ pub fn neg(p: u32, a: Ext) -> Ext
 
 // A word times an element.
 pub fn scale(p: u32, z: u32, a: Ext) -> Ext
-    requires { ⌜ Modulus p × (z < p) × Word4 p (ext-words a) ⌝ }
+    requires { ⌜ KnownPrime p × (z < p) × Word4 p (ext-words a) ⌝ }
     ensures { λ r. ⌜ Word4 p (ext-words r) × (ext-words r ≡ scale4 p z (ext-words a)) ⌝ }
 {
     Ext {
@@ -65,7 +66,7 @@ pub fn scale(p: u32, z: u32, a: Ext) -> Ext
 
 // With w·a first, each coefficient is one sum of four products and one reduction.
 pub fn mul(p: u32, w: u32, a: Ext, b: Ext) -> Ext
-    requires { ⌜ Modulus p × (w < p) × Word4 p (ext-words a) × Word4 p (ext-words b) ⌝ }
+    requires { ⌜ KnownPrime p × (w < p) × Word4 p (ext-words a) × Word4 p (ext-words b) ⌝ }
     ensures { λ r. ⌜ Word4 p (ext-words r) × (ext-words r ≡ mul4 p w (ext-words a) (ext-words b)) ⌝ }
 {
     let w1 = word::mul(p, w, a.c1);
@@ -81,7 +82,7 @@ pub fn mul(p: u32, w: u32, a: Ext, b: Ext) -> Ext
 
 // b to the power n, by squaring: r·x^k stays what it is, while k is halved.
 pub fn power(p: u32, w: u32, b: Ext, n: u32) -> Ext
-    requires { ⌜ Modulus p × (w < p) × Word4 p (ext-words b) ⌝ }
+    requires { ⌜ KnownPrime p × (w < p) × Word4 p (ext-words b) ⌝ }
     ensures { λ r. ⌜ Word4 p (ext-words r) × (ext-words r ≡ power4 p w (ext-words b) n) ⌝ }
 {
     let mut r = Ext {
@@ -104,7 +105,7 @@ pub fn power(p: u32, w: u32, b: Ext, n: u32) -> Ext
 
 // The first and the third word of a(X)·a(-X) = n0 + n1·X². The minus signs are in the factors, so that each is one sum of four products.
 pub fn norm_lo(p: u32, w: u32, a: Ext) -> u32
-    requires { ⌜ Modulus p × (w < p) × Certificate p w × Word4 p (ext-words a) ⌝ }
+    requires { ⌜ KnownPrime p × (w < p) × Certificate p w × Word4 p (ext-words a) ⌝ }
     ensures { λ r. ⌜ (r < p) × (r ≡ at (norm2 p w (ext-words a)) 0) ⌝ }
 {
     let v1 = word::mul(p, w, a.c1);
@@ -114,7 +115,7 @@ pub fn norm_lo(p: u32, w: u32, a: Ext) -> u32
 }
 
 pub fn norm_hi(p: u32, w: u32, a: Ext) -> u32
-    requires { ⌜ Modulus p × (w < p) × Certificate p w × Word4 p (ext-words a) ⌝ }
+    requires { ⌜ KnownPrime p × (w < p) × Certificate p w × Word4 p (ext-words a) ⌝ }
     ensures { λ r. ⌜ (r < p) × (r ≡ at (norm2 p w (ext-words a)) 2) ⌝ }
 {
     let v3 = word::mul(p, w, a.c3);
@@ -125,7 +126,7 @@ pub fn norm_hi(p: u32, w: u32, a: Ext) -> u32
 
 // The norm, from these two words.
 pub fn norm_of(p: u32, w: u32, a: Ext, x: u32, y: u32) -> u32
-    requires { ⌜ Modulus p × (w < p) × Certificate p w × (x < p) × (y < p) × (x ≡ at (norm2 p w (ext-words a)) 0) × (y ≡ at (norm2 p w (ext-words a)) 2) ⌝ }
+    requires { ⌜ KnownPrime p × (w < p) × Certificate p w × (x < p) × (y < p) × (x ≡ at (norm2 p w (ext-words a)) 0) × (y ≡ at (norm2 p w (ext-words a)) 2) ⌝ }
     ensures { λ r. ⌜ (r < p) × (r ≡ norm p w (ext-words a)) ⌝ }
 {
     word::dot2(p, x, x, word::mul(p, w, y), word::neg(p, y))
@@ -133,7 +134,7 @@ pub fn norm_of(p: u32, w: u32, a: Ext, x: u32, y: u32) -> u32
 
 // The cofactor times i, from these two words.
 pub fn cofactor_times(p: u32, w: u32, a: Ext, x: u32, y: u32, i: u32) -> Ext
-    requires { ⌜ Modulus p × (w < p) × Certificate p w × Word4 p (ext-words a) × (x < p) × (y < p) × (i < p) × (x ≡ at (norm2 p w (ext-words a)) 0) × (y ≡ at (norm2 p w (ext-words a)) 2) ⌝ }
+    requires { ⌜ KnownPrime p × (w < p) × Certificate p w × Word4 p (ext-words a) × (x < p) × (y < p) × (i < p) × (x ≡ at (norm2 p w (ext-words a)) 0) × (y ≡ at (norm2 p w (ext-words a)) 2) ⌝ }
     ensures { λ r. ⌜ Word4 p (ext-words r) × (ext-words r ≡ mul4 p w (cofactor p w (ext-words a)) (lift i)) ⌝ }
 {
     let e0 = word::mul(p, x, i);
@@ -152,7 +153,7 @@ pub fn cofactor_times(p: u32, w: u32, a: Ext, x: u32, y: u32, i: u32) -> Ext
 
 // 1 ÷ a, and 0 where a is 0.
 pub fn inv(p: u32, w: u32, a: Ext) -> Ext
-    requires { ⌜ Modulus p × (w < p) × Certificate p w × Word4 p (ext-words a) ⌝ }
+    requires { ⌜ KnownPrime p × (w < p) × Certificate p w × Word4 p (ext-words a) ⌝ }
     ensures { λ r. ⌜ Word4 p (ext-words r) × (ext-words r ≡ inverse4 p w (ext-words a)) ⌝ }
 {
     let x = norm_lo(p, w, a);

@@ -1,4 +1,4 @@
-// Words below a modulus p, and elements of four words with X⁴ = w, for any p and w that the definitions take.
+// Words below p, the prime of one of the two fields, and elements of four words with X⁴ = w.
 // These functions serve the crates above: they require that p, w and the words are as those crates have tested.
 pub mod extension;
 pub mod modulus;

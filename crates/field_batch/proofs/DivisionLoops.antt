@@ -1,6 +1,6 @@
 -- The turns of the loop that multiplies the factors and of the loop that divides.
 use mathlib.Core.Path.{_≡_, refl, sym, ap, ap₂, _∙_, subst}
-use mathlib.Core.Logic.{_≢_}
+use mathlib.Core.Logic.{_≢_, ⊎-elim}
 use mathlib.Core.List.{List, [], _∷_, _++_}
 use Prim.Native.Nat.{ℕ, suc, _+_, _*_, _-_, _<_, _≤_, zero-le}
 use native.Mathlib.Nat.{zero-add}
@@ -15,7 +15,10 @@ use Rattle.lists.specs.laws.Filled.{Filled, filled-none, filled-part, filled-wh
 use Rattle.lists.specs.laws.Parts.{part-length}
 use Rattle.field.specs.declared.extension.Ext.{Ext}
 use Rattle.field.specs.Ext.{ext-words}
-use Rattle.field.specs.Modulus.{Modulus, Certificate}
+use Rattle.field.specs.Modulus.{Certificate}
+use Rattle.field.specs.inner.Requires.{KnownPrime}
+use Rattle.field.specs.Known.{babybear, koalabear}
+use Rattle.field.specs.laws.Known.{modulus}
 use Rattle.field.specs.Word.{mulM}
 use Rattle.field.specs.Element.{at, Word4, lift, zero4, mul4, norm2, norm, cofactor, element}
 use Rattle.field.specs.laws.Word.{mulM-comm, one-mulM}
@@ -23,6 +26,29 @@ use Rattle.field.specs.laws.Slice.{word-element}
 use Rattle.field_batch.specs.inner.Quotients.{quotient, quotient-at, nonzero, factor, productM, kept, factor-from-last, kept-from-last, Divisible}
 use Rattle.field_batch.specs.laws.Joined.{joined-size, total-same, element-of, element-past}
 use Rattle.field_batch.specs.laws.Quotients.{inverts-rest, inverts-same, quotient-none, quotient-in, kept-in, kept-out, kept-factor, kept-product, kept-word, product-below, one-below}
+
+-- the prime as a constant
+pub second : {p : ℕ} → KnownPrime p → p ≢ babybear → p ≡ koalabear
+second k n = ⊎-elim (λ e. absurd (n e)) (λ e. e) (k .one-of-two)
+
+pub keep-asks : {p q w : ℕ} {d : List ℕ} → p ≡ q → KnownPrime p × (w < p) × Certificate p w × Word4 p d → KnownPrime q × (w < q) × Certificate q w × Word4 q d
+keep-asks {p} {q} {w} {d} e = subst (λ (x : ℕ). KnownPrime x × (w < x) × Certificate x w × Word4 x d) e
+
+pub keep-gives : {p q : ℕ} {r : List ℕ} (w m : ℕ) (d : Ext) (product : ℕ) → p ≡ q → r ≡ kept q w m (ext-words d) product → r ≡ kept p w m (ext-words d) product
+keep-gives w m d product e h = h ∙ ap (λ (x : ℕ). kept x w m (ext-words d) product) (sym e)
+
+pub step-asks : {p q w m v : ℕ} {d k : Ext} → p ≡ q
+    → KnownPrime p × (w < p) × Certificate p w × (m < p) × Word4 p (ext-words d) × Word4 p (ext-words k) × (v < p)
+    × (ext-words k ≡ kept p w m (ext-words d) (k .c3)) × (mulM p (mulM p (k .c3) (k .c2)) v ≡ 1)
+    → KnownPrime q × (w < q) × Certificate q w × (m < q) × Word4 q (ext-words d) × Word4 q (ext-words k) × (v < q)
+    × (ext-words k ≡ kept q w m (ext-words d) (k .c3)) × (mulM q (mulM q (k .c3) (k .c2)) v ≡ 1)
+step-asks {p} {q} {w} {m} {v} {d} {k} e =
+    subst (λ (x : ℕ). KnownPrime x × (w < x) × Certificate x w × (m < x) × Word4 x (ext-words d) × Word4 x (ext-words k) × (v < x)
+    × (ext-words k ≡ kept x w m (ext-words d) (k .c3)) × (mulM x (mulM x (k .c3) (k .c2)) v ≡ 1)) e
+
+pub step-gives : {p q v : ℕ} {r : List ℕ} (w m : ℕ) (d k : Ext) → p ≡ q
+    → (v < q) × (mulM q (k .c3) v ≡ 1) × (r ≡ quotient q w m (ext-words d)) → (v < p) × (mulM p (k .c3) v ≡ 1) × (r ≡ quotient p w m (ext-words d))
+step-gives {v = v} {r = r} w m d k e = subst (λ (x : ℕ). (v < x) × (mulM x (k .c3) v ≡ 1) × (r ≡ quotient x w m (ext-words d))) (sym e)
 
 kept-four : (p w : ℕ) (ms ds : List ℕ) (j : ℕ) → length (kept-from-last p w ms ds j) ≡ 4
 unfolding kept-from-last kept
@@ -60,12 +86,12 @@ step-out p w m v d k l e ek i =
     let f : k .c2 ≡ 1 = ap (λ (l : List ℕ). at l 2) (ek ∙ kept-out p w m (ext-words d) (k .c3) e) in
     (inverts-same (k .c3) v p l (ap (λ (n : ℕ). mulM p (mulM p (k .c3) n) v) (sym f) ∙ i), quotient-none p w m (ext-words d) e)
 
-pub step-in : {u t v′ : ℕ} {r : List ℕ} (p w m v : ℕ) (d k : Ext) → Modulus p → Certificate p w → Word4 p (ext-words d) → m ≢ 0 → ext-words k ≡ kept p w m (ext-words d) (k .c3)
+pub step-in : {u t v′ : ℕ} {r : List ℕ} (p w m v : ℕ) (d k : Ext) → KnownPrime p → Certificate p w → Word4 p (ext-words d) → m ≢ 0 → ext-words k ≡ kept p w m (ext-words d) (k .c3)
     → mulM p (mulM p (k .c3) (k .c2)) v ≡ 1 → u ≡ mulM p v (k .c3) → t ≡ mulM p m u → r ≡ mul4 p w (cofactor p w (ext-words d)) (lift t) → v′ ≡ mulM p v (k .c2)
     → (mulM p (k .c3) v′ ≡ 1) × (r ≡ quotient p w m (ext-words d))
 step-in {u} {t} p w m v d k o C l n ek i eu et er ev = (
   ap (mulM p (k .c3)) ev ∙ inverts-rest (k .c3) (k .c2) v p i,
-  er ∙ quotient-in p w C (d .c0) (d .c1) (d .c2) (d .c3) m (k .c3) (k .c2) v t o l (words-kept p w m (k .c3) d k n ek .2) i (et ∙ ap (mulM p m) eu),
+  er ∙ quotient-in p w C (d .c0) (d .c1) (d .c2) (d .c3) m (k .c3) (k .c2) v t (modulus o) l (words-kept p w m (k .c3) d k n ek .2) i (et ∙ ap (mulM p m) eu),
 )
 
 pub record Multiplying (p w : ℕ) (ms ds d : List ℕ) (n : ℕ) (held : List ℕ) (product j : ℕ) : Type 0 where

@@ -4,13 +4,16 @@ ghost use mathlib.Core.Path.{_≡_};
 ghost use Prim.Native.Nat.{_<_, _≤_, _*_};
 ghost use lib.ListN.{length};
 ghost use Rattle.lists.specs.Count.{joined};
-ghost use Rattle.field.specs.Modulus.{Modulus, Certificate};
+ghost use Rattle.field.specs.Modulus.{Certificate};
+ghost use Rattle.field.specs.inner.Requires.{KnownPrime};
 ghost use Rattle.field.specs.Word.{mulM};
 ghost use Rattle.field.specs.Element.{Word4};
 ghost use Rattle.field.specs.Ext.{ext-words};
 ghost use Rattle.field_batch.specs.inner.Quotients.{quotient, quotient-at, nonzero, productM, kept, factor-from-last, kept-from-last, Divisible};
 use field::extension;
 use field::extension::Ext;
+use field::modulus::BABYBEAR;
+use field::modulus::KOALABEAR;
 use field::word;
 
 // A quotient, and the inverse of the product without its factor.
@@ -27,7 +30,7 @@ fn nonzero(n: u32) -> u32
 
 // a·b. Most multiplicities are 1, and so are the factors of denominators that are not needed: these take no product.
 fn times(p: u32, a: u32, b: u32) -> u32
-    requires { ⌜ Modulus p × (a < p) × (b < p) ⌝ }
+    requires { ⌜ KnownPrime p × (a < p) × (b < p) ⌝ }
     ensures { λ r. ⌜ (r < p) × (r ≡ mulM p a b) ⌝ }
 {
     if a == 1 {
@@ -37,8 +40,8 @@ fn times(p: u32, a: u32, b: u32) -> u32
 }
 
 // What is kept of a denominator, with the product before it: four words, as an element has. Where the multiplicity is 0 the norm is not needed.
-fn keep(p: u32, w: u32, m: u32, d: Ext, product: u32) -> Ext
-    requires { ⌜ Modulus p × (w < p) × Certificate p w × Word4 p (ext-words d) ⌝ }
+fn keep_by(p: u32, w: u32, m: u32, d: Ext, product: u32) -> Ext
+    requires { ⌜ KnownPrime p × (w < p) × Certificate p w × Word4 p (ext-words d) ⌝ }
     ensures { λ r. ⌜ ext-words r ≡ kept p w m (ext-words d) product ⌝ }
 {
     if m == 0 {
@@ -57,6 +60,17 @@ fn keep(p: u32, w: u32, m: u32, d: Ext, product: u32) -> Ext
         c2: nonzero(extension::norm_of(p, w, d, x, y)),
         c3: product,
     }
+}
+
+// The same, compiled for each prime by itself: with p a constant, all its reductions are by that constant.
+fn keep(p: u32, w: u32, m: u32, d: Ext, product: u32) -> Ext
+    requires { ⌜ KnownPrime p × (w < p) × Certificate p w × Word4 p (ext-words d) ⌝ }
+    ensures { λ r. ⌜ ext-words r ≡ kept p w m (ext-words d) product ⌝ }
+{
+    if p == BABYBEAR {
+        return keep_by(BABYBEAR, w, m, d, product);
+    }
+    keep_by(KOALABEAR, w, m, d, product)
 }
 
 // The product of all factors, from the last on, and what is kept of each denominator.
@@ -80,8 +94,8 @@ fn products(p: u32, w: u32, ms: &[u32], ds: &[u32], held: &mut [u32]) -> u32
 }
 
 // m ÷ d and the inverse of the product before d, from what is kept of d and the inverse of the product with it.
-fn step(p: u32, w: u32, m: u32, d: Ext, k: Ext, inverse: u32) -> Split
-    requires { ⌜ Modulus p × (w < p) × Certificate p w × (m < p) × Word4 p (ext-words d) × Word4 p (ext-words k) × (inverse < p)
+fn step_by(p: u32, w: u32, m: u32, d: Ext, k: Ext, inverse: u32) -> Split
+    requires { ⌜ KnownPrime p × (w < p) × Certificate p w × (m < p) × Word4 p (ext-words d) × Word4 p (ext-words k) × (inverse < p)
         × (ext-words k ≡ kept p w m (ext-words d) (k .c3)) × (mulM p (mulM p (k .c3) (k .c2)) inverse ≡ 1) ⌝ }
     ensures { λ r. ⌜ (r .inverse < p) × (mulM p (k .c3) (r .inverse) ≡ 1) × (ext-words (r .quotient) ≡ quotient p w m (ext-words d)) ⌝ }
 {
@@ -102,6 +116,18 @@ fn step(p: u32, w: u32, m: u32, d: Ext, k: Ext, inverse: u32) -> Split
         quotient: extension::cofactor_times(p, w, d, k.c0, k.c1, t),
         inverse: word::mul(p, inverse, k.c2),
     }
+}
+
+// The same, compiled for each prime by itself.
+fn step(p: u32, w: u32, m: u32, d: Ext, k: Ext, inverse: u32) -> Split
+    requires { ⌜ KnownPrime p × (w < p) × Certificate p w × (m < p) × Word4 p (ext-words d) × Word4 p (ext-words k) × (inverse < p)
+        × (ext-words k ≡ kept p w m (ext-words d) (k .c3)) × (mulM p (mulM p (k .c3) (k .c2)) inverse ≡ 1) ⌝ }
+    ensures { λ r. ⌜ (r .inverse < p) × (mulM p (k .c3) (r .inverse) ≡ 1) × (ext-words (r .quotient) ≡ quotient p w m (ext-words d)) ⌝ }
+{
+    if p == BABYBEAR {
+        return step_by(BABYBEAR, w, m, d, k, inverse);
+    }
+    step_by(KOALABEAR, w, m, d, k, inverse)
 }
 
 // Each denominator becomes its quotient, from the inverse of the product.

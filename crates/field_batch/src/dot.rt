@@ -2,7 +2,7 @@
 // must be reduced.
 ghost use mathlib.Core.Path.{_≡_};
 ghost use Prim.Native.Nat.{ℕ, _+_, _<_};
-ghost use Rattle.field.specs.Modulus.{Modulus};
+ghost use Rattle.field.specs.inner.Requires.{KnownPrime};
 ghost use Rattle.field.specs.Element.{Word4, zero4, add4, scale4};
 ghost use Rattle.field.specs.Ext.{ext-words};
 ghost use Rattle.field_batch.specs.inner.Dot.{residues, Room};
@@ -18,7 +18,7 @@ pub struct Sum {
 
 // The sum of nothing.
 pub fn none(p: u32) -> Sum
-    requires { ⌜ Modulus p ⌝ }
+    requires { ⌜ KnownPrime p ⌝ }
     ensures { λ r. ⌜ Room 4 r × (residues p r ≡ zero4) ⌝ }
 {
     Sum {
@@ -31,7 +31,7 @@ pub fn none(p: u32) -> Sum
 
 // s + z·a, with room for one product less.
 pub fn more(p: u32, s: Sum, z: u32, a: Ext) -> Sum
-    requires { ⌜ Modulus p × Room 1 s × (z < p) × Word4 p (ext-words a) ⌝ }
+    requires { ⌜ KnownPrime p × Room 1 s × (z < p) × Word4 p (ext-words a) ⌝ }
     ensures { λ r. ⌜ ((n : ℕ) → Room (1 + n) s → Room n r) × (residues p r ≡ add4 p (residues p s) (scale4 p z (ext-words a))) ⌝ }
 {
     Sum {
@@ -44,7 +44,7 @@ pub fn more(p: u32, s: Sum, z: u32, a: Ext) -> Sum
 
 // The same modulo p, with room for four products again.
 pub fn reduced(p: u32, s: Sum) -> Sum
-    requires { ⌜ Modulus p ⌝ }
+    requires { ⌜ KnownPrime p ⌝ }
     ensures { λ r. ⌜ Room 4 r × (residues p r ≡ residues p s) ⌝ }
 {
     Sum {
@@ -56,7 +56,7 @@ pub fn reduced(p: u32, s: Sum) -> Sum
 }
 
 pub fn total(p: u32, s: Sum) -> Ext
-    requires { ⌜ Modulus p ⌝ }
+    requires { ⌜ KnownPrime p ⌝ }
     ensures { λ r. ⌜ Word4 p (ext-words r) × (ext-words r ≡ residues p s) ⌝ }
 {
     Ext {

@@ -8,12 +8,15 @@ use lib.Dec.{eqb, leb, ltb}
 use lib.ListN.{length}
 use Rattle.lists.specs.Count.{first, or-else}
 use Rattle.field.specs.Element.{lift, one4, add4, sub4, mul4, scale4, element, is-zero, sum4, product4}
+use Rattle.field.specs.Known.{prime-of, w-of}
+use Rattle.expression.specs.Choices.{known, known-rule, limits-of}
+use Rattle.expression.specs.declared.choices.Choices.{Choices}
 use Rattle.expression.specs.Words.{all-below}
 use Rattle.expression.specs.Refusal.{unless}
 use Rattle.expression.specs.Values.{row-values}
 use Rattle.expression.specs.declared.sizes.Limits.{Limits}
 use Rattle.expression.specs.declared.refusal.Refusal.{Refusal}
-use Rattle.expression.specs.declared.refusal.Refusal.the-variants.{TraceTooSmall, TerminalMisplaced, ConstraintNotZero}
+use Rattle.expression.specs.declared.refusal.Refusal.the-variants.{SizeAtOdds, TraceTooSmall, TerminalMisplaced, ConstraintNotZero}
 use Rattle.lookup.specs.Lookups.{Lookups, lookup-count, exclusive}
 use Rattle.lookup.specs.Table.{Table}
 use Rattle.lookup.specs.Tests.{has-lookups}
@@ -133,6 +136,12 @@ module _ (m : Limits) (p w : ℕ) (t : Table) (challenges : List ℕ) (width : �
   -- none where all constraints hold
   unfoldable pub verdict : Option Refusal
   verdict = or-else constraints-refusal (terminal-verdict terminal)
+
+-- at the choices of a call: refusal 1 where one of them is unknown
+unfoldable pub verdict-at : Choices → ℕ → Table → List ℕ → ℕ → List ℕ → Option (List ℕ) → Option Refusal
+verdict-at c rule t challenges width words terminal =
+    unless (known c && known-rule rule) SizeAtOdds
+    (verdict (limits-of (c .profile)) (prime-of (c .field)) (w-of (c .field)) t challenges width words terminal)
 
 -- "Where every denominator is nonzero and flags are lawful" (section 5): no refusal 13 to 15, and no zero denominator in an additive lookup
 pub record Regular (p w : ℕ) (c : Place) : Type 0 where

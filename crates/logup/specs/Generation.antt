@@ -1,19 +1,22 @@
 -- Generation (`LogUpGadget::generate_permutation`): its answer and the words of the buffer afterwards, for every input. SPECIFICATION,
 -- section 4.1.
 use Prim.Native.Nat.{ℕ, _*_, _/_, _%_}
-use mathlib.Core.Bool.{Bool, cond, _||_, not}
+use mathlib.Core.Bool.{Bool, cond, not, _&&_, _||_}
 use mathlib.Core.Option.{Option, none, some, Option·getD}
 use mathlib.Core.List.{List, [], _∷_, _++_}
 use lib.Dec.{eqb, leb}
 use lib.ListN.{length, drop, replicate}
 use Rattle.field.specs.Element.{zero4}
 use Rattle.field.specs.Ext.{ext-words}
+use Rattle.field.specs.Known.{prime-of, w-of}
+use Rattle.expression.specs.Choices.{known, known-rule, limits-of}
+use Rattle.expression.specs.declared.choices.Choices.{Choices}
 use Rattle.expression.specs.Words.{all-below}
 use Rattle.expression.specs.Refusal.{number, details, unless}
 use Rattle.expression.specs.Values.{row-values}
 use Rattle.expression.specs.declared.sizes.Limits.{Limits}
 use Rattle.expression.specs.declared.refusal.Refusal.{Refusal}
-use Rattle.expression.specs.declared.refusal.Refusal.the-variants.{TraceTooSmall}
+use Rattle.expression.specs.declared.refusal.Refusal.the-variants.{SizeAtOdds, TraceTooSmall}
 use Rattle.lookup.specs.Lookups.{lookup-count}
 use Rattle.lookup.specs.Table.{Table}
 use Rattle.lookup.specs.Tests.{has-lookups}
@@ -50,6 +53,10 @@ answer-of (Refused f) = refused f
 pub record Outcome : Type 0 where
   pub answer : Answer
   pub buffer : List ℕ
+
+-- generation within some limits and in some field: what it gives for a table, challenges and a buffer
+abbrev pub Generation : Type 0
+Generation = Table → List ℕ → List ℕ → Outcome
 
 -- n words at the front of a lent buffer: "words past it are untouched"
 abbrev pub written : List ℕ → ℕ → List ℕ → List ℕ
@@ -101,6 +108,13 @@ module _ (m : Limits) (p w : ℕ) (t : Table) (challenges buffer : List ℕ) whe
 
   unfoldable pub generation : Outcome
   generation = entry-outcome entry-refusal
+
+-- at the choices of a call: refusal 1 where one of them is unknown
+unfoldable pub generation-at : Choices → ℕ → Table → List ℕ → List ℕ → Outcome
+generation-at c rule t challenges buffer =
+    cond (known c && known-rule rule)
+    (generation (limits-of (c .profile)) (prime-of (c .field)) (w-of (c .field)) t challenges buffer)
+    (record { answer = refused SizeAtOdds; buffer = buffer })
 
 -- SPECIFICATION, section 9.2: it accepts "where it refuses nothing"
 abbrev pub accepts : Answer → Bool

@@ -5,7 +5,7 @@ ghost use Prim.Native.Nat.{ℕ, _<_, _≤_, _+_, _*_};
 ghost use lib.ListN.{length};
 ghost use Rattle.lists.specs.Count.{joined};
 ghost use Rattle.lists.specs.Tab.{tab};
-ghost use Rattle.field.specs.Modulus.{Modulus};
+ghost use Rattle.field.specs.inner.Requires.{KnownPrime};
 ghost use Rattle.field.specs.Element.{at, Word4, power4, element};
 ghost use Rattle.field.specs.Ext.{ext-words};
 ghost use Rattle.field_batch.specs.inner.Dot.{residues, Room};
@@ -33,7 +33,7 @@ pub fn value(vals: &[u32], node: u32) -> u32
 
 // One, beta, and so on to the seventh power, into the 32 words that are lent for them.
 pub fn write_powers(p: u32, w: u32, beta: Ext, out: &mut [u32])
-    requires { ⌜ Modulus p × (w < p) × Word4 p (ext-words beta) × (length (now out) ≡ 32) ⌝ }
+    requires { ⌜ KnownPrime p × (w < p) × Word4 p (ext-words beta) × (length (now out) ≡ 32) ⌝ }
     ensures { λ _. ⌜ now (out .exit) ≡ joined (power4 p w (ext-words beta)) 0 8 ⌝ }
 {
     let mut power = Ext {
@@ -81,7 +81,7 @@ fn element(power: [u32; 4]) -> Ext
 // A tuple's sum before element j is added. A sum takes four products before it must be reduced, and a tuple has at most eight: the sum is
 // reduced once, before the fifth.
 fn ready(p: u32, sum: Sum, j: usize) -> Sum
-    requires { ⌜ Modulus p ⌝ }
+    requires { ⌜ KnownPrime p ⌝ }
     ensures { λ r. ⌜ (j ≡ 4 → Room 4 r) × ((n : ℕ) → Room n sum → Room n r) × (residues p r ≡ residues p sum) ⌝ }
 {
     if j == 4 { dot::reduced(p, sum) } else { sum }

@@ -1,14 +1,20 @@
 -- The verdict, from the tests and from the rows.
-use mathlib.Core.Path.{_≡_, ap, _∙_}
+use mathlib.Core.Path.{_≡_, sym, ap₂, _∙_}
+use mathlib.Core.Bool.{Bool, true, false, not, _&&_}
 use mathlib.Core.Option.{Option, none, some}
 use mathlib.Core.List.{List}
 use Prim.Native.Nat.{ℕ}
-use Rattle.expression.specs.Limits.{cabinet}
+use borrow.Author.Tests.{not-true, not-false}
+use Rattle.field.specs.Known.{prime-of, w-of}
+use Rattle.expression.specs.Choices.{known, known-rule, limits-of}
 use Rattle.expression.specs.Values.{row-values}
+use Rattle.expression.specs.declared.choices.Choices.{Choices}
 use Rattle.expression.specs.declared.sizes.Limits.{Limits}
 use Rattle.expression.specs.declared.refusal.Refusal.{Refusal}
+use Rattle.expression.specs.declared.refusal.Refusal.the-variants.{SizeAtOdds}
 use Rattle.lookup.specs.Table.{Table}
-use Rattle.logup.specs.Constraints.{constraints-refusal, rows-verdict, verdict}
+use Rattle.logup.specs.Constraints.{constraints-refusal, rows-verdict, verdict, verdict-at}
+use Rattle.logup.specs.laws.Choices.{verdict-unknown}
 
 module _ (m : Limits) (p w : ℕ) (t : Table) (cs : List ℕ) (width : ℕ) (words : List ℕ) (o : Option (List ℕ)) where
   pub refused-is : (f : Refusal) → some f ≡ constraints-refusal m p w t cs width words o → some f ≡ verdict m p w t cs width words o
@@ -24,7 +30,12 @@ module _ (m : Limits) (p w : ℕ) (t : Table) (cs : List ℕ) (width : ℕ) (wor
   unfolding verdict
   given-is e k eo ev = rw (← k, eo) ev
 
--- the limits of SPECIFICATION, section 11
-pub at-cabinet : {m : Limits} {v : Option Refusal} (p w : ℕ) (t : Table) (cs : List ℕ) (width : ℕ) (words : List ℕ) (o : Option (List ℕ)) → m ≡ cabinet
-    → v ≡ verdict m p w t cs width words o → v ≡ verdict cabinet p w t cs width words o
-at-cabinet p w t cs width words o e k = k ∙ ap (λ (m : Limits). verdict m p w t cs width words o) e
+-- `eval_all`
+module _ (c : Choices) (rule : ℕ) (t : Table) (cs : List ℕ) (width : ℕ) (words : List ℕ) (o : Option (List ℕ)) {k r : Bool} (ek : k ≡ known c) (er : r ≡ known-rule rule) where
+  pub choice-unknown : not (k && r) ≡ true → some SizeAtOdds ≡ verdict-at c rule t cs width words o
+  choice-unknown z = sym (verdict-unknown c rule t cs width words o (sym (ap₂ _&&_ ek er) ∙ not-true (k && r) z))
+
+  pub choices-known : {m : Limits} {p w : ℕ} {v : Option Refusal} → not (k && r) ≡ false → m ≡ limits-of (c .profile) → p ≡ prime-of (c .field) → w ≡ w-of (c .field)
+      → v ≡ verdict m p w t cs width words o → v ≡ verdict-at c rule t cs width words o
+  unfolding verdict-at
+  choices-known z em ep ew h = rw (sym (ap₂ _&&_ ek er) ∙ not-false (k && r) z, ← em, ← ep, ← ew) h

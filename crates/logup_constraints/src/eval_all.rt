@@ -7,27 +7,28 @@ ghost use lib.Dec.{eqb};
 ghost use lib.ListN.{length};
 ghost use Rattle.field.specs.Element.{Word4};
 ghost use Rattle.field.specs.Ext.{ext-words};
-ghost use Rattle.field.specs.Modulus.{babybear, babybear-w};
-ghost use Rattle.expression.specs.Limits as Sizes;
 ghost use Rattle.expression.specs.Limits.{Sane};
 ghost use Rattle.expression.specs.Refusal.{refusal, numbers};
 ghost use Rattle.expression.specs.Requires.{Below, Evaluable};
 ghost use Rattle.lookup.specs.Lookups.{lent-lookups, lookup-count};
 ghost use Rattle.lookup.specs.Table.{Table, lent-table};
-ghost use Rattle.logup.specs.Constraints.{is-present, present-below, rows-verdict, verdict};
+ghost use Rattle.logup.specs.Constraints.{is-present, present-below, rows-verdict, verdict, verdict-at};
 ghost use Rattle.logup_column.specs.inner.Requires.{Listed, Field};
 ghost use Rattle.logup_column.specs.inner.Source.{Source, lent-source, node-values, named};
 ghost use Rattle.logup_terms.specs.inner.ConstraintRow.{TraceInputs};
 ghost use Rattle.logup_constraints.specs.Refusals.{terminal-of};
 ghost use Rattle.logup_constraints.specs.inner.Refusals.{trace-tests, entry-tests, EntryPassed};
+use expression::choices::Choices;
+use expression::choices::known;
+use expression::choices::known_rule;
+use expression::choices::limits_of;
 use expression::refusal::Refusal;
 use expression::refusal::Verdict;
-use expression::sizes;
 use expression::sizes::Limits;
 use expression::sizes::Shape;
 use expression::words::all_below;
-use field::modulus::BABYBEAR;
-use field::modulus::BABYBEAR_W;
+use field::modulus::prime_of;
+use field::modulus::w_of;
 use logup_column::powers;
 use logup_column::refusals;
 use logup_terms::eval_row;
@@ -279,8 +280,10 @@ pub fn eval_trace(
     }
 }
 
-// `eval_all` over a whole trace, with the limits and the field of SPECIFICATION, sections 2.1 and 11.
+// `eval_all` over a whole trace, at the choices of the call.
 pub fn eval_all(
+    choices: Choices,
+    rule: u32,
     shape: Shape,
     main: &[u32],
     preprocessed: &[u32],
@@ -297,15 +300,18 @@ pub fn eval_all(
     words: &[u32],
     terminal: Terminal,
 ) -> Verdict
-    ensures { λ r. ⌜ numbers (refusal r) ≡ numbers (verdict Sizes.cabinet babybear babybear-w
+    ensures { λ r. ⌜ numbers (refusal r) ≡ numbers (verdict-at choices rule
         (lent-table shape (now (main .entry)) (now (preprocessed .entry)) (now («public_values» .entry)) (now (nodes .entry))
         (lent-lookups (now (lookups .entry)) (now (names .entry)) (now (tuples .entry)) (now (multiplicities .entry)) (now (flags .entry))
         (now (elements .entry)))) (now (challenges .entry)) width (now (words .entry)) (terminal-of terminal)) ⌝ }
 {
+    if !(known(choices) & known_rule(rule)) {
+        return Verdict::Refused(Refusal::SizeAtOdds);
+    }
     eval_trace(
-        sizes::cabinet(),
-        BABYBEAR,
-        BABYBEAR_W,
+        limits_of(choices.profile),
+        prime_of(choices.field),
+        w_of(choices.field),
         shape,
         main,
         preprocessed,

@@ -1,20 +1,24 @@
 -- The answer and the buffer after the rows, and the outcome.
 use mathlib.Core.Path.{_≡_, refl, sym, ap, ap₂, _∙_}
-use mathlib.Core.Bool.{true, false}
+use mathlib.Core.Bool.{Bool, true, false, not, _&&_}
 use mathlib.Core.Option.{Option, none, some}
 use mathlib.Core.List.{List, [], _++_}
 use Prim.Native.Nat.{ℕ, _+_, _*_, _-_, _≤_, zero-le}
 use native.Mathlib.Omega.{arith}
 use lib.ListN.{length, take, drop, replicate, length-append}
 use lib.Seq.{drop-at}
+use borrow.Author.Tests.{not-true, not-false}
 use borrow.Rule.Slice.PartMut.{putMid}
 use Rattle.lists.specs.laws.Filled.{put-mid}
 use Rattle.lists.specs.laws.Parts.{part-length}
-use Rattle.expression.specs.Limits.{cabinet}
+use Rattle.field.specs.Known.{prime-of, w-of}
+use Rattle.expression.specs.Choices.{known, known-rule, limits-of}
 use Rattle.expression.specs.Refusal.{refusal}
 use Rattle.expression.specs.Values.{row-values}
+use Rattle.expression.specs.declared.choices.Choices.{Choices}
 use Rattle.expression.specs.declared.sizes.Limits.{Limits}
 use Rattle.expression.specs.declared.refusal.Refusal.{Refusal}
+use Rattle.expression.specs.declared.refusal.Refusal.the-variants.{SizeAtOdds}
 use Rattle.expression.specs.declared.refusal.Verdict.{Verdict}
 use Rattle.expression.specs.declared.refusal.Verdict.the-variants.{Accepted, Refused}
 use Rattle.expression.specs.declared.sizes.Shape.{Shape}
@@ -22,7 +26,8 @@ use Rattle.lookup.specs.Lookups.{Lookups, lent-lookups, lookup-count}
 use Rattle.lookup.specs.Table.{Table, lent-table}
 use Rattle.lookup.specs.Tests.{has-lookups}
 use Rattle.logup.specs.Rows.{accumulator, row-words, trace, first-fault, used}
-use Rattle.logup.specs.Generation.{Answer, refused, absent, terminal, rows-outcome, entry-refusal, entry-outcome, generation}
+use Rattle.logup.specs.Generation.{Answer, refused, absent, terminal, rows-outcome, entry-refusal, entry-outcome, generation, generation-at}
+use Rattle.logup.specs.laws.Choices.{generation-unknown}
 use Rattle.logup_generation.specs.inner.Outcome.{rows-answer, cleared}
 use Rattle.logup_column.specs.inner.Requires.{lent-values}
 use Rattle.lists.specs.laws.Joined.{joined-length}
@@ -116,7 +121,13 @@ rows-finished m p w shape main preprocessed public-values nodes lookups names tu
     vals : ℕ → List ℕ
     vals = lent-values p shape main preprocessed public-values nodes
 
--- the limits and the field of SPECIFICATION, sections 2.1 and 11
-pub at-cabinet : {m : Limits} {a : Answer} {b : List ℕ} (p w : ℕ) (t : Table) (cs buffer : List ℕ) → m ≡ cabinet
-    → (a ≡ generation m p w t cs buffer .answer) × (b ≡ generation m p w t cs buffer .buffer) → (a ≡ generation cabinet p w t cs buffer .answer) × (b ≡ generation cabinet p w t cs buffer .buffer)
-at-cabinet p w t cs buffer e (ea, eb) = (ea ∙ ap (λ (m : Limits). generation m p w t cs buffer .answer) e, eb ∙ ap (λ (m : Limits). generation m p w t cs buffer .buffer) e)
+-- `generate`
+module _ (c : Choices) (rule : ℕ) (t : Table) (cs buffer : List ℕ) {k r : Bool} (ek : k ≡ known c) (er : r ≡ known-rule rule) where
+  pub choice-unknown : not (k && r) ≡ true → record { answer = refused SizeAtOdds; buffer = buffer } ≡ generation-at c rule t cs buffer
+  choice-unknown z = sym (generation-unknown c rule t cs buffer (sym (ap₂ _&&_ ek er) ∙ not-true (k && r) z))
+
+  pub choices-known : {m : Limits} {p w : ℕ} {a : Answer} {b : List ℕ} → not (k && r) ≡ false → m ≡ limits-of (c .profile) → p ≡ prime-of (c .field) → w ≡ w-of (c .field)
+      → (a ≡ generation m p w t cs buffer .answer) × (b ≡ generation m p w t cs buffer .buffer) → record { answer = a; buffer = b } ≡ generation-at c rule t cs buffer
+  unfolding generation-at
+  choices-known z em ep ew (ea, eb) =
+      (λ i. record { answer = ea i; buffer = eb i }) ∙ rw (sym (ap₂ _&&_ ek er) ∙ not-false (k && r) z, em, ep, ew) refl

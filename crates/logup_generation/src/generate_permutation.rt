@@ -5,30 +5,31 @@ ghost use mathlib.Core.List.{List};
 ghost use Prim.Native.Nat.{ℕ, _≤_, _*_};
 ghost use lib.ListN.{length};
 ghost use Rattle.field.specs.Ext.{ext-words};
-ghost use Rattle.field.specs.Modulus.{babybear, babybear-w};
 ghost use Rattle.expression.specs.Requires.{Below, Evaluable};
-ghost use Rattle.expression.specs.Limits as Sizes;
 ghost use Rattle.expression.specs.Limits.{Sane};
 ghost use Rattle.expression.specs.Refusal.{refusal};
 ghost use Rattle.expression.specs.declared.sizes.Limits as Declared;
 ghost use Rattle.lookup.specs.Lookups.{lent-lookups, lookup-count};
 ghost use Rattle.lookup.specs.Table.{Table, lent-table};
 ghost use Rattle.logup.specs.Rows.{used};
-ghost use Rattle.logup.specs.Generation.{answer-of, generation};
+ghost use Rattle.logup.specs.Generation.{answer-of, generation, generation-at};
 ghost use Rattle.logup.specs.Reader.{IsRowOf};
 ghost use Rattle.logup_column.specs.inner.Requires.{Listed, Field};
 ghost use Rattle.logup_column.specs.inner.Source.{Source, lent-source};
 ghost use Rattle.logup_generation.specs.inner.Refusals.{trace-tests, entry-tests, EntryPassed};
 ghost use Rattle.logup_generation.specs.inner.Outcome.{rows-answer, cleared, rows-result};
+use expression::choices::Choices;
+use expression::choices::known;
+use expression::choices::known_rule;
+use expression::choices::limits_of;
 use expression::refusal::Refusal;
 use expression::refusal::Verdict;
-use expression::sizes;
 use expression::sizes::Limits;
 use expression::sizes::Shape;
 use expression::words::all_below;
 use expression::words::clear;
-use field::modulus::BABYBEAR;
-use field::modulus::BABYBEAR_W;
+use field::modulus::prime_of;
+use field::modulus::w_of;
 use logup::logup::Generated;
 use logup_column::powers;
 use logup_column::refusals;
@@ -245,8 +246,10 @@ pub fn generate_permutation(
     }
 }
 
-// `LogUpGadget::generate_permutation`, with the limits and the field of SPECIFICATION, sections 2.1 and 11.
+// `LogUpGadget::generate_permutation`, at the choices of the call.
 pub fn generate(
+    choices: Choices,
+    rule: u32,
     shape: Shape,
     main: &[u32],
     preprocessed: &[u32],
@@ -262,15 +265,18 @@ pub fn generate(
     trace: &mut [u32],
 ) -> Generated
     ensures { λ r. ⌜ record { answer = answer-of r; buffer = now (trace .exit) }
-        ≡ generation Sizes.cabinet babybear babybear-w
+        ≡ generation-at choices rule
         (lent-table shape (now (main .entry)) (now (preprocessed .entry)) (now («public_values» .entry)) (now (nodes .entry))
         (lent-lookups (now (lookups .entry)) (now (names .entry)) (now (tuples .entry)) (now (multiplicities .entry)) (now (flags .entry))
         (now (elements .entry)))) (now (challenges .entry)) (now (trace .entry)) ⌝ }
 {
+    if !(known(choices) & known_rule(rule)) {
+        return Generated::Refused(Refusal::SizeAtOdds);
+    }
     generate_permutation(
-        sizes::cabinet(),
-        BABYBEAR,
-        BABYBEAR_W,
+        limits_of(choices.profile),
+        prime_of(choices.field),
+        w_of(choices.field),
         shape,
         main,
         preprocessed,

@@ -5,7 +5,7 @@ ghost use mathlib.Core.Bool.{cond};
 ghost use mathlib.Core.List.{[]};
 ghost use Prim.Native.Nat.{_<_, _≤_};
 ghost use lib.ListN.{length};
-ghost use Rattle.field.specs.Modulus.{Modulus};
+ghost use Rattle.field.specs.inner.Requires.{KnownPrime};
 ghost use Rattle.field.specs.Element.{Word4};
 ghost use Rattle.field.specs.Ext.{ext-words};
 ghost use Rattle.lookup.specs.Lookups.{tuple-count, exclusive};
@@ -36,7 +36,7 @@ pub struct Branches {
 
 // N ÷ D + m ÷ d = (N·d + m·D) ÷ (D·d)
 fn add_term(p: u32, w: u32, t: Fraction, m: u32, d: Ext) -> Fraction
-    requires { ⌜ Modulus p × (w < p) × Word4 p (ext-words (t .numerator)) × Word4 p (ext-words (t .denominator)) × (m < p) × Word4 p (ext-words d) ⌝ }
+    requires { ⌜ KnownPrime p × (w < p) × Word4 p (ext-words (t .numerator)) × Word4 p (ext-words (t .denominator)) × (m < p) × Word4 p (ext-words d) ⌝ }
     ensures { λ r. ⌜ TermAdded p w t m (ext-words d) r ⌝ }
 {
     let numerator = t.numerator;
@@ -98,7 +98,7 @@ pub fn compute_combined_sum_terms(
 
 // One branch more: flag · multiplicity, flag · denominator and the flag itself.
 fn add_branch(p: u32, t: Branches, f: u32, m: u32, d: Ext) -> Branches
-    requires { ⌜ Modulus p × Word4 p (ext-words (t .numerator)) × Word4 p (ext-words (t .denominator)) × Word4 p (ext-words (t .flags)) × (f < p) × (m < p) × Word4 p (ext-words d) ⌝ }
+    requires { ⌜ KnownPrime p × Word4 p (ext-words (t .numerator)) × Word4 p (ext-words (t .denominator)) × Word4 p (ext-words (t .flags)) × (f < p) × (m < p) × Word4 p (ext-words d) ⌝ }
     ensures { λ r. ⌜ BranchAdded p t f m (ext-words d) r ⌝ }
 {
     let numerator = t.numerator;

@@ -5,7 +5,7 @@ ghost use mathlib.Core.Option.{none};
 ghost use Prim.Native.Nat.{_<_, _≤_, _+_, _*_};
 ghost use lib.Dec.{eqb, ltb};
 ghost use lib.ListN.{length};
-ghost use Rattle.field.specs.Modulus.{Modulus};
+ghost use Rattle.field.specs.inner.Requires.{KnownPrime};
 ghost use Rattle.field.specs.Element.{Word4};
 ghost use Rattle.field.specs.Ext.{ext-words};
 ghost use Rattle.expression.specs.Requires.{Below, Evaluable};
@@ -211,7 +211,7 @@ fn eval_accumulator(
     r: usize,
     height: usize,
 ) -> Verdict
-    requires { ⌜ Modulus p × Word4 p (ext-words accumulator) × Below p (now words) × (r + 1 < height → 4 * next + 4 ≤ length (now words))
+    requires { ⌜ KnownPrime p × Word4 p (ext-words accumulator) × Below p (now words) × (r + 1 < height → 4 * next + 4 ≤ length (now words))
         × Word4 p (ext-words (terminal .0)) × Word4 p (ext-words sum) × (r < height) × (n ≤ 64) ⌝ }
     ensures { λ v. ⌜ refusal v ≡ accumulator-verdict p (ext-words accumulator) (next-accumulator (now (words .entry)) next r height (ext-words (terminal .0))) (ext-words sum) n r height ⌝ }
 {

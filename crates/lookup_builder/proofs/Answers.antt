@@ -9,9 +9,11 @@ use lib.ListN.{length, take, drop, replicate, length-append}
 use lib.Seq.{take-at}
 use borrow.Author.Tests.{not-true, not-false}
 use Rattle.lists.specs.Count.{joined}
-use Rattle.expression.specs.Limits.{Sane, cabinet}
+use Rattle.field.specs.Known.{prime-of}
+use Rattle.expression.specs.Limits.{Sane}
+use Rattle.expression.specs.Choices.{known, limits-of}
 use Rattle.expression.specs.Refusal.{refusal}
-use Rattle.expression.specs.laws.Tested.{cabinet-sane}
+use Rattle.expression.specs.declared.choices.Choices.{Choices}
 use Rattle.expression.specs.declared.sizes.Limits.{Limits}
 use Rattle.expression.specs.declared.refusal.Refusal.{Refusal}
 use Rattle.expression.specs.declared.refusal.Refusal.the-variants.{SizeAtOdds}
@@ -23,7 +25,7 @@ use Rattle.lookup.specs.declared.refusals.Columns.{Columns}
 use Rattle.lookup_degree.specs.Formed.{Formed}
 use Rattle.lookup_degree.specs.laws.Formed.{formed}
 use Rattle.lookup_builder.specs.Building.{interaction-count, built-words, built, locals-refusal}
-use Rattle.lookup_builder.specs.FromInteractions.{Interactions, building-fits, lookups-built, built-refusal, building-refusal, building}
+use Rattle.lookup_builder.specs.FromInteractions.{Interactions, Outcome, building-fits, lookups-built, built-refusal, building-refusal, building, building-at}
 use Rattle.lookup_builder.specs.declared.answer.Kinds.{Kinds}
 use Rattle.lookup_builder.specs.declared.answer.BuildingAnswer.{BuildingAnswer}
 use Rattle.lookup_builder.specs.declared.answer.BuildingAnswer.the-variants.{Built, Refused}
@@ -92,12 +94,14 @@ module _ (m : Limits) (p : ℕ) (c : Columns) (nodes : List ℕ) (k : Kinds) (g 
       let w : 8 * interaction-count k ≡ length words = sym (built-length k (g .interactions) (g .weights)) in
       rw (sym e ∙ not-false b z, sym h ∙ ap refusal q) (ap Built (ap (λ (x : ℕ). 8 * x) t ∙ w), o ∙ ap (λ (x : ℕ). words ++ drop x lent) w)
 
--- the limits of SPECIFICATION, section 11
-pub cabinet-asks : {m : Limits} → m ≡ cabinet → Sane m
-cabinet-asks e = rw e cabinet-sane
+-- `from_interactions`
+module _ (c : Choices) (columns : Columns) (nodes : List ℕ) (k : Kinds) (g : Interactions) (lent : List ℕ) {b : Bool} (e : b ≡ known c) where
+  pub choice-unknown : not b ≡ true → _≡_ {A = Outcome} (record { answer = Refused SizeAtOdds; lookups = lent }) (building-at c columns nodes k g lent)
+  unfolding building-at
+  choice-unknown z = rw (sym e ∙ not-true b z) refl
 
-pub at-cabinet : {m : Limits} {a : BuildingAnswer} {out : List ℕ} (p : ℕ) (c : Columns) (nodes : List ℕ) (k : Kinds) (g : Interactions) (lent : List ℕ) → m ≡ cabinet
-    → (a ≡ building m p c nodes k g lent .answer) × (out ≡ building m p c nodes k g lent .lookups)
-    → (a ≡ building cabinet p c nodes k g lent .answer) × (out ≡ building cabinet p c nodes k g lent .lookups)
-at-cabinet p c nodes k g lent e h =
-    (h .0 ∙ ap (λ (x : Limits). building x p c nodes k g lent .answer) e, h .1 ∙ ap (λ (x : Limits). building x p c nodes k g lent .lookups) e)
+  pub choices-known : {m : Limits} {p : ℕ} {a : BuildingAnswer} {out : List ℕ} → not b ≡ false → m ≡ limits-of (c .profile) → p ≡ prime-of (c .field)
+      → (a ≡ building m p columns nodes k g lent .answer) × (out ≡ building m p columns nodes k g lent .lookups)
+      → _≡_ {A = Outcome} (record { answer = a; lookups = out }) (building-at c columns nodes k g lent)
+  unfolding building-at
+  choices-known z em ep h = rw (sym e ∙ not-false b z, ← em, ← ep) (λ i. record { answer = h .0 i; lookups = h .1 i })

@@ -1,11 +1,14 @@
 -- Building of one table's lookups: the answer, and the lent list afterwards, for every input.
-use mathlib.Core.Bool.{Bool, _&&_}
+use mathlib.Core.Bool.{Bool, cond, _&&_}
 use mathlib.Core.Option.{Option, none, some}
 use mathlib.Core.List.{List, _++_}
 use Prim.Native.Nat.{ℕ, _+_, _*_}
 use lib.Dec.{eqb, leb}
 use lib.ListN.{length, drop}
 use Rattle.lists.specs.Count.{every, or-else}
+use Rattle.field.specs.Known.{prime-of}
+use Rattle.expression.specs.Choices.{known, limits-of}
+use Rattle.expression.specs.declared.choices.Choices.{Choices}
 use Rattle.expression.specs.Refusal.{Numbers, numbers, unless}
 use Rattle.expression.specs.declared.sizes.Limits.{Limits}
 use Rattle.expression.specs.declared.refusal.Refusal.{Refusal}
@@ -68,6 +71,12 @@ outcome (some f) words lent = record { answer = Refused f; lookups = lent }
 -- the table's columns and nodes, the interactions, and the lent list
 unfoldable pub building : Limits → ℕ → Columns → List ℕ → Kinds → Interactions → List ℕ → Outcome
 building m p c nodes k g lent = outcome (building-refusal m p c nodes k g (length lent)) (built k (g .interactions) (g .weights)) lent
+
+-- at the choices of a call: refusal 1 where one of them is unknown
+unfoldable pub building-at : Choices → Columns → List ℕ → Kinds → Interactions → List ℕ → Outcome
+building-at c columns nodes k g lent =
+    cond (known c) (building (limits-of (c .profile)) (prime-of (c .field)) columns nodes k g lent)
+    (record { answer = Refused SizeAtOdds; lookups = lent })
 
 -- SPECIFICATION, sections 1.4 and 14.1: "An answer is a number and three 64-bit details", how many words were written beside it, 0 where it is
 -- refused, and the lent list afterwards

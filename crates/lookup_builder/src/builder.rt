@@ -5,22 +5,22 @@ use crate::fits::building_fits;
 use crate::locals::locals_verdict;
 use crate::words::interaction_count;
 use crate::words::write_lookups;
+use expression::choices::Choices;
+use expression::choices::known;
+use expression::choices::limits_of;
 use expression::refusal::Refusal;
 use expression::refusal::Verdict;
 use expression::sizes::Limits;
-use expression::sizes::cabinet;
-use field::modulus::BABYBEAR;
+use field::modulus::prime_of;
 use lookup::refusals::Columns;
 use lookup::refusals::form_refusal;
 use lookup::types::LOOKUP_WORDS;
 ghost use mathlib.Core.Path.{_≡_};
 ghost use Prim.Native.Nat.{_≤_};
-ghost use Rattle.field.specs.Modulus.{babybear};
-ghost use Rattle.expression.specs.Limits as Sizes;
 ghost use Rattle.expression.specs.Limits.{Sane};
 ghost use Rattle.expression.specs.Refusal.{refusal};
 ghost use Rattle.lookup.specs.Lookups.{Lookups, lent-lookups, lookup-count};
-ghost use Rattle.lookup_builder.specs.FromInteractions.{Interactions, lent-interactions, lookups-built, built-refusal, building, in-numbers};
+ghost use Rattle.lookup_builder.specs.FromInteractions.{Interactions, lent-interactions, lookups-built, built-refusal, building, building-at, in-numbers};
 ghost use Rattle.lookup_builder.specs.inner.Requires.{BuildSource, build-source, InteractionsSized};
 
 // Refusals 1 to 6 of lookups of which the first are locals.
@@ -146,9 +146,9 @@ pub fn build_within(
     }
 }
 
-// The lookups of locals, globals and exclusives, in this order (`from_interactions`), with the limits and the field of SPECIFICATION,
-// sections 2.1 and 11.
+// The lookups of locals, globals and exclusives, in this order (`from_interactions`), at the choices of the call.
 pub fn from_interactions(
+    choices: Choices,
     columns: Columns,
     nodes: &[u32],
     kinds: Kinds,
@@ -162,13 +162,16 @@ pub fn from_interactions(
     lookups: &mut [u32],
 ) -> BuildingAnswer
     ensures { λ r. ⌜ in-numbers (record { answer = r; lookups = now (lookups .exit) })
-        ≡ in-numbers (building Sizes.cabinet babybear columns (now (nodes .entry)) kinds
+        ≡ in-numbers (building-at choices columns (now (nodes .entry)) kinds
         (lent-interactions (now (interactions .entry)) (now (weights .entry)) (now (names .entry)) (now (tuples .entry)) (now (multiplicities .entry))
         (now (flags .entry)) (now (elements .entry))) (now (lookups .entry))) ⌝ }
 {
+    if !known(choices) {
+        return BuildingAnswer::Refused(Refusal::SizeAtOdds);
+    }
     build_within(
-        cabinet(),
-        BABYBEAR,
+        limits_of(choices.profile),
+        prime_of(choices.field),
         columns,
         nodes,
         kinds,

@@ -1,5 +1,5 @@
 -- What the tests say, and the answer.
-use mathlib.Core.Path.{_≡_, sym, ap, ap₂, _∙_}
+use mathlib.Core.Path.{_≡_, refl, sym, ap, ap₂, _∙_}
 use mathlib.Core.Bool.{Bool, true, false, not, _&&_}
 use mathlib.Core.Option.{Option, none, some}
 use mathlib.Core.List.{List, [], _∷_}
@@ -11,7 +11,9 @@ use borrow.Author.Tests.{eqb-true, leb-true, not-true, not-false}
 use Rattle.lists.specs.Count.{every}
 use Rattle.lists.specs.laws.Tests.{passed, every-true}
 use Rattle.expression.specs.Limits.{Sane}
+use Rattle.expression.specs.Choices.{known, limits-of}
 use Rattle.expression.specs.Refusal.{refusal, unless}
+use Rattle.expression.specs.declared.choices.Choices.{Choices}
 use Rattle.expression.specs.declared.sizes.Limits.{Limits}
 use Rattle.expression.specs.declared.refusal.Refusal.{Refusal}
 use Rattle.expression.specs.declared.refusal.Refusal.the-variants.{SizeAtOdds, LookupInvalid}
@@ -22,7 +24,7 @@ use Rattle.lookup.specs.Sizes.{table-count, size-start, covers}
 use Rattle.lookup.specs.Tests.{lookups-within, lengths-agree}
 use Rattle.lookup.specs.laws.Tested.{lookups-few}
 use Rattle.lookup_buses.specs.Widths.{widths-refusal, widest}
-use Rattle.lookup_buses.specs.CheckBusWidths.{BusTables, bus-sizes, lookup-count-size, name-bytes-size, tuple-count-size, table-at, tables-of, lists-fit, table-fits, all-fit, widths-answer}
+use Rattle.lookup_buses.specs.CheckBusWidths.{BusTables, bus-sizes, lookup-count-size, name-bytes-size, tuple-count-size, table-at, tables-of, lists-fit, table-fits, all-fit, widths-answer, widths-at}
 use Rattle.lookup_buses.specs.inner.Requires.{BusLists, BusListsCover, BusTablesFit}
 use Rattle.lookup_buses.specs.declared.check_bus_widths.WidthsAnswer.{WidthsAnswer}
 use Rattle.lookup_buses.specs.declared.check_bus_widths.WidthsAnswer.the-variants.{Widest, Refused}
@@ -124,3 +126,13 @@ module _ (m : Limits) (l : BusTables) where
       → refusal v ≡ widths-refusal (tables-of l) → v ≡ verdict.Refused f → Refused f ≡ widths-answer m l
   unfolding widths-answer
   answer-refused {a} {b} {v} {f} e z eb zb g k = rw (sym e ∙ not-false a z, sym eb ∙ not-false b zb, sym g ∙ ap refusal k)
+
+-- `check_bus_widths`
+module _ (c : Choices) (l : BusTables) {b : Bool} (e : b ≡ known c) where
+  pub choice-unknown : not b ≡ true → Refused SizeAtOdds ≡ widths-at c l
+  unfolding widths-at
+  choice-unknown z = rw (sym e ∙ not-true b z) refl
+
+  pub choices-known : {m : Limits} {a : WidthsAnswer} → not b ≡ false → m ≡ limits-of (c .profile) → a ≡ widths-answer m l → a ≡ widths-at c l
+  unfolding widths-at
+  choices-known z em h = rw (sym e ∙ not-false b z, ← em) h

@@ -1,11 +1,13 @@
 -- The widths of several tables: the words that are lent, and the answer for every input.
-use mathlib.Core.Bool.{Bool, _&&_}
+use mathlib.Core.Bool.{Bool, cond, _&&_}
 use mathlib.Core.Option.{Option, none, some}
 use mathlib.Core.List.{List}
 use Prim.Native.Nat.{ℕ, _%_}
 use lib.Dec.{eqb, leb}
 use lib.ListN.{length}
 use Rattle.lists.specs.Count.{every}
+use Rattle.expression.specs.Choices.{known, limits-of}
+use Rattle.expression.specs.declared.choices.Choices.{Choices}
 use Rattle.expression.specs.Refusal.{Numbers, numbers, unless}
 use Rattle.expression.specs.declared.sizes.Limits.{Limits}
 use Rattle.expression.specs.declared.refusal.Refusal.{Refusal}
@@ -76,6 +78,10 @@ widths-answer m l =
     (unless (all-fit m l) SizeAtOdds
     (unless (every (lengths-agree (l .lookups)) (lookup-count (l .lookups))) LookupInvalid (widths-refusal (tables-of l))))
     (widest (tables-of l))
+
+-- at the choices of a call: refusal 1 where one of them is unknown; no prime is read
+unfoldable pub widths-at : Choices → BusTables → WidthsAnswer
+widths-at c l = cond (known c) (widths-answer (limits-of (c .profile)) l) (Refused SizeAtOdds)
 
 -- the tables from the lists that are lent
 abbrev pub lent-bus-tables : List ℕ → List ℕ → List ℕ → List ℕ → BusTables

@@ -6,10 +6,12 @@ use crate::spans::TUPLE_COUNT_SIZE;
 use crate::spans::spans_of;
 use crate::tables::bus_widths;
 use crate::tables::widest;
+use expression::choices::Choices;
+use expression::choices::known;
+use expression::choices::limits_of;
 use expression::refusal::Refusal;
 use expression::refusal::Verdict;
 use expression::sizes::Limits;
-use expression::sizes::cabinet;
 use expression::words::to_u64;
 use lookup::sizes::part_start;
 use lookup::starts::name_start;
@@ -20,9 +22,9 @@ use lookup::types::LOOKUP_WORDS;
 ghost use mathlib.Core.Path.{_≡_};
 ghost use mathlib.Core.Bool.{true};
 ghost use Rattle.lists.specs.Count.{every};
-ghost use Rattle.expression.specs.Limits.{Sane, cabinet};
+ghost use Rattle.expression.specs.Limits.{Sane};
 ghost use Rattle.lookup.specs.Sizes.{table-count};
-ghost use Rattle.lookup_buses.specs.CheckBusWidths.{BusTables, bus-sizes, table-at, lists-fit, table-fits, all-fit, widths-answer, in-numbers, lent-bus-tables};
+ghost use Rattle.lookup_buses.specs.CheckBusWidths.{BusTables, bus-sizes, table-at, lists-fit, table-fits, all-fit, widths-answer, widths-at, in-numbers, lent-bus-tables};
 ghost use Rattle.lookup_buses.specs.inner.Requires.{BusListsCover};
 ghost use Rattle.lookup.specs.Lookups.{bus-lookups};
 
@@ -124,17 +126,20 @@ pub fn widths_within(
     }
 }
 
-// The widest bus tuple of several tables, or 0 (`check_bus_widths`). `sizes` has for each table how many lookups, bytes of
-// names and tuples it has.
+// The widest bus tuple of several tables, or 0 (`check_bus_widths`), at the choices of the call. `sizes` has for each table how many
+// lookups, bytes of names and tuples it has.
 pub fn check_bus_widths(
+    choices: Choices,
     lookups: &[u32],
     names: &[u8],
     tuples: &[u32],
     sizes: &[u32],
 ) -> WidthsAnswer
     ensures { λ r. ⌜ in-numbers r
-        ≡ in-numbers (widths-answer cabinet (lent-bus-tables (now (lookups .entry)) (now (names .entry)) (now (tuples .entry)) (now (sizes .entry)))) ⌝ }
+        ≡ in-numbers (widths-at choices (lent-bus-tables (now (lookups .entry)) (now (names .entry)) (now (tuples .entry)) (now (sizes .entry)))) ⌝ }
 {
-    let limits = cabinet();
-    widths_within(limits, lookups, names, tuples, sizes)
+    if !known(choices) {
+        return WidthsAnswer::Refused(Refusal::SizeAtOdds);
+    }
+    widths_within(limits_of(choices.profile), lookups, names, tuples, sizes)
 }

@@ -1,14 +1,17 @@
 -- Prefixes (`Challenges::new`). SPECIFICATION, section 7.4.
 use Prim.Native.Nat.{ℕ, _+_, _*_, _/_}
-use mathlib.Core.Bool.{Bool, not, _&&_}
+use mathlib.Core.Bool.{Bool, cond, not, _&&_}
 use mathlib.Core.Option.{Option, none, some}
 use mathlib.Core.List.{List, _++_}
 use lib.Dec.{eqb, leb}
 use lib.ListN.{length, drop}
 use Rattle.lists.specs.Count.{joined}
 use Rattle.field.specs.Element.{add4, scale4, power4}
+use Rattle.field.specs.Known.{prime-of, w-of}
+use Rattle.expression.specs.Choices.{known, limits-of}
 use Rattle.expression.specs.Words.{all-below}
 use Rattle.expression.specs.Refusal.{Numbers, numbers, unless}
+use Rattle.expression.specs.declared.choices.Choices.{Choices}
 use Rattle.expression.specs.declared.sizes.Limits.{Limits}
 use Rattle.expression.specs.declared.refusal.Refusal.{Refusal}
 use Rattle.expression.specs.declared.refusal.Refusal.the-variants.{SizeAtOdds, WordTooLarge, WidthZero}
@@ -49,3 +52,9 @@ outcome r p w alpha beta width n out = record { answer = numbers r; out = prefix
 -- n prefixes of alpha and beta into the front of `out`
 unfoldable pub prefixes : Limits → ℕ → ℕ → List ℕ → List ℕ → ℕ → ℕ → List ℕ → Outcome
 prefixes m p w alpha beta width n out = outcome (prefixes-refusal m p alpha beta width n out) p w alpha beta width n out
+
+-- at the choices of a call: refusal 1 where one of them is unknown
+unfoldable pub prefixes-at : Choices → List ℕ → List ℕ → ℕ → ℕ → List ℕ → Outcome
+prefixes-at c alpha beta width n out =
+    cond (known c) (prefixes (limits-of (c .profile)) (prime-of (c .field)) (w-of (c .field)) alpha beta width n out)
+    (record { answer = numbers (some SizeAtOdds); out = out })

@@ -1,8 +1,10 @@
 // Prefixes that keep buses apart, from one pair of challenges.
+use expression::choices::Choices;
+use expression::choices::known;
+use expression::choices::limits_of;
 use expression::refusal::Refusal;
 use expression::refusal::Verdict;
 use expression::sizes::Limits;
-use expression::sizes::cabinet;
 use expression::words::all_below;
 use expression::words::to_usize;
 use field::extension::Ext;
@@ -11,20 +13,19 @@ use field::extension::load;
 use field::extension::power;
 use field::extension::scale;
 use field::extension::store;
-use field::modulus::BABYBEAR;
-use field::modulus::BABYBEAR_W;
+use field::modulus::prime_of;
+use field::modulus::w_of;
 use field::word::reduce;
 ghost use mathlib.Core.Path.{_≡_};
 ghost use mathlib.Core.List.{_++_};
 ghost use Prim.Native.Nat.{_+_, _*_, _<_, _≤_};
 ghost use lib.ListN.{length, drop};
 ghost use Rattle.lists.specs.Count.{joined};
-ghost use Rattle.field.specs.Modulus.{Modulus, babybear, babybear-w};
+ghost use Rattle.field.specs.inner.Requires.{KnownPrime};
 ghost use Rattle.field.specs.Element.{Word4};
 ghost use Rattle.field.specs.Ext.{ext-words};
-ghost use Rattle.expression.specs.Limits as Sizes;
 ghost use Rattle.expression.specs.Refusal.{refusal, numbers};
-ghost use Rattle.lookup_challenges.specs.Prefixes.{prefix-by, prefix, prefixes-fit, prefixes-refusal, prefixes-after, prefixes};
+ghost use Rattle.lookup_challenges.specs.Prefixes.{prefix-by, prefix, prefixes-fit, prefixes-refusal, prefixes-after, prefixes-at};
 ghost use Rattle.lookup_challenges.specs.inner.Requires.{ChallengeLists, challenge-lists, Writable};
 
 // alpha and beta are one element each, W and the number of prefixes are within their limits, and the prefixes have room.
@@ -47,14 +48,14 @@ fn fits(
 
 // Prefix i, from gamma = beta^W.
 fn prefix(p: u32, alpha: Ext, gamma: Ext, i: usize) -> Ext
-    requires { ⌜ Modulus p × Word4 p (ext-words alpha) × Word4 p (ext-words gamma) × (i < 4294967295) ⌝ }
+    requires { ⌜ KnownPrime p × Word4 p (ext-words alpha) × Word4 p (ext-words gamma) × (i < 4294967295) ⌝ }
     ensures { λ r. ⌜ ext-words r ≡ prefix-by p (ext-words alpha) (ext-words gamma) i ⌝ }
 {
     add(p, alpha, scale(p, reduce(p, (i + 1) as u64), gamma))
 }
 
 fn fill(p: u32, alpha: Ext, gamma: Ext, count: usize, out: &mut [u32])
-    requires { ⌜ Modulus p × Word4 p (ext-words alpha) × Word4 p (ext-words gamma) × (count ≤ 4294967295) × (4 * count ≤ length (now out)) ⌝ }
+    requires { ⌜ KnownPrime p × Word4 p (ext-words alpha) × Word4 p (ext-words gamma) × (count ≤ 4294967295) × (4 * count ≤ length (now out)) ⌝ }
     ensures { λ _. ⌜ now (out .exit) ≡ joined (prefix-by p (ext-words alpha) (ext-words gamma)) 0 count ++ drop (4 * count) (now (out .entry)) ⌝ }
 {
     let mut i = 0;
@@ -69,7 +70,7 @@ fn fill(p: u32, alpha: Ext, gamma: Ext, count: usize, out: &mut [u32])
 fn write(p: u32, w: u32, alpha: &[u32], beta: &[u32], width: usize, count: usize, out: &mut [u32])
     ghost { ChallengeLists }
     requires { λ l. ⌜ challenge-lists (now alpha) (now beta) (now out) ≡ l ⌝ }
-    requires { λ l. ⌜ Modulus p × (w < p) × Writable p (l .alpha) (l .beta) width count (l .out) ⌝ }
+    requires { λ l. ⌜ KnownPrime p × (w < p) × Writable p (l .alpha) (l .beta) width count (l .out) ⌝ }
     ensures { λ l _. ⌜ now (out .exit) ≡ joined (prefix p w (l .alpha) (l .beta) width) 0 count ++ drop (4 * count) (l .out) ⌝ }
 {
     let gamma = power(p, w, load(beta, 0), width as u32);
@@ -89,7 +90,7 @@ pub fn prefixes(
 ) -> Verdict
     ghost { ChallengeLists }
     requires { λ l. ⌜ challenge-lists (now alpha) (now beta) (now out) ≡ l ⌝ }
-    requires { λ l. ⌜ Modulus p × (w < p) × (limits .prefixes ≤ 4294967295) × (limits .«prefix_width» ≤ 4294967295) ⌝ }
+    requires { λ l. ⌜ KnownPrime p × (w < p) × (limits .prefixes ≤ 4294967295) × (limits .«prefix_width» ≤ 4294967295) ⌝ }
     ensures { λ l r. ⌜ (refusal r ≡ prefixes-refusal limits p (l .alpha) (l .beta) width count (l .out))
         × (now (out .exit) ≡ prefixes-after (refusal r) p w (l .alpha) (l .beta) width count (l .out)) ⌝ }
 {
@@ -106,15 +107,25 @@ pub fn prefixes(
     Verdict::Accepted
 }
 
-// `Challenges::new`, with the limits and the field of SPECIFICATION, sections 2.1 and 11.
-pub fn new(alpha: &[u32], beta: &[u32], width: usize, count: usize, out: &mut [u32]) -> Verdict
+// `Challenges::new`, at the choices of the call.
+pub fn new(
+    choices: Choices,
+    alpha: &[u32],
+    beta: &[u32],
+    width: usize,
+    count: usize,
+    out: &mut [u32],
+) -> Verdict
     ensures { λ r. ⌜ record { answer = numbers (refusal r); out = now (out .exit) }
-        ≡ prefixes Sizes.cabinet babybear babybear-w (now (alpha .entry)) (now (beta .entry)) width count (now (out .entry)) ⌝ }
+        ≡ prefixes-at choices (now (alpha .entry)) (now (beta .entry)) width count (now (out .entry)) ⌝ }
 {
+    if !known(choices) {
+        return Verdict::Refused(Refusal::SizeAtOdds);
+    }
     prefixes(
-        cabinet(),
-        BABYBEAR,
-        BABYBEAR_W,
+        limits_of(choices.profile),
+        prime_of(choices.field),
+        w_of(choices.field),
         alpha,
         beta,
         width,

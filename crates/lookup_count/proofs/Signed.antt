@@ -2,9 +2,9 @@
 use mathlib.Core.Path.{_≡_, refl, sym, ap, ap₂, _∙_, subst}
 use mathlib.Core.Bool.{Bool, true, false, cond, true≢false}
 use mathlib.Core.List.{List}
-use Prim.Native.Nat.{ℕ, suc, _+_, _-_, _<_, _≤_}
+use Prim.Native.Nat.{ℕ, suc, _+_, _-_, _<_}
 use native.Mathlib.Omega.{arith}
-use lib.Dec.{T, ltb}
+use lib.Dec.{T}
 use lib.IntN.{ℤ, pos, negsuc, natAbs, _-ℤ_}
 use lib.Signed.{ltZ, nonNeg}
 use mir.Syntax.{w32}
@@ -12,7 +12,6 @@ use mir.Val.{Fits, SFits, toZ, ofZ}
 use mir.ValLaws.{toZ-ofZ}
 use borrow.Author.Tests.{ltb-true, le-ltb}
 use Rattle.expression.specs.declared.sizes.Limits.{Limits}
-use Rattle.expression.specs.Limits.{cabinet}
 use Rattle.lookup_count.specs.Count.{negative, magnitude, residue, count-refusal, counted, nodes-after}
 use Rattle.lookup_count.specs.declared.count.Counted.{Counted}
 
@@ -84,10 +83,11 @@ module _ (x : ℤ) (f : SFits w32 x) where
   pub sign-is : ltZ (toZ w32 (ofZ w32 x)) (pos 0) ≡ negative x
   sign-is = sign-of (toZ w32 (ofZ w32 x)) ∙ ap negative read
 
-pub from-is : (m : Limits) (b : Bool) (g : ℕ) {r : Counted} {out : List ℕ} (p : ℕ) (nodes : List ℕ) (used : ℕ) (x : ℤ) → m ≡ cabinet → b ≡ negative x → g ≡ magnitude x
+-- what is written of a sign and a magnitude is written of the number
+pub from-is : (m : Limits) (b : Bool) (g : ℕ) {r : Counted} {out : List ℕ} (p : ℕ) (nodes : List ℕ) (used : ℕ) (x : ℤ) → b ≡ negative x → g ≡ magnitude x
     → (r ≡ counted (count-refusal m nodes used) used g) × (out ≡ nodes-after (count-refusal m nodes used) nodes used 0 (residue p b g))
-    → (r ≡ counted (count-refusal cabinet nodes used) used (magnitude x)) × (out ≡ nodes-after (count-refusal cabinet nodes used) nodes used 0 (residue p (negative x) (magnitude x)))
-from-is m b g p nodes used x em eb eg k = (
-  k .0 ∙ ap₂ (λ (n : Limits) (h : ℕ). counted (count-refusal n nodes used) used h) em eg,
-  k .1 ∙ ap₂ (λ (n : Limits) (y : ℕ). nodes-after (count-refusal n nodes used) nodes used 0 y) em (ap₂ (residue p) eb eg),
+    → (r ≡ counted (count-refusal m nodes used) used (magnitude x)) × (out ≡ nodes-after (count-refusal m nodes used) nodes used 0 (residue p (negative x) (magnitude x)))
+from-is m b g p nodes used x eb eg k = (
+  k .0 ∙ ap (counted (count-refusal m nodes used) used) eg,
+  k .1 ∙ ap (nodes-after (count-refusal m nodes used) nodes used 0) (ap₂ (residue p) eb eg),
 )

@@ -8,8 +8,11 @@ use lib.Dec.{ltb}
 use lib.IntN.{ℤ, pos, negsuc}
 use lib.ListN.{length, take, drop}
 use Rattle.field.specs.Word.{negM}
+use Rattle.field.specs.Known.{prime-of}
+use Rattle.expression.specs.Choices.{known, limits-of}
 use Rattle.expression.specs.Node.{node-words}
 use Rattle.expression.specs.Refusal.{Numbers, numbers, unless}
+use Rattle.expression.specs.declared.choices.Choices.{Choices}
 use Rattle.expression.specs.declared.sizes.Limits.{Limits}
 use Rattle.expression.specs.declared.refusal.Refusal.{Refusal}
 use Rattle.expression.specs.declared.refusal.Refusal.the-variants.{SizeAtOdds, NodeInvalid}
@@ -74,6 +77,16 @@ from-i32 m p nodes used x = outcome (count-refusal m nodes used) nodes used cons
 -- the count with the other sign
 unfoldable pub negated : Limits → List ℕ → ℕ → Count → Outcome
 negated m nodes used c = outcome (negation-refusal m nodes used (c .node)) nodes used negation-kind (c .node) (c .weight)
+
+-- at the choices of a call: refusal 1 where one of them is unknown
+abbrev pub unless-known : Choices → List ℕ → Outcome → Outcome
+unless-known c nodes o = cond (known c) o (record { answer = Refused SizeAtOdds; nodes = nodes })
+
+unfoldable pub from-i32-at : Choices → List ℕ → ℕ → ℤ → Outcome
+from-i32-at c nodes used x = unless-known c nodes (from-i32 (limits-of (c .profile)) (prime-of (c .field)) nodes used x)
+
+unfoldable pub negated-at : Choices → List ℕ → ℕ → Count → Outcome
+negated-at c nodes used count = unless-known c nodes (negated (limits-of (c .profile)) nodes used count)
 
 -- SPECIFICATION, sections 1.4 and 6.4: "An answer is a number and three 64-bit details", a count beside it, its node and its weight, both 0 where
 -- it is refused, and the lent list afterwards

@@ -1,11 +1,13 @@
 // A signed multiplicity with a bound on its magnitude.
+use expression::choices::Choices;
+use expression::choices::known;
+use expression::choices::limits_of;
 use expression::node::NODE_WORDS;
 use expression::refusal::Refusal;
 use expression::sizes::Limits;
-use expression::sizes::cabinet;
 use expression::words::to_u64;
 use expression::words::to_usize;
-use field::modulus::BABYBEAR;
+use field::modulus::prime_of;
 use field::word::neg;
 use field::word::reduce;
 ghost use mathlib.Core.Path.{_≡_};
@@ -13,10 +15,9 @@ ghost use mathlib.Core.List.{List, [], _∷_};
 ghost use mathlib.Core.Option.{none};
 ghost use Prim.Native.Nat.{ℕ, _+_, _*_, _<_, _≤_, _/_};
 ghost use lib.ListN.{length};
-ghost use Rattle.field.specs.Modulus.{Modulus, babybear};
-ghost use Rattle.expression.specs.Limits as Sizes;
+ghost use Rattle.field.specs.inner.Requires.{KnownPrime};
 ghost use Rattle.expression.specs.Node.{node-words};
-ghost use Rattle.lookup_count.specs.Count.{constant-kind, negation-kind, count-of, negative, magnitude, residue, count-refusal, negation-refusal, counted, nodes-after, from-i32, negated, in-numbers};
+ghost use Rattle.lookup_count.specs.Count.{constant-kind, negation-kind, count-of, magnitude, residue, count-refusal, negation-refusal, counted, nodes-after, from-i32-at, negated-at, in-numbers};
 
 // The kinds of the nodes that are added.
 const CONSTANT_KIND: u32 = 0;
@@ -52,7 +53,7 @@ pub fn provided(node: u32) -> Count
 
 // The word of a number, from its sign and its magnitude.
 fn residue(p: u32, minus: bool, magnitude: u32) -> u32
-    requires { ⌜ Modulus p ⌝ }
+    requires { ⌜ KnownPrime p ⌝ }
     ensures { λ r. ⌜ r ≡ residue p minus magnitude ⌝ }
 {
     let m = reduce(p, to_u64(magnitude));
@@ -89,7 +90,7 @@ pub fn constant(
 ) -> Counted
     ghost { List ℕ }
     requires { λ before. ⌜ now nodes ≡ before ⌝ }
-    requires { λ before. ⌜ Modulus p × (limits .nodes ≤ 1024) ⌝ }
+    requires { λ before. ⌜ KnownPrime p × (limits .nodes ≤ 1024) ⌝ }
     ensures { λ before r. ⌜ (r ≡ counted (count-refusal limits before used) used magnitude)
         × (now (nodes .exit) ≡ nodes-after (count-refusal limits before used) before used constant-kind (residue p minus magnitude)) ⌝ }
 {
@@ -115,11 +116,21 @@ fn magnitude(x: i32) -> u32
     x as u32
 }
 
-// The count of a number, with the limits and the field of SPECIFICATION, sections 2.1 and 11.
-pub fn from_i32(nodes: &mut [u32], used: usize, x: i32) -> Counted
-    ensures { λ r. ⌜ in-numbers (record { answer = r; nodes = now (nodes .exit) }) ≡ in-numbers (from-i32 Sizes.cabinet babybear (now (nodes .entry)) used x) ⌝ }
+// The count of a number, at the choices of the call.
+pub fn from_i32(choices: Choices, nodes: &mut [u32], used: usize, x: i32) -> Counted
+    ensures { λ r. ⌜ in-numbers (record { answer = r; nodes = now (nodes .exit) }) ≡ in-numbers (from-i32-at choices (now (nodes .entry)) used x) ⌝ }
 {
-    constant(cabinet(), BABYBEAR, nodes, used, x < 0, magnitude(x))
+    if !known(choices) {
+        return Counted::Refused(Refusal::SizeAtOdds);
+    }
+    constant(
+        limits_of(choices.profile),
+        prime_of(choices.field),
+        nodes,
+        used,
+        x < 0,
+        magnitude(x),
+    )
 }
 
 // The count with the other sign.
@@ -145,9 +156,12 @@ pub fn negation(limits: Limits, nodes: &mut [u32], used: usize, count: Count) ->
     Counted::Added(bounded(used as u32, count.weight))
 }
 
-// Negation, with the limits of SPECIFICATION, section 11.
-pub fn negated(nodes: &mut [u32], used: usize, count: Count) -> Counted
-    ensures { λ r. ⌜ in-numbers (record { answer = r; nodes = now (nodes .exit) }) ≡ in-numbers (negated Sizes.cabinet (now (nodes .entry)) used count) ⌝ }
+// Negation, at the choices of the call.
+pub fn negated(choices: Choices, nodes: &mut [u32], used: usize, count: Count) -> Counted
+    ensures { λ r. ⌜ in-numbers (record { answer = r; nodes = now (nodes .exit) }) ≡ in-numbers (negated-at choices (now (nodes .entry)) used count) ⌝ }
 {
-    negation(cabinet(), nodes, used, count)
+    if !known(choices) {
+        return Counted::Refused(Refusal::SizeAtOdds);
+    }
+    negation(limits_of(choices.profile), nodes, used, count)
 }

@@ -1,5 +1,5 @@
 -- The calls of the functions of one lookup, over plain lists and numbers.
-use mathlib.Core.Path.{_≡_, sym, ap, ap₂, _∙_}
+use mathlib.Core.Path.{_≡_, refl, sym, ap, ap₂, _∙_}
 use mathlib.Core.List.{List, [], _∷_, _++_}
 use Prim.Native.Nat.{ℕ, _+_, _-_, _<_, _≤_, max}
 use native.Mathlib.Omega.{arith}
@@ -14,12 +14,15 @@ use Rattle.lists.specs.Tab.{tab}
 use Rattle.lists.specs.laws.Tab.{tab-get}
 use Rattle.lists.specs.laws.Parts.{getD-pad}
 use Rattle.lists.specs.laws.Tests.{passed}
+use Rattle.field.specs.Known.{prime-of}
 use Rattle.expression.specs.Words.{word, all-within}
 use Rattle.expression.specs.Node.{node-count}
 use Rattle.expression.specs.Degree.{degrees}
+use Rattle.expression.specs.Choices.{known, limits-of}
 use Rattle.expression.specs.Refusal.{refusal}
 use Rattle.expression.specs.laws.Degree.{degrees-length, degrees-low-at}
 use Rattle.expression.specs.laws.Below.{word-zeros}
+use Rattle.expression.specs.declared.choices.Choices.{Choices}
 use Rattle.expression.specs.declared.sizes.Limits.{Limits}
 use Rattle.expression.specs.declared.refusal.Refusal.{Refusal}
 use Rattle.expression.specs.declared.refusal.Refusal.the-variants.{SizeAtOdds}
@@ -30,9 +33,9 @@ use Rattle.lookup.specs.Refusals.{form-refusal}
 use Rattle.lookup.specs.declared.refusals.Columns.{Columns}
 use Rattle.lookup_degree.specs.Sums.{greatest}
 use Rattle.lookup_degree.specs.Degree.{node-degrees, lookup-degree}
-use Rattle.lookup_degree.specs.inner.At.{FewUpTo, degree-at, denominator-at, numerator-at, exclusive-at, lookup-degree-at}
+use Rattle.lookup_degree.specs.inner.At.{FewUpTo, tuple-degree-at, denominator-at, numerator-at, exclusive-at, lookup-degree-at}
 use Rattle.lookup_degree.specs.Formed.{Formed}
-use Rattle.lookup_degree.specs.ConstraintDegree.{degree-refusal, degree-answer}
+use Rattle.lookup_degree.specs.ConstraintDegree.{degree-refusal, degree-answer, degree-at}
 use Rattle.lookup_degree.specs.laws.Degree.{degree-is}
 use Rattle.lookup_degree.specs.declared.constraint_degree.DegreeAnswer.{DegreeAnswer}
 use Rattle.lookup_degree.specs.declared.constraint_degree.DegreeAnswer.the-variants.{Degree, Refused}
@@ -71,16 +74,16 @@ degrees-long m nodes l t f e =
     (omega (arith, f .few-nodes))
 
 -- the degrees of the tuples stand in the other
-pub tuples-right : {b : List ℕ} (deg : ℕ → ℕ) (tuples elements : List ℕ) → b ≡ tab (degree-at deg tuples elements) 0 (length tuples) ++ drop (length tuples) (replicate 64 0)
-    → (j : ℕ) → j < length tuples → word b j ≡ degree-at deg tuples elements j
+pub tuples-right : {b : List ℕ} (deg : ℕ → ℕ) (tuples elements : List ℕ) → b ≡ tab (tuple-degree-at deg tuples elements) 0 (length tuples) ++ drop (length tuples) (replicate 64 0)
+    → (j : ℕ) → j < length tuples → word b j ≡ tuple-degree-at deg tuples elements j
 tuples-right deg tuples elements e j h =
-    ap (λ (x : List ℕ). word x j) e ∙ getD-pad (tab (degree-at deg tuples elements) 0 (length tuples)) 64 (length tuples) j ∙ tab-get (degree-at deg tuples elements) 0 (length tuples) j h
-    ∙ ap (degree-at deg tuples elements) (zero-add j)
+    ap (λ (x : List ℕ). word x j) e ∙ getD-pad (tab (tuple-degree-at deg tuples elements) 0 (length tuples)) 64 (length tuples) j ∙ tab-get (tuple-degree-at deg tuples elements) 0 (length tuples) j h
+    ∙ ap (tuple-degree-at deg tuples elements) (zero-add j)
 
 -- the degree of lookup i
 pub degree-of-is : {b d : List ℕ} {r : ℕ} (m : Limits) (nodes : List ℕ) (l : Lookups) (t i : ℕ) → Formed m nodes l → i < lookup-count (l .lookups)
     → b ≡ degrees t nodes (node-count nodes) ++ replicate (1024 - node-count nodes) 0
-    → d ≡ tab (degree-at (word b) (l .tuples) (l .elements)) 0 (length (l .tuples)) ++ drop (length (l .tuples)) (replicate 64 0)
+    → d ≡ tab (tuple-degree-at (word b) (l .tuples) (l .elements)) 0 (length (l .tuples)) ++ drop (length (l .tuples)) (replicate 64 0)
     → r ≡ lookup-degree-at b d (l .lookups) (l .multiplicities) (l .flags) i → r ≡ lookup-degree (node-degrees t nodes) (lookup-at l i)
 degree-of-is {b} {d} {r} m nodes l t i f h eb ed er =
     er
@@ -107,3 +110,14 @@ module _ (m : Limits) (p : ℕ) (c : Columns) (nodes : List ℕ) (l : Lookups) (
       → Refused f ≡ degree-answer m p c nodes l i t
   unfolding degree-answer degree-refusal
   degree-refused {v} {f} e k g = rw (not-false (leb t 1 && ltb i (lookup-count (l .lookups))) e, sym k ∙ ap refusal g)
+
+-- `constraint_degree`
+module _ (c : Choices) (columns : Columns) (nodes : List ℕ) (l : Lookups) (i t : ℕ) {b : Bool} (e : b ≡ known c) where
+  pub choice-unknown : not b ≡ true → Refused SizeAtOdds ≡ degree-at c columns nodes l i t
+  unfolding degree-at
+  choice-unknown z = rw (sym e ∙ not-true b z) refl
+
+  pub choices-known : {m : Limits} {p : ℕ} {a : DegreeAnswer} → not b ≡ false → m ≡ limits-of (c .profile) → p ≡ prime-of (c .field)
+      → a ≡ degree-answer m p columns nodes l i t → a ≡ degree-at c columns nodes l i t
+  unfolding degree-at
+  choices-known z em ep h = rw (sym e ∙ not-false b z, ← em, ← ep) h

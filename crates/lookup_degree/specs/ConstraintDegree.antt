@@ -1,9 +1,12 @@
 -- The degree of one lookup of a table: the answer for every input.
-use mathlib.Core.Bool.{_&&_}
+use mathlib.Core.Bool.{cond, _&&_}
 use mathlib.Core.Option.{Option, none, some}
 use mathlib.Core.List.{List}
 use Prim.Native.Nat.{ℕ}
 use lib.Dec.{leb, ltb}
+use Rattle.field.specs.Known.{prime-of}
+use Rattle.expression.specs.Choices.{known, limits-of}
+use Rattle.expression.specs.declared.choices.Choices.{Choices}
 use Rattle.expression.specs.Refusal.{Numbers, numbers, unless}
 use Rattle.expression.specs.declared.sizes.Limits.{Limits}
 use Rattle.expression.specs.declared.refusal.Refusal.{Refusal}
@@ -26,6 +29,11 @@ answered (some f) d = Refused f
 -- of lookup i at a transition degree t
 unfoldable pub degree-answer : Limits → ℕ → Columns → List ℕ → Lookups → ℕ → ℕ → DegreeAnswer
 degree-answer m p c nodes l i t = answered (degree-refusal m p c nodes l i t) (lookup-degree (node-degrees t nodes) (lookup-at l i))
+
+-- at the choices of a call: refusal 1 where one of them is unknown
+unfoldable pub degree-at : Choices → Columns → List ℕ → Lookups → ℕ → ℕ → DegreeAnswer
+degree-at c columns nodes l i t =
+    cond (known c) (degree-answer (limits-of (c .profile)) (prime-of (c .field)) columns nodes l i t) (Refused SizeAtOdds)
 
 -- SPECIFICATION, section 1.4: "An answer is a number and three 64-bit details", "a degree" beside it, 0 where it is refused
 pub record DegreeNumbers : Type 0 where

@@ -1,23 +1,24 @@
 // The degree of a lookup of a table: the entry point.
 use crate::lookups::lookup_degree;
 use crate::tuples::tuple_degrees;
+use expression::choices::Choices;
+use expression::choices::known;
+use expression::choices::limits_of;
 use expression::node::NODE_WORDS;
 use expression::refusal::Refusal;
 use expression::refusal::Verdict;
 use expression::sizes::Limits;
-use expression::sizes::cabinet;
 use expression_checks::degrees::fill_degrees;
-use field::modulus::BABYBEAR;
+use field::modulus::prime_of;
 use lookup::refusals::Columns;
 use lookup::refusals::form_refusal;
 use lookup::types::LOOKUP_WORDS;
-ghost use Rattle.field.specs.Modulus.{babybear};
 ghost use mathlib.Core.Path.{_≡_};
 ghost use Prim.Native.Nat.{_<_, _≤_};
-ghost use Rattle.expression.specs.Limits.{Sane, cabinet};
+ghost use Rattle.expression.specs.Limits.{Sane};
 ghost use Rattle.lookup.specs.Lookups.{Lookups, lent-lookups, lookup-count, lookup-at};
 ghost use Rattle.lookup_degree.specs.Degree.{node-degrees, lookup-degree};
-ghost use Rattle.lookup_degree.specs.ConstraintDegree.{degree-answer, in-numbers};
+ghost use Rattle.lookup_degree.specs.ConstraintDegree.{degree-answer, degree-at, in-numbers};
 ghost use Rattle.lookup_degree.specs.Formed.{Formed};
 
 pub enum DegreeAnswer {
@@ -105,8 +106,9 @@ pub fn degree_within(
     }
 }
 
-// The degree of lookup i of a table at a transition degree t (`constraint_degree_with_transition`).
+// The degree of lookup i of a table at a transition degree t (`constraint_degree_with_transition`), at the choices of the call.
 pub fn constraint_degree(
+    choices: Choices,
     columns: Columns,
     nodes: &[u32],
     lookups: &[u32],
@@ -118,13 +120,16 @@ pub fn constraint_degree(
     i: usize,
     t: u32,
 ) -> DegreeAnswer
-    ensures { λ r. ⌜ in-numbers r ≡ in-numbers (degree-answer cabinet babybear columns (now (nodes .entry))
+    ensures { λ r. ⌜ in-numbers r ≡ in-numbers (degree-at choices columns (now (nodes .entry))
         (lent-lookups (now (lookups .entry)) (now (names .entry)) (now (tuples .entry)) (now (multiplicities .entry)) (now (flags .entry))
         (now (elements .entry))) i t) ⌝ }
 {
+    if !known(choices) {
+        return DegreeAnswer::Refused(Refusal::SizeAtOdds);
+    }
     degree_within(
-        cabinet(),
-        BABYBEAR,
+        limits_of(choices.profile),
+        prime_of(choices.field),
         columns,
         nodes,
         lookups,

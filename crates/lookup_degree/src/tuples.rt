@@ -9,7 +9,7 @@ ghost use Rattle.lists.specs.Tab.{tab};
 ghost use Rattle.expression.specs.Words.{word};
 ghost use Rattle.lookup.specs.Lookups.{element-start};
 ghost use Rattle.lookup_degree.specs.Degree.{tuple-degree};
-ghost use Rattle.lookup_degree.specs.inner.At.{degree-at};
+ghost use Rattle.lookup_degree.specs.inner.At.{tuple-degree-at};
 
 // The larger of two words.
 pub fn larger(a: u32, b: u32) -> u32
@@ -37,7 +37,7 @@ pub fn tuple_degrees(degrees: &[u32], tuples: &[u32], elements: &[u32]) -> [u32;
     ghost { List ℕ }
     requires { λ widths. ⌜ now tuples ≡ widths ⌝ }
     requires { λ widths. ⌜ (length widths ≤ 64) × (element-start widths (length widths) ≤ length (now elements)) ⌝ }
-    ensures { λ widths r. ⌜ r ≡ tab (degree-at (word (now (degrees .entry))) widths (now (elements .entry))) 0 (length widths) ++ drop (length widths) (replicate 64 0) ⌝ }
+    ensures { λ widths r. ⌜ r ≡ tab (tuple-degree-at (word (now (degrees .entry))) widths (now (elements .entry))) 0 (length widths) ++ drop (length widths) (replicate 64 0) ⌝ }
 {
     let mut out = [0u32; 64];
     let mut start: usize = 0;

@@ -7,8 +7,11 @@ use mathlib.Core.List.{List}
 use lib.Dec.{eqb, leb, ltb}
 use lib.ListN.{length}
 use Rattle.lists.specs.Count.{total, every}
+use Rattle.field.specs.Known.{prime-of}
+use Rattle.expression.specs.Choices.{known, limits-of}
 use Rattle.expression.specs.Words.{word, all-within}
 use Rattle.expression.specs.Refusal.{unless}
+use Rattle.expression.specs.declared.choices.Choices.{Choices}
 use Rattle.expression.specs.declared.sizes.Limits.{Limits}
 use Rattle.expression.specs.declared.refusal.Refusal.{Refusal}
 use Rattle.expression.specs.declared.refusal.Refusal.the-variants.{SizeAtOdds, LookupInvalid, HeightSumTooLarge}
@@ -59,3 +62,8 @@ height-refusal m p lookups counts heights =
     unless (tables-fit m lookups counts heights) SizeAtOdds
     (unless (every (lengths-agree lookups) (lookup-count lookups)) LookupInvalid
     (unless (ltb (height-sum lookups counts heights) p) (HeightSumTooLarge (height-sum lookups counts heights)) none))
+
+-- at the choices of a call: refusal 1 where one of them is unknown
+unfoldable pub height-at : Choices → List ℕ → List ℕ → List ℕ → Option Refusal
+height-at c lookups counts heights =
+    unless (known c) SizeAtOdds (height-refusal (limits-of (c .profile)) (prime-of (c .field)) lookups counts heights)

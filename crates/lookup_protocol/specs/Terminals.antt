@@ -8,8 +8,11 @@ use lib.Dec.{eqb, leb, ltb}
 use lib.ListN.{length}
 use Rattle.lists.specs.Count.{every}
 use Rattle.field.specs.Element.{zero4, add4, is-zero}
+use Rattle.field.specs.Known.{prime-of}
+use Rattle.expression.specs.Choices.{known, limits-of}
 use Rattle.expression.specs.Words.{word}
 use Rattle.expression.specs.Refusal.{unless}
+use Rattle.expression.specs.declared.choices.Choices.{Choices}
 use Rattle.expression.specs.declared.sizes.Limits.{Limits}
 use Rattle.expression.specs.declared.refusal.Refusal.{Refusal}
 use Rattle.expression.specs.declared.refusal.Refusal.the-variants.{SizeAtOdds, WordTooLarge, TerminalsNotZero}
@@ -47,3 +50,7 @@ terminals-refusal m p ts =
     unless (eqb (length ts % terminal-words) 0 && leb (terminal-count ts) (m .tables)) SizeAtOdds
     (unless (every (terminal-below p ts) (terminal-count ts)) WordTooLarge
     (unless (is-zero (terminal-sum p ts (terminal-count ts))) TerminalsNotZero none))
+
+-- at the choices of a call: refusal 1 where one of them is unknown
+unfoldable pub terminals-at : Choices → List ℕ → Option Refusal
+terminals-at c ts = unless (known c) SizeAtOdds (terminals-refusal (limits-of (c .profile)) (prime-of (c .field)) ts)

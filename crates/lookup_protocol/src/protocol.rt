@@ -1,14 +1,16 @@
 // The checks over several tables: the sum of their terminals, and the height bound.
+use expression::choices::Choices;
+use expression::choices::known;
+use expression::choices::limits_of;
 use expression::refusal::Refusal;
 use expression::refusal::Verdict;
 use expression::sizes::Limits;
-use expression::sizes::cabinet;
 use expression::words::all_within;
 use expression::words::to_u64;
 use field::extension::Ext;
 use field::extension::add;
 use field::extension::is_zero;
-use field::modulus::BABYBEAR;
+use field::modulus::prime_of;
 use lookup::sizes::part_start;
 use lookup::sizes::size;
 use lookup::tests::all_agree;
@@ -23,17 +25,17 @@ ghost use mathlib.Core.Bool.{true};
 ghost use mathlib.Core.List.{List, []};
 ghost use Prim.Native.Nat.{ℕ, _+_, _*_, _<_, _≤_};
 ghost use lib.ListN.{length};
-ghost use Rattle.lists.specs.Count.{total, every};
-ghost use Rattle.field.specs.Modulus.{Modulus, babybear};
+ghost use Rattle.lists.specs.Count.{every};
+ghost use Rattle.field.specs.inner.Requires.{KnownPrime};
 ghost use Rattle.field.specs.Element.{Word4};
 ghost use Rattle.field.specs.Ext.{ext-words};
 ghost use Rattle.expression.specs.Limits as Sizes;
 ghost use Rattle.expression.specs.Words.{word};
-ghost use Rattle.lookup.specs.Lookups.{lookup-count};
-ghost use Rattle.lookup_protocol.specs.Height.{table-lookups, weight-sum, table-weight, height-sum, lookups-small, tables-within, tables-fit, height-refusal};
-ghost use Rattle.lookup_protocol.specs.inner.Requires.{LookupsCounted, HeightLists, height-lists};
 ghost use Rattle.expression.specs.Refusal.{refusal, numbers};
-ghost use Rattle.lookup_protocol.specs.Terminals.{terminal-words, terminal-count, present, terminal, terminal-below, with-terminal, terminal-sum, terminals-refusal};
+ghost use Rattle.lookup.specs.Lookups.{lookup-count};
+ghost use Rattle.lookup_protocol.specs.Height.{table-lookups, weight-sum, height-sum, lookups-small, tables-within, tables-fit, height-refusal, height-at};
+ghost use Rattle.lookup_protocol.specs.inner.Requires.{LookupsCounted, HeightLists, height-lists};
+ghost use Rattle.lookup_protocol.specs.Terminals.{terminal-words, terminal-count, present, terminal, terminal-below, with-terminal, terminal-sum, terminals-refusal, terminals-at};
 
 // The words of a terminal: a mark, 0 where it is absent, and its element.
 const TERMINAL_WORDS: usize = 5;
@@ -93,7 +95,7 @@ fn all_below(p: u32, terminals: &[u32]) -> bool
 
 // A sum with terminal i, if that is present.
 fn with_terminal(p: u32, sum: Ext, terminals: &[u32], i: usize) -> Ext
-    requires { ⌜ Modulus p × Word4 p (ext-words sum) × (terminal-words * i + terminal-words ≤ length (now terminals)) × (terminal-below p (now terminals) i ≡ true) ⌝ }
+    requires { ⌜ KnownPrime p × Word4 p (ext-words sum) × (terminal-words * i + terminal-words ≤ length (now terminals)) × (terminal-below p (now terminals) i ≡ true) ⌝ }
     ensures { λ r. ⌜ Word4 p (ext-words r) × (ext-words r ≡ with-terminal p (ext-words sum) (now (terminals .entry)) i) ⌝ }
 {
     if present(terminals, i) {
@@ -106,7 +108,7 @@ fn with_terminal(p: u32, sum: Ext, terminals: &[u32], i: usize) -> Ext
 fn terminal_sum(p: u32, terminals: &[u32]) -> Ext
     ghost { List ℕ }
     requires { λ ts. ⌜ now terminals ≡ ts ⌝ }
-    requires { λ ts. ⌜ Modulus p × (every (terminal-below p ts) (terminal-count ts) ≡ true) ⌝ }
+    requires { λ ts. ⌜ KnownPrime p × (every (terminal-below p ts) (terminal-count ts) ≡ true) ⌝ }
     ensures { λ ts r. ⌜ ext-words r ≡ terminal-sum p ts (terminal-count ts) ⌝ }
 {
     let n = terminals.len() / TERMINAL_WORDS;
@@ -125,7 +127,7 @@ fn terminal_sum(p: u32, terminals: &[u32]) -> Ext
 }
 
 pub fn terminals_refusal(limits: Limits, p: u32, terminals: &[u32]) -> Verdict
-    requires { ⌜ Modulus p ⌝ }
+    requires { ⌜ KnownPrime p ⌝ }
     ensures { λ r. ⌜ refusal r ≡ terminals-refusal limits p (now (terminals .entry)) ⌝ }
 {
     let n = terminals.len() / TERMINAL_WORDS;
@@ -144,11 +146,15 @@ pub fn terminals_refusal(limits: Limits, p: u32, terminals: &[u32]) -> Verdict
     }
 }
 
-// The terminals of a batch cancel, with the limits and the field of SPECIFICATION, sections 2.1 and 11.
-pub fn verify_terminal_sum(terminals: &[u32]) -> Verdict
-    ensures { λ r. ⌜ numbers (refusal r) ≡ numbers (terminals-refusal Sizes.cabinet babybear (now (terminals .entry))) ⌝ }
+// The terminals of a batch cancel, at the choices of the call.
+pub fn verify_terminal_sum(choices: Choices, terminals: &[u32]) -> Verdict
+    ensures { λ r. ⌜ numbers (refusal r) ≡ numbers (terminals-at choices (now (terminals .entry))) ⌝ }
 {
-    terminals_refusal(cabinet(), BABYBEAR, terminals)
+    if !known(choices) {
+        return Verdict::Refused(Refusal::SizeAtOdds);
+    }
+    let limits = limits_of(choices.profile);
+    terminals_refusal(limits, prime_of(choices.field), terminals)
 }
 
 // The words of one table's lookups show no size over a limit.
@@ -260,10 +266,19 @@ pub fn height_refusal(
     }
 }
 
-// The height bound, with the limits and the field of SPECIFICATION, sections 2.1 and 11.
-pub fn check_multiplicity_height_bound(lookups: &[u32], counts: &[u32], heights: &[u32]) -> Verdict
+// The height bound, at the choices of the call.
+pub fn check_multiplicity_height_bound(
+    choices: Choices,
+    lookups: &[u32],
+    counts: &[u32],
+    heights: &[u32],
+) -> Verdict
     ensures { λ r. ⌜ numbers (refusal r)
-        ≡ numbers (height-refusal Sizes.cabinet babybear (now (lookups .entry)) (now (counts .entry)) (now (heights .entry))) ⌝ }
+        ≡ numbers (height-at choices (now (lookups .entry)) (now (counts .entry)) (now (heights .entry))) ⌝ }
 {
-    height_refusal(cabinet(), BABYBEAR, lookups, counts, heights)
+    if !known(choices) {
+        return Verdict::Refused(Refusal::SizeAtOdds);
+    }
+    let limits = limits_of(choices.profile);
+    height_refusal(limits, prime_of(choices.field), lookups, counts, heights)
 }

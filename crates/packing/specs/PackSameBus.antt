@@ -1,11 +1,14 @@
 -- Packing of one table: the answer, and the lent lists afterwards, for every input.
-use mathlib.Core.Bool.{Bool, not, _&&_}
+use mathlib.Core.Bool.{Bool, cond, not, _&&_}
 use mathlib.Core.Option.{Option, none, some}
 use mathlib.Core.List.{List}
 use Prim.Native.Nat.{ℕ}
 use lib.Dec.{leb}
 use lib.ListN.{length}
 use Rattle.lists.specs.Count.{or-else}
+use Rattle.field.specs.Known.{prime-of}
+use Rattle.expression.specs.Choices.{known, limits-of}
+use Rattle.expression.specs.declared.choices.Choices.{Choices}
 use Rattle.expression.specs.Refusal.{Numbers, numbers, unless}
 use Rattle.expression.specs.declared.sizes.Limits.{Limits}
 use Rattle.expression.specs.declared.refusal.Refusal.{Refusal}
@@ -83,6 +86,12 @@ outcome none w lent = record { answer = Packed (counts w); lists = all-written w
 -- the table's columns, nodes and lookups, and the lent lists
 unfoldable pub packing : Limits → ℕ → ℕ → Columns → List ℕ → Lookups → Lookups → Outcome
 packing m p limit c nodes l lent = outcome (packing-refusal m p limit c nodes l lent) (words-of (columns limit nodes l)) lent
+
+-- at the choices of a call: refusal 1 where one of them is unknown
+unfoldable pub packing-at : Choices → ℕ → Columns → List ℕ → Lookups → Lookups → Outcome
+packing-at c limit columns nodes l lent =
+    cond (known c) (packing (limits-of (c .profile)) (prime-of (c .field)) limit columns nodes l lent)
+    (record { answer = Refused SizeAtOdds; lists = lent })
 
 -- SPECIFICATION, sections 1.4 and 6.2: "An answer is a number and three 64-bit details", "how much of each list was written" beside it, 0 of each
 -- where it is refused, and the lent lists afterwards

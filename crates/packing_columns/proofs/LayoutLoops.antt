@@ -17,7 +17,7 @@ use Rattle.lookup.specs.Lookups.{Lookups, lookup-count, tuple-start, element-st
 use Rattle.lookup.specs.Requires.{Fitting}
 use Rattle.lookup.specs.laws.Tested.{tuple-start-le}
 use Rattle.lookup.specs.Buses.{name-at, alone-at}
-use Rattle.lookup_degree.specs.inner.At.{degree-at}
+use Rattle.lookup_degree.specs.inner.At.{tuple-degree-at}
 use Rattle.lookup_degree.specs.Formed.{Formed}
 use Rattle.lookup_degree.specs.laws.Formed.{few}
 use Rattle.lookup_buses.specs.laws.Order.{arranged-length, arranged-below}
@@ -98,7 +98,7 @@ at-front : {b : List ℕ} (p q : List ℕ) (n : ℕ) → b ≡ p ++ q → length
 at-front p q n e l = omega (arith, ap length e ∙ length-append p q)
 
 pub layout-is : (m : Limits) (nodes : List ℕ) (l : Lookups) → Formed m nodes l → (limit : ℕ) {b d : List ℕ} {r : Plan} → b ≡ degrees 0 nodes (node-count nodes) ++ replicate (1024 - node-count nodes) 0
-    → d ≡ tab (degree-at (word b) (l .tuples) (l .elements)) 0 (length (l .tuples)) ++ drop (length (l .tuples)) (replicate 64 0)
+    → d ≡ tab (tuple-degree-at (word b) (l .tuples) (l .elements)) 0 (length (l .tuples)) ++ drop (length (l .tuples)) (replicate 64 0)
     → Planned (plan-source b d (l .lookups) (l .names) (l .multiplicities) limit) r → Layout limit nodes l r
 layout-is m nodes l f limit {b} {d} {r} eb ed p =
     record {

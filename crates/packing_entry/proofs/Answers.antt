@@ -11,6 +11,7 @@ use borrow.Author.Tests.{not-true, not-false, leb-true}
 use Rattle.lists.specs.Count.{total, first, or-else}
 use Rattle.lists.specs.laws.Count.{or-else-none}
 use Rattle.lists.specs.laws.Tests.{passed}
+use Rattle.field.specs.Known.{prime-of}
 use Rattle.expression.specs.Refusal.{refusal, unless}
 use Rattle.expression.specs.declared.refusal.Refusal.{Refusal}
 use Rattle.expression.specs.declared.refusal.Refusal.the-variants.{SizeAtOdds, WeightTooLarge}
@@ -18,7 +19,9 @@ use Rattle.expression.specs.declared.refusal.Verdict.{Verdict}
 use Rattle.expression.specs.declared.refusal.Verdict.the-variants as verdict
 use Rattle.expression.specs.declared.sizes.Limits.{Limits}
 use Rattle.expression.specs.Limits.{Sane, cabinet}
-use Rattle.expression.specs.laws.Tested.{cabinet-sane}
+use Rattle.expression.specs.Choices.{known, limits-of}
+use Rattle.expression.specs.declared.choices.Choices.{Choices}
+use Rattle.expression.specs.laws.Tested.{limits-sane}
 use Rattle.lookup.specs.Lookups.{Lookups, lookup-count, name-length, name-start, bus-lookups}
 use Rattle.lookup.specs.Requires.{Fitting, Limited}
 use Rattle.lookup.specs.Refusals.{columns-within, form-sizes, form-refusal}
@@ -33,7 +36,7 @@ use Rattle.lookup_buses.specs.Widths.{width-in-lookup, width-in-table, expected
 use Rattle.packing_columns.specs.declared.columns.Plan.{Plan}
 use Rattle.packing.specs.Packing.{overweight}
 use Rattle.packing.specs.Written.{words-of}
-use Rattle.packing.specs.PackSameBus.{single-table, holds, columns, packing-refusal, counts, all-written, packing}
+use Rattle.packing.specs.PackSameBus.{single-table, holds, columns, packing-refusal, Outcome, counts, all-written, packing, packing-at}
 use Rattle.packing.specs.laws.Lengths.{NoLonger, packed-no-longer}
 use Rattle.packing_columns.specs.inner.Layout.{plan-words, plan-counts, counts-hold, plan-refusal, formed-refusal, formed-outcome, Layout, ListsExact, OutputsHold}
 use Rattle.packing.specs.declared.answer.Counts.{Counts}
@@ -153,13 +156,19 @@ whole m p c nodes l g b f e =
       tuples-few = f .few-tuples;
     }
 
--- the limits are such (SPECIFICATION, section 11)
-pub cabinet-asks : {m : Limits} → m ≡ cabinet → Sane m × (m .«name_bytes» ≤ 65535)
-unfolding cabinet
-cabinet-asks e = rw e (cabinet-sane, omega arith)
+-- what packing asks of the limits, whatever the number of the profile
+pub limits-ask : (profile : ℕ) → Sane (limits-of profile) × (limits-of profile .«name_bytes» ≤ 65535)
+unfolding limits-of cabinet
+limits-ask profile = (limits-sane profile, omega arith)
 
-pub at-cabinet : {m : Limits} {a : PackingAnswer} {out : Lookups} (p limit : ℕ) (c : Columns) (nodes : List ℕ) (l lent : Lookups) → m ≡ cabinet
-    → (a ≡ packing m p limit c nodes l lent .answer) × (out ≡ packing m p limit c nodes l lent .lists)
-    → (a ≡ packing cabinet p limit c nodes l lent .answer) × (out ≡ packing cabinet p limit c nodes l lent .lists)
-at-cabinet p limit c nodes l lent e k =
-    (k .0 ∙ ap (λ (x : Limits). packing x p limit c nodes l lent .answer) e, k .1 ∙ ap (λ (x : Limits). packing x p limit c nodes l lent .lists) e)
+-- `pack_same_bus`
+module _ (c : Choices) (limit : ℕ) (columns : Columns) (nodes : List ℕ) (l lent : Lookups) {b : Bool} (e : b ≡ known c) where
+  pub choice-unknown : not b ≡ true → _≡_ {A = Outcome} (record { answer = Refused SizeAtOdds; lists = lent }) (packing-at c limit columns nodes l lent)
+  unfolding packing-at
+  choice-unknown z = rw (sym e ∙ not-true b z) refl
+
+  pub choices-known : {m : Limits} {p : ℕ} {a : PackingAnswer} {out : Lookups} → not b ≡ false → m ≡ limits-of (c .profile) → p ≡ prime-of (c .field)
+      → (a ≡ packing m p limit columns nodes l lent .answer) × (out ≡ packing m p limit columns nodes l lent .lists)
+      → _≡_ {A = Outcome} (record { answer = a; lists = out }) (packing-at c limit columns nodes l lent)
+  unfolding packing-at
+  choices-known z em ep h = rw (sym e ∙ not-false b z, ← em, ← ep) (λ i. record { answer = h .0 i; lists = h .1 i })

@@ -1,9 +1,11 @@
 // Packing of a table: the entry point.
+use expression::choices::Choices;
+use expression::choices::known;
+use expression::choices::limits_of;
 use expression::refusal::Refusal;
 use expression::refusal::Verdict;
 use expression::sizes::Limits;
-use expression::sizes::cabinet;
-use field::modulus::BABYBEAR;
+use field::modulus::prime_of;
 use lookup::refusals::Columns;
 use lookup::refusals::form_refusal;
 use packing::answer::Counts;
@@ -16,12 +18,10 @@ use packing_columns::layout::write_all;
 ghost use mathlib.Core.Path.{_≡_};
 ghost use mathlib.Core.Bool.{true};
 ghost use Prim.Native.Nat.{_≤_};
-ghost use Rattle.field.specs.Modulus.{babybear};
-ghost use Rattle.expression.specs.Limits as Sizes;
 ghost use Rattle.expression.specs.Limits.{Sane};
 ghost use Rattle.lookup.specs.Lookups.{lent-lookups};
 ghost use Rattle.lookup_degree.specs.Formed.{Formed};
-ghost use Rattle.packing.specs.PackSameBus.{holds, packing, in-numbers};
+ghost use Rattle.packing.specs.PackSameBus.{holds, packing, packing-at, in-numbers};
 ghost use Rattle.packing_columns.specs.inner.Layout.{formed-outcome, ListsExact, PackSource, pack-source};
 
 // Packing of a table that has none of refusals 1 to 5, into lists that hold it. Nothing is written before the last refusal is known.
@@ -167,9 +167,9 @@ pub fn pack_within(
     }
 }
 
-// Lookups of one bus share columns of at most this degree (`pack_same_bus`), with the limits and the field of SPECIFICATION, sections 2.1
-// and 11.
+// Lookups of one bus share columns of at most this degree (`pack_same_bus`), at the choices of the call.
 pub fn pack_same_bus(
+    choices: Choices,
     limit: u64,
     columns: Columns,
     nodes: &[u32],
@@ -191,15 +191,18 @@ pub fn pack_same_bus(
       lists = lent-lookups (now («lookups_out» .exit)) (now («names_out» .exit)) (now («tuples_out» .exit))
           (now («multiplicities_out» .exit)) (now («flags_out» .exit)) (now («elements_out» .exit));
     })
-        ≡ in-numbers (packing Sizes.cabinet babybear limit columns (now (nodes .entry))
+        ≡ in-numbers (packing-at choices limit columns (now (nodes .entry))
         (lent-lookups (now (lookups .entry)) (now (names .entry)) (now (tuples .entry)) (now (multiplicities .entry)) (now (flags .entry))
         (now (elements .entry)))
         (lent-lookups (now («lookups_out» .entry)) (now («names_out» .entry)) (now («tuples_out» .entry)) (now («multiplicities_out» .entry))
         (now («flags_out» .entry)) (now («elements_out» .entry)))) ⌝ }
 {
+    if !known(choices) {
+        return PackingAnswer::Refused(Refusal::SizeAtOdds);
+    }
     pack_within(
-        cabinet(),
-        BABYBEAR,
+        limits_of(choices.profile),
+        prime_of(choices.field),
         limit,
         columns,
         nodes,

@@ -2,6 +2,7 @@
 use crate::answer::Answer;
 use crate::answer::compared;
 use crate::spans;
+use crate::spans::choice;
 use crate::spans::holds;
 use crate::spans::list;
 use crate::spans::list_of_bytes;
@@ -14,7 +15,7 @@ fn call_build(
     line: &[u64; 8],
     words: &[u32],
     bytes: &[u8],
-    spans: &[usize; 72],
+    spans: &[usize; 74],
     lookups: &mut [u32],
     used: &mut [u64; 1],
     details: &mut [u64; 3],
@@ -22,6 +23,8 @@ fn call_build(
     let sizes = list(words, spans, spans::SIZES);
     let public_values = list(words, spans, spans::PUBLIC);
     delmatik_build(
+        choice(words, spans, spans::FIELD),
+        choice(words, spans, spans::PROFILE),
         size(sizes, 0),
         size(sizes, 2),
         public_values.len(),
@@ -43,7 +46,7 @@ fn call_build(
 }
 
 // The words of the lookups that are built are the case's list of lookups.
-pub fn build(line: &[u64; 8], words: &[u32], bytes: &[u8], spans: &[usize; 72]) -> Answer {
+pub fn build(line: &[u64; 8], words: &[u32], bytes: &[u8], spans: &[usize; 74]) -> Answer {
     let mut buffer = [7u32; 32768];
     let mut used = [7u64; 1];
     let mut details = [0u64; 3];

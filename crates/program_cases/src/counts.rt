@@ -2,6 +2,7 @@
 use crate::answer::Answer;
 use crate::answer::compared;
 use crate::spans;
+use crate::spans::choice;
 use crate::spans::holds;
 use crate::spans::list;
 use crate::spans::room;
@@ -39,24 +40,36 @@ fn lend(nodes: &[u32], out: &mut [u32]) {
 
 fn call_from_i32(
     line: &[u64; 8],
-    nodes: &[u32],
+    words: &[u32],
+    spans: &[usize; 74],
     out: &mut [u32],
     count: &mut [u32; 2],
     details: &mut [u64; 3],
 ) -> u32 {
-    lend(nodes, out);
-    delmatik_count_from_i32(out, line[4] as usize, signed(word(line[5])), count, details)
+    lend(list(words, spans, spans::NODES), out);
+    delmatik_count_from_i32(
+        choice(words, spans, spans::FIELD),
+        choice(words, spans, spans::PROFILE),
+        out,
+        line[4] as usize,
+        signed(word(line[5])),
+        count,
+        details,
+    )
 }
 
 fn call_negated(
     line: &[u64; 8],
-    nodes: &[u32],
+    words: &[u32],
+    spans: &[usize; 74],
     out: &mut [u32],
     count: &mut [u32; 2],
     details: &mut [u64; 3],
 ) -> u32 {
-    lend(nodes, out);
+    lend(list(words, spans, spans::NODES), out);
     delmatik_count_negated(
+        choice(words, spans, spans::FIELD),
+        choice(words, spans, spans::PROFILE),
         out,
         line[4] as usize,
         word(line[5]),
@@ -67,18 +80,24 @@ fn call_negated(
 }
 
 // The nodes afterwards, and the count.
-fn as_said(words: &[u32], spans: &[usize; 72], buffer: &[u32; 32768], count: &[u32; 2]) -> bool {
+fn as_said(words: &[u32], spans: &[usize; 74], buffer: &[u32; 32768], count: &[u32; 2]) -> bool {
     holds(buffer, list(words, spans, spans::NODES_AFTER))
         & same_two(count, list(words, spans, spans::COUNT))
 }
 
-pub fn from_number(line: &[u64; 8], words: &[u32], spans: &[usize; 72]) -> Answer {
+pub fn from_number(line: &[u64; 8], words: &[u32], spans: &[usize; 74]) -> Answer {
     let mut buffer = [7u32; 32768];
     let mut count = [7u32; 2];
     let mut details = [0u64; 3];
-    let nodes = list(words, spans, spans::NODES);
-    let end = room(nodes);
-    let number = call_from_i32(line, nodes, &mut buffer[0..end], &mut count, &mut details);
+    let end = room(list(words, spans, spans::NODES));
+    let number = call_from_i32(
+        line,
+        words,
+        spans,
+        &mut buffer[0..end],
+        &mut count,
+        &mut details,
+    );
     compared(
         number,
         &details,
@@ -87,13 +106,19 @@ pub fn from_number(line: &[u64; 8], words: &[u32], spans: &[usize; 72]) -> Answe
     )
 }
 
-pub fn negated(line: &[u64; 8], words: &[u32], spans: &[usize; 72]) -> Answer {
+pub fn negated(line: &[u64; 8], words: &[u32], spans: &[usize; 74]) -> Answer {
     let mut buffer = [7u32; 32768];
     let mut count = [7u32; 2];
     let mut details = [0u64; 3];
-    let nodes = list(words, spans, spans::NODES);
-    let end = room(nodes);
-    let number = call_negated(line, nodes, &mut buffer[0..end], &mut count, &mut details);
+    let end = room(list(words, spans, spans::NODES));
+    let number = call_negated(
+        line,
+        words,
+        spans,
+        &mut buffer[0..end],
+        &mut count,
+        &mut details,
+    );
     compared(
         number,
         &details,
@@ -102,7 +127,7 @@ pub fn negated(line: &[u64; 8], words: &[u32], spans: &[usize; 72]) -> Answer {
     )
 }
 
-pub fn bounded(line: &[u64; 8], words: &[u32], spans: &[usize; 72]) -> Answer {
+pub fn bounded(line: &[u64; 8], words: &[u32], spans: &[usize; 74]) -> Answer {
     let mut count = [7u32; 2];
     let details = [0u64; 3];
     delmatik_count_bounded(word(line[4]), word(line[5]), &mut count);
@@ -114,7 +139,7 @@ pub fn bounded(line: &[u64; 8], words: &[u32], spans: &[usize; 72]) -> Answer {
     )
 }
 
-pub fn provided(line: &[u64; 8], words: &[u32], spans: &[usize; 72]) -> Answer {
+pub fn provided(line: &[u64; 8], words: &[u32], spans: &[usize; 74]) -> Answer {
     let mut count = [7u32; 2];
     let details = [0u64; 3];
     delmatik_count_provided(word(line[4]), &mut count);

@@ -39,7 +39,7 @@ fn call_of_table(
     line: &[u64; 8],
     words: &[u32],
     bytes: &[u8],
-    spans: &[usize; 72],
+    spans: &[usize; 74],
 ) -> Answer {
     match number {
         0 => table::generate(line, words, bytes, spans),
@@ -56,7 +56,7 @@ fn call_of_others(
     line: &[u64; 8],
     words: &[u32],
     bytes: &[u8],
-    spans: &[usize; 72],
+    spans: &[usize; 74],
 ) -> Answer {
     match number {
         5 => tables::widths(line, words, bytes, spans),
@@ -71,7 +71,7 @@ fn call_of_others(
 }
 
 // Those of counts.
-fn call_of_counts(number: usize, line: &[u64; 8], words: &[u32], spans: &[usize; 72]) -> Answer {
+fn call_of_counts(number: usize, line: &[u64; 8], words: &[u32], spans: &[usize; 74]) -> Answer {
     match number {
         13 => counts::from_number(line, words, spans),
         14 => counts::negated(line, words, spans),
@@ -85,7 +85,7 @@ fn call(
     line: &[u64; 8],
     words: &[u32],
     bytes: &[u8],
-    spans: &[usize; 72],
+    spans: &[usize; 74],
 ) -> Answer {
     if number < 5 {
         return call_of_table(number, line, words, bytes, spans);
@@ -141,7 +141,7 @@ fn answer_line(
     numbers: &[u8],
     words: &[u32],
     bytes: &[u8],
-    spans: &[usize; 72],
+    spans: &[usize; 74],
     state: State,
 ) -> State {
     let number = function_number(name);
@@ -157,12 +157,12 @@ fn answer_line(
 }
 
 // A new case: the title on a line of its own, and all lists empty.
-fn begin(title: &[u8], spans: &mut [usize; 72], state: State) -> State {
+fn begin(title: &[u8], spans: &mut [usize; 74], state: State) -> State {
     if 0 < state.cases {
         io::write_all(1, b"\n");
     }
     io::write_all(1, title);
-    *spans = [0usize; 72];
+    *spans = [0usize; 74];
     State {
         words: 0,
         bytes: 0,
@@ -186,7 +186,7 @@ fn store_words(
     key: usize,
     numbers: &[u8],
     words: &mut [u32; 32768],
-    spans: &mut [usize; 72],
+    spans: &mut [usize; 74],
     state: State,
 ) -> State {
     let a = state.words;
@@ -202,7 +202,7 @@ fn store_bytes(
     key: usize,
     numbers: &[u8],
     bytes: &mut [u8; 4096],
-    spans: &mut [usize; 72],
+    spans: &mut [usize; 74],
     state: State,
 ) -> State {
     let a = state.bytes;
@@ -219,7 +219,7 @@ fn statement(
     rest: &[u8],
     words: &mut [u32; 32768],
     bytes: &mut [u8; 4096],
-    spans: &mut [usize; 72],
+    spans: &mut [usize; 74],
     state: State,
 ) -> State {
     if same_bytes(name, b"case") {
@@ -240,7 +240,7 @@ fn line(
     line: &[u8],
     words: &mut [u32; 32768],
     bytes: &mut [u8; 4096],
-    spans: &mut [usize; 72],
+    spans: &mut [usize; 74],
     state: State,
 ) -> State {
     if line.len() == 0 {
@@ -270,7 +270,7 @@ fn print_counts(state: State) {
 fn replay(text: &[u8]) {
     let mut words = [0u32; 32768];
     let mut bytes = [0u8; 4096];
-    let mut spans = [0usize; 72];
+    let mut spans = [0usize; 74];
     let mut state = State {
         words: 0,
         bytes: 0,

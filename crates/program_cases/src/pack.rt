@@ -3,6 +3,7 @@ use crate::answer::Answer;
 use crate::answer::compared;
 use crate::spans;
 use crate::spans::at;
+use crate::spans::choice;
 use crate::spans::holds;
 use crate::spans::holds_bytes;
 use crate::spans::list;
@@ -18,7 +19,7 @@ fn call_pack(
     limit: u64,
     words: &[u32],
     bytes: &[u8],
-    spans: &[usize; 72],
+    spans: &[usize; 74],
     lookups: &mut [u32],
     names: &mut [u8],
     tuples: &mut [u32],
@@ -31,6 +32,8 @@ fn call_pack(
     let sizes = list(words, spans, spans::SIZES);
     let public_values = list(words, spans, spans::PUBLIC);
     delmatik_pack(
+        choice(words, spans, spans::FIELD),
+        choice(words, spans, spans::PROFILE),
         limit,
         size(sizes, 0),
         size(sizes, 2),
@@ -67,7 +70,7 @@ fn used_same(used: &[u64; 6], expected: &[u32]) -> bool {
 fn packed_same(
     words: &[u32],
     bytes: &[u8],
-    spans: &[usize; 72],
+    spans: &[usize; 74],
     lookups: &[u32; 32768],
     names: &[u8; 4096],
     tuples: &[u32; 32768],
@@ -84,7 +87,7 @@ fn packed_same(
         & holds(elements, list(words, spans, spans::PACKED_ELEMENTS))
 }
 
-pub fn pack(line: &[u64; 8], words: &[u32], bytes: &[u8], spans: &[usize; 72]) -> Answer {
+pub fn pack(line: &[u64; 8], words: &[u32], bytes: &[u8], spans: &[usize; 74]) -> Answer {
     let mut lookups = [7u32; 32768];
     let mut names = [7u8; 4096];
     let mut tuples = [7u32; 32768];

@@ -73,34 +73,43 @@ pub const NODES_AFTER: usize = 32;
 
 pub const PART: usize = 33;
 
-pub const NAMES: usize = 34;
+pub const CHOICES: usize = 34;
 
-pub const PACKED_NAMES: usize = 35;
+pub const NAMES: usize = 35;
 
-// The number of a list's key, in the order above; 36 where the key is no list's.
+pub const PACKED_NAMES: usize = 36;
+
+// The words of the choices.
+pub const FIELD: usize = 0;
+
+pub const PROFILE: usize = 1;
+
+pub const RULE: usize = 2;
+
+// The number of a list's key, in the order above; 37 where the key is no list's.
 pub fn key(name: &[u8]) -> usize {
     text::find(
-        b"sizes main preprocessed public nodes lookups tuples multiplicities flags elements challenges counts heights given rows claimed element trace terminal written workspace packed-lookups packed-tuples packed-multiplicities packed-flags packed-elements result lists interactions weights used count nodes-after part names packed-names",
+        b"sizes main preprocessed public nodes lookups tuples multiplicities flags elements challenges counts heights given rows claimed element trace terminal written workspace packed-lookups packed-tuples packed-multiplicities packed-flags packed-elements result lists interactions weights used count nodes-after part choices names packed-names",
         name,
     )
 }
 
-fn start(spans: &[usize; 72], key: usize) -> usize {
-    if key < 36 {
+fn start(spans: &[usize; 74], key: usize) -> usize {
+    if key < 37 {
         return spans[2 * key];
     }
     0
 }
 
-fn end(spans: &[usize; 72], key: usize) -> usize {
-    if key < 36 {
+fn end(spans: &[usize; 74], key: usize) -> usize {
+    if key < 37 {
         return spans[2 * key + 1];
     }
     0
 }
 
-pub fn set_span(spans: &mut [usize; 72], key: usize, a: usize, b: usize) {
-    if key < 36 {
+pub fn set_span(spans: &mut [usize; 74], key: usize, a: usize, b: usize) {
+    if key < 37 {
         spans[2 * key] = a;
         spans[2 * key + 1] = b;
     }
@@ -127,11 +136,11 @@ fn bytes_part(bytes: &[u8], a: usize, b: usize) -> &[u8] {
 }
 
 // A list of words, a list of bytes.
-pub fn list<'a>(words: &'a [u32], spans: &[usize; 72], key: usize) -> &'a [u32] {
+pub fn list<'a>(words: &'a [u32], spans: &[usize; 74], key: usize) -> &'a [u32] {
     words_part(words, start(spans, key), end(spans, key))
 }
 
-pub fn list_of_bytes<'a>(bytes: &'a [u8], spans: &[usize; 72], key: usize) -> &'a [u8] {
+pub fn list_of_bytes<'a>(bytes: &'a [u8], spans: &[usize; 74], key: usize) -> &'a [u8] {
     bytes_part(bytes, start(spans, key), end(spans, key))
 }
 
@@ -161,6 +170,15 @@ pub fn at(words: &[u32], i: usize) -> u32 {
 // The same as a size.
 pub fn size(words: &[u32], i: usize) -> usize {
     to_usize(at(words, i))
+}
+
+// A choice of the case; 1 where the case does not say it.
+pub fn choice(words: &[u32], spans: &[usize; 74], i: usize) -> u32 {
+    let choices = list(words, spans, CHOICES);
+    if i < choices.len() {
+        return choices[i];
+    }
+    1
 }
 
 // How many words an output gets: as many as the list has that it is compared with.

@@ -4,6 +4,7 @@ use crate::answer::Answer;
 use crate::answer::compared;
 use crate::spans;
 use crate::spans::at;
+use crate::spans::choice;
 use crate::spans::holds;
 use crate::spans::list;
 use crate::spans::list_of_bytes;
@@ -24,13 +25,16 @@ use expression::words::to_usize;
 fn call_generate(
     words: &[u32],
     bytes: &[u8],
-    spans: &[usize; 72],
+    spans: &[usize; 74],
     trace: &mut [u32],
     terminal: &mut [u32; 5],
     details: &mut [u64; 3],
 ) -> u32 {
     let sizes = list(words, spans, spans::SIZES);
     delmatik_generate(
+        choice(words, spans, spans::FIELD),
+        choice(words, spans, spans::PROFILE),
+        choice(words, spans, spans::RULE),
         size(sizes, 0),
         size(sizes, 1),
         size(sizes, 2),
@@ -52,7 +56,7 @@ fn call_generate(
     )
 }
 
-pub fn generate(line: &[u64; 8], words: &[u32], bytes: &[u8], spans: &[usize; 72]) -> Answer {
+pub fn generate(line: &[u64; 8], words: &[u32], bytes: &[u8], spans: &[usize; 74]) -> Answer {
     let mut buffer = [7u32; 32768];
     let mut terminal = [7u32; 5];
     let mut details = [0u64; 3];
@@ -70,12 +74,14 @@ pub fn generate(line: &[u64; 8], words: &[u32], bytes: &[u8], spans: &[usize; 72
     compared(number, &details, line, same)
 }
 
-pub fn degree(line: &[u64; 8], words: &[u32], bytes: &[u8], spans: &[usize; 72]) -> Answer {
+pub fn degree(line: &[u64; 8], words: &[u32], bytes: &[u8], spans: &[usize; 74]) -> Answer {
     let mut value = [7u64; 1];
     let mut details = [0u64; 3];
     let sizes = list(words, spans, spans::SIZES);
     let public_values = list(words, spans, spans::PUBLIC);
     let number = delmatik_degree(
+        choice(words, spans, spans::FIELD),
+        choice(words, spans, spans::PROFILE),
         size(sizes, 0),
         size(sizes, 2),
         public_values.len(),
@@ -94,11 +100,14 @@ pub fn degree(line: &[u64; 8], words: &[u32], bytes: &[u8], spans: &[usize; 72])
     compared(number, &details, line, value[0] == line[6])
 }
 
-pub fn constraints(line: &[u64; 8], words: &[u32], bytes: &[u8], spans: &[usize; 72]) -> Answer {
+pub fn constraints(line: &[u64; 8], words: &[u32], bytes: &[u8], spans: &[usize; 74]) -> Answer {
     let mut details = [0u64; 3];
     let sizes = list(words, spans, spans::SIZES);
     let claimed = list(words, spans, spans::CLAIMED);
     let number = delmatik_constraints(
+        choice(words, spans, spans::FIELD),
+        choice(words, spans, spans::PROFILE),
+        choice(words, spans, spans::RULE),
         size(sizes, 0),
         size(sizes, 1),
         size(sizes, 2),
@@ -134,7 +143,7 @@ fn part_of(trace: &[u32], start: u32, n: u32) -> &[u32] {
 }
 
 // The part that is answered is the case's, and holds the words that it says.
-pub fn row(line: &[u64; 8], words: &[u32], spans: &[usize; 72]) -> Answer {
+pub fn row(line: &[u64; 8], words: &[u32], spans: &[usize; 74]) -> Answer {
     let mut part = [7u64; 2];
     let details = [0u64; 3];
     let trace = list(words, spans, spans::ROWS);

@@ -2,6 +2,7 @@
 use crate::answer::Answer;
 use crate::answer::compared;
 use crate::spans;
+use crate::spans::choice;
 use crate::spans::holds;
 use crate::spans::list;
 use crate::spans::list_of_bytes;
@@ -10,10 +11,12 @@ use delmatik::check_lookups::delmatik_balance;
 use delmatik::protocol::delmatik_height_bound;
 use delmatik::types::delmatik_widths;
 
-pub fn widths(line: &[u64; 8], words: &[u32], bytes: &[u8], spans: &[usize; 72]) -> Answer {
+pub fn widths(line: &[u64; 8], words: &[u32], bytes: &[u8], spans: &[usize; 74]) -> Answer {
     let mut value = [7u64; 1];
     let mut details = [0u64; 3];
     let number = delmatik_widths(
+        choice(words, spans, spans::FIELD),
+        choice(words, spans, spans::PROFILE),
         list(words, spans, spans::LOOKUPS),
         list_of_bytes(bytes, spans, spans::NAMES),
         list(words, spans, spans::TUPLES),
@@ -24,9 +27,11 @@ pub fn widths(line: &[u64; 8], words: &[u32], bytes: &[u8], spans: &[usize; 72])
     compared(number, &details, line, value[0] == line[4])
 }
 
-pub fn bound(line: &[u64; 8], words: &[u32], spans: &[usize; 72]) -> Answer {
+pub fn bound(line: &[u64; 8], words: &[u32], spans: &[usize; 74]) -> Answer {
     let mut details = [0u64; 3];
     let number = delmatik_height_bound(
+        choice(words, spans, spans::FIELD),
+        choice(words, spans, spans::PROFILE),
         list(words, spans, spans::LOOKUPS),
         list(words, spans, spans::COUNTS),
         list(words, spans, spans::HEIGHTS),
@@ -42,11 +47,13 @@ const SEED: u64 = 1;
 fn call_balance(
     words: &[u32],
     bytes: &[u8],
-    spans: &[usize; 72],
+    spans: &[usize; 74],
     workspace: &mut [u32],
     details: &mut [u64; 3],
 ) -> u32 {
     delmatik_balance(
+        choice(words, spans, spans::FIELD),
+        choice(words, spans, spans::PROFILE),
         list(words, spans, spans::MAIN),
         list(words, spans, spans::PREPROCESSED),
         list(words, spans, spans::PUBLIC),
@@ -64,7 +71,7 @@ fn call_balance(
     )
 }
 
-pub fn balance(line: &[u64; 8], words: &[u32], bytes: &[u8], spans: &[usize; 72]) -> Answer {
+pub fn balance(line: &[u64; 8], words: &[u32], bytes: &[u8], spans: &[usize; 74]) -> Answer {
     let mut buffer = [7u32; 32768];
     let mut details = [0u64; 3];
     let expected = list(words, spans, spans::WORKSPACE);

@@ -1,7 +1,11 @@
 // Generates the trace of a small table and prints its rows and its terminal.
+use expression::choices::CABINET_NUMBER;
+use expression::choices::Choices;
+use expression::choices::RULE_1;
 use expression::numbers;
 use expression::sizes::Shape;
 use field::extension::Ext;
+use field::modulus::BABYBEAR_NUMBER;
 use logup::logup::Generated;
 use logup_generation::generate_permutation;
 
@@ -39,7 +43,7 @@ fn print_trace(trace: &[u32], height: usize) {
     }
 }
 
-// One row, 3; one lookup on the bus "mem" with the tuple (3), multiplicity 1; alpha 5, beta 0.
+// One row, 3; one lookup on the bus "mem" with the tuple (3), multiplicity 1; alpha 5, beta 0; in field 1, within the cabinet's limits, by tuple rule 1.
 fn main() {
     let main = [3u32];
     let nodes = [1u32, 0, 0, 0, 1, 0];
@@ -59,7 +63,13 @@ fn main() {
         pre_width: 0,
         pre_height: 0,
     };
+    let choices = Choices {
+        field: BABYBEAR_NUMBER,
+        profile: CABINET_NUMBER,
+    };
     let answer = generate_permutation::generate(
+        choices,
+        RULE_1,
         shape,
         &main,
         &preprocessed,

@@ -3,7 +3,7 @@ use Prim.Native.Nat.{ℕ, _*_, _<_, _≤_}
 use mathlib.Core.Path.{_≡_}
 use mathlib.Core.Bool.{cond}
 use lib.ListN.{length}
-use Rattle.field.specs.Modulus.{Modulus}
+use Rattle.field.specs.inner.Requires.{KnownPrime}
 use Rattle.expression.specs.Words.{word}
 use Rattle.expression.specs.Requires.{Evaluable}
 use Rattle.lookup.specs.Lookups.{lookup-count, exclusive, tuple-count, multiplicity-count, flag-count, lookup-words}
@@ -33,7 +33,7 @@ pub record Rowed (p : ℕ) (l : TableLists) (t : ℕ) : Type 0 where
   pub evaluable : Evaluable p (table-at l t .traces) (table-at l t .nodes)
 
 pub record TablesTested (p : ℕ) (l : TableLists) : Type 0 where
-  pub modulus : Modulus p
+  pub modulus : KnownPrime p
   pub tables : table-count (l .sizes) ≤ 16
   pub main : length (l .main) ≡ 1 * size-start (l .sizes) main-count-size (table-count (l .sizes))
   pub preprocessed : length (l .preprocessed) ≡ 1 * size-start (l .sizes) preprocessed-count-size (table-count (l .sizes))

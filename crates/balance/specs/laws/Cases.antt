@@ -9,16 +9,18 @@ use Rattle.lists.specs.Same.{same-list}
 use Rattle.lists.specs.Count.{total, every, joined}
 use Rattle.lists.specs.Fold.{fold}
 use Rattle.lists.specs.Tab.{tab}
-use Rattle.field.specs.Modulus.{babybear}
+use Rattle.field.specs.Known.{babybear, known-field, prime-of}
 use Rattle.field.specs.Word.{addM, subM, negM, mulM}
 use Rattle.expression.specs.Words.{all-below, all-within}
 use Rattle.expression.specs.Limits.{cabinet}
+use Rattle.expression.specs.Choices as Choices
+use Rattle.expression.specs.Choices.{choices-of, limits-of}
 use Rattle.expression.specs.Node.{decode, node}
 use Rattle.expression.specs.Window.{row-of, window}
 use Rattle.expression.specs.Values.{node-value, values, row-values}
 use Rattle.expression.specs.Degree.{node-degree, degrees}
 use Rattle.expression.specs.Tests.{traces-within, nodes-within, traces-fit, nodes-fit, traces-below, constants-below, nodes-known, degrees-low}
-use Rattle.expression.specs.declared.refusal.Refusal.the-variants.{RowsMissing, WorkspaceFull, NetNotZero}
+use Rattle.expression.specs.declared.refusal.Refusal.the-variants.{SizeAtOdds, WordTooLarge, RowsMissing, WorkspaceFull, NetNotZero}
 use Rattle.lookup.specs.Lookups.{name-start, tuple-start, multiplicity-start, flag-start, element-start, tuple-width, tuple-nodes, lookup-at, lookups-of}
 use Rattle.lookup.specs.Tests.{lookups-within, lookups-fit, sizes, words-below, known, lengths-agree, nodes-present, lists-agree, has-lookups, preprocessed-enough}
 use Rattle.balance_slots.specs.Decimal.{digits, in-order, text-less}
@@ -31,7 +33,7 @@ use Rattle.balance.specs.Tables.{TableLists, shape-at, lookups-at, table
 use Rattle.balance.specs.Groups.{members, same-bus, appears, local-group, bus-group, bus-groups, groups}
 use Rattle.balance.specs.Entries.{count-of, entry-of, row-entries, member-entries, entries}
 use Rattle.balance.specs.Refusals.{all, listed, covered, tables-refusal}
-use Rattle.balance.specs.Balance.{Outcome, visit, balance, check}
+use Rattle.balance.specs.Balance.{Outcome, visit, balance, check, check-at}
 
 -- node 0 is column 0, the tuple's word, and node 1 is column 1, how often it counts
 abbrev pub columns : List ℕ
@@ -121,6 +123,18 @@ slot-of w net = 1 ∷ w ∷ 0 ∷ 0 ∷ 0 ∷ 0 ∷ 0 ∷ 0 ∷ 0 ∷ net ∷ []
 abbrev pub run : TableLists → ℕ → Outcome
 run l room = check cabinet babybear l (replicate room 7)
 
+-- at the choices of a call
+abbrev pub run-at : ℕ → ℕ → TableLists → Outcome
+run-at field profile l = check-at (choices-of field profile) l (replicate 10 7)
+
+-- (3) counts 1 and 2013265920: together 0 in field 1, and not in field 2
+abbrev pub balanced-1 : TableLists
+balanced-1 = one-local 2 (3 ∷ 1 ∷ 3 ∷ 2013265920 ∷ [])
+
+-- (3) counts 1 and 2130706432: together 0 in field 2; the second is no word of field 1
+abbrev pub balanced-2 : TableLists
+balanced-2 = one-local 2 (3 ∷ 1 ∷ 3 ∷ 2130706432 ∷ [])
+
 pub cases :
     -- (9) and (10), both unbalanced: (10) is named
     (run (one-local 2 (9 ∷ 1 ∷ 10 ∷ 1 ∷ [])) 20 ≡ record { refusal = some (NetNotZero 0 1 1); workspace = slot-of 9 1 ++ slot-of 10 1 })
@@ -148,11 +162,20 @@ pub cases :
     -- "1" before "10" before "2"
     × (text-less 1 10 ≡ true)
     × (text-less 10 2 ≡ true)
+    -- a net is zero modulo one prime only, and a word is below one prime only
+    × (run-at 1 1 balanced-1 ≡ record { refusal = none; workspace = slot-of 3 0 })
+    × (run-at 2 1 balanced-1 ≡ record { refusal = some (NetNotZero 0 0 2013265921); workspace = slot-of 3 2013265921 })
+    × (run-at 2 1 balanced-2 ≡ record { refusal = none; workspace = slot-of 3 0 })
+    × (run-at 1 1 balanced-2 ≡ record { refusal = some WordTooLarge; workspace = replicate 10 7 })
+    -- an unknown field or profile; the workspace is untouched
+    × (run-at 0 1 balanced-1 ≡ record { refusal = some SizeAtOdds; workspace = replicate 10 7 })
+    × (run-at 3 1 balanced-1 ≡ record { refusal = some SizeAtOdds; workspace = replicate 10 7 })
+    × (run-at 1 2 balanced-1 ≡ record { refusal = some SizeAtOdds; workspace = replicate 10 7 })
 unfolding addM subM negM mulM total every joined fold tab flatMap all-below all-within cabinet decode node row-of window node-value values row-values node-degree
     degrees traces-within nodes-within traces-fit nodes-fit traces-below constants-below nodes-known degrees-low name-start tuple-start
     multiplicity-start flag-start element-start tuple-width tuple-nodes lookup-at lookups-of lookups-within lookups-fit sizes words-below known
     lengths-agree nodes-present lists-agree has-lookups preprocessed-enough same-list digits in-order add-nonzero add slots full workspace-of
     unbalanced names-first group-refusal keep size-start table-part shape-at lookups-at table-at tables-of lists-fit members same-bus appears
     local-group bus-group bus-groups groups count-of entry-of row-entries member-entries entries all listed covered tables-refusal visit balance
-    check
-cases = (refl, refl, refl, refl, refl, refl, refl, refl, refl, refl, refl, refl, refl)
+    check known-field prime-of Choices.known limits-of check-at
+cases = (refl, refl, refl, refl, refl, refl, refl, refl, refl, refl, refl, refl, refl, refl, refl, refl, refl, refl, refl, refl)

@@ -12,7 +12,7 @@ use borrow.Author.Tests.{eqb-true, leb-true, le-leb, lt-ltb, ltb-true, ltb-false
 use Rattle.lists.specs.Count.{total, every}
 use Rattle.lists.specs.Tab.{tab}
 use Rattle.lists.specs.laws.Tests.{both-left, both-right, passed, every-true, every-of}
-use Rattle.field.specs.Modulus.{Modulus}
+use Rattle.field.specs.inner.Requires.{KnownPrime}
 use Rattle.expression.specs.Words.{word, all-within}
 use Rattle.expression.specs.Limits.{Sane}
 use Rattle.expression.specs.Node.{node-count, node-words}
@@ -90,7 +90,7 @@ tested m p t s w k a c =
     }
 
 -- a table's rows may be evaluated where it has lookups
-rows-able : (m : Limits) (p : ℕ) (t : Table) → Sane m → Modulus p → Tested m p t → 0 < lookup-count (t .lookups .lookups) → Evaluable p (t .traces) (t .nodes)
+rows-able : (m : Limits) (p : ℕ) (t : Table) → Sane m → KnownPrime p → Tested m p t → 0 < lookup-count (t .lookups .lookups) → Evaluable p (t .traces) (t .nodes)
 unfolding has-lookups preprocessed-enough
 rows-able m p t g o s h =
     let e : ltb 0 (lookup-count (t .lookups .lookups)) ≡ true = lt-ltb 0 (lookup-count (t .lookups .lookups)) h in
@@ -156,7 +156,7 @@ located c (suc n) m h = go (ltb m (total c n)) refl (λ g. located c n m g)
     go true e ih = let a : At c n m = ih (ltb-true m (total c n) e) in record { table = a .table; inner = a .inner; there = omega (arith, a .there); short = a .short; is = a .is }
     go false e ih = let g : total c n ≤ m = ltb-false m (total c n) e in record { table = n; inner = m - total c n; there = omega arith; short = omega arith; is = omega arith }
 
-module _ (m : Limits) (p : ℕ) (l : TableLists) (g : Sane m) (o : Modulus p) (e : tables-refusal m p l ≡ none) where
+module _ (m : Limits) (p : ℕ) (l : TableLists) (g : Sane m) (o : KnownPrime p) (e : tables-refusal m p l ≡ none) where
   abbrev N : ℕ
   N = table-count (l .sizes)
 

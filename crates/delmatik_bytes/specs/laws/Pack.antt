@@ -10,12 +10,14 @@ use mir.Syntax.{w64}
 use mir.Val.{Fits}
 use Rattle.lists.specs.laws.Parts.{part-length}
 use Rattle.lists.specs.laws.Filled.{Filled, filled-none}
+use Rattle.expression.specs.Choices.{known}
 use Rattle.expression.specs.Refusal.{answer-number, answer-details}
+use Rattle.expression.specs.declared.choices.Choices.{Choices}
 use Rattle.expression.specs.declared.refusal.Refusal.the-variants.{SizeAtOdds}
 use Rattle.lookup.specs.Lookups.{Lookups}
 use Rattle.lookup.specs.declared.refusals.Columns.{Columns}
 use Rattle.packing.specs.Written.{written}
-use Rattle.packing.specs.PackSameBus.{Outcome, counts, all-written}
+use Rattle.packing.specs.PackSameBus.{Outcome, counts, all-written, packing-at}
 use Rattle.packing.specs.declared.answer.PackingAnswer.{PackingAnswer}
 use Rattle.packing.specs.declared.answer.PackingAnswer.the-variants.{Refused}
 use Rattle.delmatik_answers.specs.Packing.{packing-refused, packing-used}
@@ -114,27 +116,42 @@ pub room-ends : {a b c d e : List ℕ} {r₀ r₁ : List ℕ} {x : Ends} → fit
 unfolding word-count
 room-ends {a} {b} {c} {d} {e} {r₀} f l = omega (arith, fit-count (a ∷ b ∷ c ∷ d ∷ e ∷ []) r₀ f)
 
-module _ (limit : ℕ) (columns : Columns) (nodes : List ℕ) (l lent : Lookups) (given room out-room : List ℕ) {n : ℕ} {details used : List ℕ} {a : PackingAnswer} where
-  pub fitting : {after : Lookups} {names room-after out-after : List ℕ} (lists decoded written : List (List ℕ))
+module _ (c : Choices) (limit : ℕ) (columns : Columns) (nodes : List ℕ) (l lent : Lookups) (given room out-room : List ℕ) {n : ℕ} {details used : List ℕ} {a : PackingAnswer} where
+  pub fitting : {after : Lookups} {names room-after out-after : List ℕ} (lists decoded written : List (List ℕ)) → known c ≡ true
       → fit (nodes ∷ lookup-lists l) room ≡ true → fit (lookup-lists lent) out-room ≡ true
       → (room-after ≡ all-words (nodes ∷ lookup-lists l)) × (lists ≡ map words-of (nodes ∷ lookup-lists l)) → decoded ≡ map words-of (lookup-lists lent)
-      → record { answer = a; lists = lookups-in names written } ≡ packing-on-words limit columns (l .names) lists (lookups-in (lent .names) decoded)
+      → record { answer = a; lists = lookups-in names written } ≡ packing-on-words c limit columns (l .names) lists (lookups-in (lent .names) decoded)
       → out-after ≡ flat (lookup-lists (lookups-in names written)) → after ≡ encoded-lookups (lookups-in names written)
       → (n ≡ answer-number (packing-refused a)) × (details ≡ answer-details (packing-refused a)) × (used ≡ packing-used a given)
-      → record { number = n; details = details; used = used; lists = after; room = room-after; out-room = out-after } ≡ packing-on-bytes limit columns nodes l lent given room out-room
-  unfolding packing-on-bytes
-  fitting {after} {names} {room-after} {out-after} lists decoded written f g r d o w b told =
-      let same : packing-on-words limit columns (l .names) lists (lookups-in (lent .names) decoded)
-      ≡ packing-on-words limit columns (l .names) (map words-of (nodes ∷ lookup-lists l)) (lookups-in (lent .names) (map words-of (lookup-lists lent))) =
-      ap₂ (λ (x y : List (List ℕ)). packing-on-words limit columns (l .names) x (lookups-in (lent .names) y)) (r .1) d in
-      rw (f, g)
+      → record { number = n; details = details; used = used; lists = after; room = room-after; out-room = out-after }
+      ≡ packing-on-bytes c limit columns nodes l lent given room out-room
+  unfolding packing-on-bytes packing-at
+  fitting {after} {names} {room-after} {out-after} lists decoded written k f g r d o w b told =
+      let same : packing-on-words c limit columns (l .names) lists (lookups-in (lent .names) decoded)
+      ≡ packing-on-words c limit columns (l .names) (map words-of (nodes ∷ lookup-lists l)) (lookups-in (lent .names) (map words-of (lookup-lists lent))) =
+      ap₂ (λ (x y : List (List ℕ)). packing-on-words c limit columns (l .names) x (lookups-in (lent .names) y)) (r .1) d in
+      rw (k, f, g)
       ((λ i. record { number = told .0 i; details = told .1 i; used = told .2 i; lists = b i; room = r .0 i; out-room = w i })
       ∙ ap (λ (z : Outcome). in-bytes z given (all-words (nodes ∷ lookup-lists l))) (o ∙ same))
 
-  pub odd : (fit (nodes ∷ lookup-lists l) room && fit (lookup-lists lent) out-room) ≡ false → a ≡ Refused SizeAtOdds
+  -- refusal 1, and everything as it was lent
+  as-lent : a ≡ Refused SizeAtOdds
       → (n ≡ answer-number (packing-refused a)) × (details ≡ answer-details (packing-refused a)) × (used ≡ packing-used a given)
-      → record { number = n; details = details; used = used; lists = lent; room = room; out-room = out-room } ≡ packing-on-bytes limit columns nodes l lent given room out-room
+      → record { number = n; details = details; used = used; lists = lent; room = room; out-room = out-room } ≡ answered (Refused SizeAtOdds) given lent room out-room
+  as-lent q told =
+      (λ i. record { number = told .0 i; details = told .1 i; used = told .2 i; lists = lent; room = room; out-room = out-room })
+      ∙ ap (λ (z : PackingAnswer). answered z given lent room out-room) q
+
+  pub unknown : known c ≡ false → a ≡ Refused SizeAtOdds
+      → (n ≡ answer-number (packing-refused a)) × (details ≡ answer-details (packing-refused a)) × (used ≡ packing-used a given)
+      → record { number = n; details = details; used = used; lists = lent; room = room; out-room = out-room }
+      ≡ packing-on-bytes c limit columns nodes l lent given room out-room
   unfolding packing-on-bytes
-  odd e q told =
-      rw e ((λ i. record { number = told .0 i; details = told .1 i; used = told .2 i; lists = lent; room = room; out-room = out-room })
-      ∙ ap (λ (z : PackingAnswer). answered z given lent room out-room) q)
+  unknown k q told = rw k (as-lent q told)
+
+  pub odd : known c ≡ true → (fit (nodes ∷ lookup-lists l) room && fit (lookup-lists lent) out-room) ≡ false → a ≡ Refused SizeAtOdds
+      → (n ≡ answer-number (packing-refused a)) × (details ≡ answer-details (packing-refused a)) × (used ≡ packing-used a given)
+      → record { number = n; details = details; used = used; lists = lent; room = room; out-room = out-room }
+      ≡ packing-on-bytes c limit columns nodes l lent given room out-room
+  unfolding packing-on-bytes
+  odd k e q told = rw (k, e) (as-lent q told)

@@ -6,7 +6,7 @@ use lib.Dec.{eqb, T}
 use Rattle.lists.specs.Count.{every}
 use Rattle.lists.specs.Same.{same-list}
 use Rattle.lists.specs.Cases.{Case, hold}
-use Rattle.field.specs.Modulus.{babybear}
+use Rattle.field.specs.Known.{babybear}
 use Rattle.field.specs.Word.{addM, subM, negM, mulM}
 use Rattle.expression.specs.Words.{all-below, all-within}
 use Rattle.expression.specs.Limits.{cabinet}

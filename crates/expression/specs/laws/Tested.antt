@@ -8,10 +8,11 @@ use native.Mathlib.Omega.{arith}
 use lib.Dec.{eqb, leb, ltb}
 use lib.ListN.{length}
 use borrow.Author.Tests.{eqb-true, leb-true}
-use Rattle.field.specs.Modulus.{Modulus}
+use Rattle.field.specs.inner.Requires.{KnownPrime}
 use Rattle.lists.specs.laws.Tests.{both-left, both-right, passed}
 use Rattle.expression.specs.Words.{all-below}
 use Rattle.expression.specs.Limits.{cabinet, Sane}
+use Rattle.expression.specs.Choices.{limits-of}
 use Rattle.expression.specs.Node.{node-count}
 use Rattle.expression.specs.Window.{Traces}
 use Rattle.expression.specs.Tests.{traces-within, nodes-within, traces-fit, traces-below, constants-below, nodes-known}
@@ -34,6 +35,11 @@ cabinet-sane =
       height = omega arith;
       degree = omega arith;
     }
+
+-- whatever the number of the profile
+pub limits-sane : (profile : ℕ) → Sane (limits-of profile)
+unfolding limits-of
+limits-sane profile = cabinet-sane
 
 -- refusal 1: sizes within the limits are small
 pub small-tested : (m : Limits) (s : Shape) (public-values : List ℕ) → Sane m → traces-within m s public-values ≡ true → Small s
@@ -69,7 +75,7 @@ pre-enough w h q n e true z k = let w0 : w ≡ 0 = eqb-true w 0 z in rw w0 (omeg
 pre-enough w h q n e false z k = rw e (mul-le-mul-left w (leb-true h q k))
 
 -- refusals 1 to 3, and a preprocessed trace that is not shorter: each row may be evaluated
-pub traces-tested : (m : Limits) (p : ℕ) (t : Traces) (nodes : List ℕ) → Sane m → Modulus p
+pub traces-tested : (m : Limits) (p : ℕ) (t : Traces) (nodes : List ℕ) → Sane m → KnownPrime p
     → nodes-within m nodes ≡ true → traces-fit (t .shape) (t .main) (t .preprocessed) ≡ true
     → traces-below p t ≡ true → constants-below p nodes ≡ true
     → nodes-known (t .shape) (length (t .public-values)) nodes ≡ true

@@ -1,4 +1,4 @@
--- Why four words with X⁴ = w are a field, for every p and w with a certificate; the certificate of the field in use.
+-- Why four words with X⁴ = w are a field, for every p and w with a certificate.
 use mathlib.Core.Path.{_≡_, refl, sym, ap, _∙_}
 use mathlib.Core.Logic.{_≢_}
 use Prim.Native.Nat.{ℕ, _-_, _<_, _%_}
@@ -10,7 +10,8 @@ use Rattle.algebra.specs.Power.{powM}
 use Rattle.algebra.specs.laws.Remainder.{mul-mod-mod, mod-mul-mod}
 use Rattle.algebra.specs.laws.Primality.{by-trial}
 use Rattle.algebra.specs.laws.Power.{no-square}
-use Rattle.field.specs.Modulus.{Modulus, Certificate, babybear, babybear-w}
+use Rattle.field.specs.Modulus.{Modulus, Certificate}
+use Rattle.field.specs.Known.{babybear, babybear-w}
 use Rattle.field.specs.laws.Ring.{El, mk, eq, pos, words}
 
 module _ (p w : ℕ) (C : Certificate p w) where
@@ -32,18 +33,3 @@ module _ (p w : ℕ) (C : Certificate p w) where
       eq p h
       (mul-mod-mod (C .root % p) (C .root) p ∙ mod-mul-mod (C .root) (C .root) p ∙ C .root-squared
       ∙ ap (λ (x : ℕ). (p - x) % p) (sym (mod-eq-of-lt (C .prime .big))))
-
--- the modulus in use, and its certificate
-pub babybear-modulus : Modulus babybear
-babybear-modulus = record { big = lit< tt; small = lit≤ tt }
-
-pub babybear-certificate : Certificate babybear babybear-w
-unfolding powM
-babybear-certificate =
-    let prime : _ = by-trial babybear 44870 (lit< tt) (lit< tt) tt in
-    record {
-      prime = prime;
-      nonsquare = no-square babybear prime babybear-w 1006632960 30 refl (lit< tt) (λ e. omega arith) (λ e. omega arith);
-      root = 1728404513;
-      root-squared = refl;
-    }

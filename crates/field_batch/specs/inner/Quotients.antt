@@ -5,7 +5,8 @@ use mathlib.Core.List.{List, [], _∷_}
 use Prim.Native.Nat.{ℕ, zero, suc, _*_, _-_, _<_}
 use lib.Dec.{eqb}
 use lib.ListN.{length}
-use Rattle.field.specs.Modulus.{Modulus, Certificate}
+use Rattle.field.specs.Modulus.{Certificate}
+use Rattle.field.specs.inner.Requires.{KnownPrime}
 use Rattle.field.specs.Word.{mulM}
 use Rattle.field.specs.Element.{at, scale4, norm2, norm, inverse4, element}
 
@@ -45,7 +46,7 @@ module _ (p w : ℕ) (ms ds : List ℕ) where
 
 -- p, w and the words, as they must be
 pub record Divisible (p w : ℕ) (ms ds : List ℕ) : Type 0 where
-  pub modulus : Modulus p
+  pub modulus : KnownPrime p
   pub low : w < p
   pub certificate : Certificate p w
   pub ms-below : (k : ℕ) → at ms k < p

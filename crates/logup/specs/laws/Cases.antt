@@ -1,5 +1,5 @@
 -- The worked cases c1, c2 and c4 to c7 of SPECIFICATION, section 12.1, one row alone, the examples of generation's and the constraints'
--- refusals, a part of the reader and a ledger, as one table with one theorem.
+-- refusals, a part of the reader, a ledger, and calls in field 2 and at unknown choices, as one table with one theorem.
 use Prim.Native.Nat.{ℕ, _+_, _*_}
 use mathlib.Core.Bool.{Bool, true, _&&_}
 use mathlib.Core.Option.{Option, none, some, Option·getD}
@@ -14,10 +14,11 @@ use Rattle.lists.specs.Tab.{tab}
 use Rattle.lists.specs.Cases.{Case, hold}
 use Rattle.field.specs.Word.{addM, negM, subM, mulM, inverse1}
 use Rattle.field.specs.Element.{lift, add4, sub4, mul4, scale4, power4, sum4, product4, conjugate, conjugate2, norm2, norm, inverse4, is-zero, element}
-use Rattle.field.specs.Modulus.{babybear, babybear-w}
+use Rattle.field.specs.Known.{babybear, babybear-w, known-field, prime-of, w-of}
 use Rattle.expression.specs.Words.{word, all-below, all-within}
 use Rattle.expression.specs.Refusal.{answer-number, answer-details}
 use Rattle.expression.specs.Limits.{cabinet}
+use Rattle.expression.specs.Choices as choices
 use Rattle.expression.specs.Node.{decode, node}
 use Rattle.expression.specs.Window.{row-of, window}
 use Rattle.expression.specs.Values.{bit, node-value, values, row-values}
@@ -30,9 +31,9 @@ use Rattle.lookup.specs.Tests.{lookups-within, lookups-fit, sizes, words-below,
 use Rattle.logup.specs.Tuple.{tuple, combine, denominator, quotient4}
 use Rattle.logup.specs.Column.{branches, multiplicity, flag, chosen, denom, used-denom, additive-fraction, additive-fault, exclusive-fraction, exclusive-fault, fraction, fault}
 use Rattle.logup.specs.Rows.{fault-refusal, place, fraction-at, row-sum, accumulator, row-words, fault-at, row-fault, trace, first-fault, used}
-use Rattle.logup.specs.Generation.{Answer, Outcome, entry-refusal, rows-outcome, entry-outcome, generation}
+use Rattle.logup.specs.Generation.{Answer, Outcome, entry-refusal, rows-outcome, entry-outcome, generation, generation-at}
 use Rattle.logup.specs.Reader.{row-part}
-use Rattle.logup.specs.Constraints.{others, additive-numerator, additive-denominator, exclusive-numerator, exclusive-denominator, numerator, common-denominator, cell, cell-sum, lookup-constraint, step, binding, row-verdict, rows-verdict, constraints-refusal, verdict}
+use Rattle.logup.specs.Constraints.{others, additive-numerator, additive-denominator, exclusive-numerator, exclusive-denominator, numerator, common-denominator, cell, cell-sum, lookup-constraint, step, binding, row-verdict, rows-verdict, constraints-refusal, verdict, verdict-at}
 use Rattle.logup.specs.Ledger.{has-ledger, count, lookup-entries, row-entries, entries, post, ledger, listed, met, tuples-met}
 
 -- what a call gives, as words: the answer's number and details, the terminal, the buffer
@@ -94,6 +95,13 @@ generated t challenges buffer = outcome-words (generation cabinet babybear babyb
 -- constraints over a trace of two columns
 abbrev pub tested : Table → List ℕ → List ℕ → Option (List ℕ) → List ℕ
 tested t challenges words e = verdict-words (verdict cabinet babybear babybear-w t challenges 2 words e)
+
+-- at the choices of a call: field, profile, rule
+abbrev pub generated-at : ℕ → ℕ → ℕ → Table → List ℕ → List ℕ → List ℕ
+generated-at field profile rule t challenges buffer = outcome-words (generation-at (choices.choices-of field profile) rule t challenges buffer)
+
+abbrev pub tested-at : ℕ → ℕ → ℕ → Table → List ℕ → List ℕ → Option (List ℕ) → List ℕ
+tested-at field profile rule t challenges words e = verdict-words (verdict-at (choices.choices-of field profile) rule t challenges 2 words e)
 
 -- alpha 5, beta 0
 abbrev pub five : List ℕ
@@ -236,6 +244,41 @@ cases =
       computed = ledger babybear cancelling (3 ∷ []) ∷ tuples-met babybear no-lookup cancelling ∷ [];
       expected = 0 ∷ 1 ∷ [];
     }
+    -- c4 in field 2: fractions 1065353217 and 1, terminal 1065353218; the constraints accept these and not those of field 1
+    ∷ record {
+      computed = generated-at 2 1 1 (additive 1 (3 ∷ 4 ∷ [])) five (replicate 17 7777);
+      expected =
+          0 ∷ 0 ∷ 0 ∷ 0 ∷ lift 1065353218
+          ++ lift 0 ++ lift 1065353217
+          ++ lift 1065353217 ++ lift 1 ++ (7777 ∷ []);
+    }
+    ∷ record {
+      computed = tested-at 2 1 1 (additive 1 (3 ∷ 4 ∷ [])) five (lift 0 ++ lift 1065353217 ++ lift 1065353217 ++ lift 1) (some (lift 1065353218));
+      expected = plain 0 [];
+    }
+    ∷ record {
+      computed = tested-at 2 1 1 (additive 1 (3 ∷ 4 ∷ [])) five (lift 0 ++ lift 1006632961 ++ lift 1006632961 ++ lift 1) (some (lift 1006632962));
+      expected = 17 ∷ 0 ∷ 0 ∷ 0 ∷ [];
+    }
+    -- alpha X, beta 0, tuple (0): the fraction 1 ÷ X is X³ ÷ 11 in field 1 and X³ ÷ 3 in field 2
+    ∷ record {
+      computed = generated-at 1 1 1 (additive 1 (0 ∷ [])) (0 ∷ 1 ∷ 0 ∷ 0 ∷ lift 0) (replicate 8 7777);
+      expected = 0 ∷ 0 ∷ 0 ∷ 0 ∷ 0 ∷ 0 ∷ 0 ∷ 549072524 ∷ lift 0 ++ (0 ∷ 0 ∷ 0 ∷ 549072524 ∷ []);
+    }
+    ∷ record {
+      computed = generated-at 2 1 1 (additive 1 (0 ∷ [])) (0 ∷ 1 ∷ 0 ∷ 0 ∷ lift 0) (replicate 8 7777);
+      expected = 0 ∷ 0 ∷ 0 ∷ 0 ∷ 0 ∷ 0 ∷ 0 ∷ 710235478 ∷ lift 0 ++ (0 ∷ 0 ∷ 0 ∷ 710235478 ∷ []);
+    }
+    -- refusal 2 by the field's own prime: a row of 2013265921 in both fields, the challenge 2130706433 in field 2
+    ∷ record { computed = generated-at 1 1 1 (additive 1 (2013265921 ∷ [])) five (replicate 8 7777); expected = plain 2 (replicate 8 7777) }
+    ∷ record { computed = take 4 (generated-at 2 1 1 (additive 1 (2013265921 ∷ [])) five (replicate 8 7777)); expected = plain 0 [] }
+    ∷ record { computed = generated-at 2 1 1 (additive 1 (3 ∷ [])) (lift 2130706433 ++ lift 0) (replicate 8 7777); expected = plain 2 (replicate 8 7777) }
+    -- refusal 1, whatever else is wrong: field 3, profile 2, rule 2; also without lookups
+    ∷ record { computed = generated-at 3 1 1 (additive 1 []) [] (7777 ∷ []); expected = plain 1 (7777 ∷ []) }
+    ∷ record { computed = generated-at 1 2 1 (additive 1 (3 ∷ [])) five (replicate 8 7777); expected = plain 1 (replicate 8 7777) }
+    ∷ record { computed = generated-at 2 1 2 no-lookup [] (7777 ∷ []); expected = plain 1 (7777 ∷ []) }
+    ∷ record { computed = tested-at 0 1 1 (additive 1 (3 ∷ [])) five (lift 0 ++ lift 1006632961) none; expected = plain 1 [] }
+    ∷ record { computed = tested-at 2 1 2 no-lookup five [] none; expected = plain 1 [] }
     ∷ []
 
 pub cases-hold : T (hold cases)
@@ -248,5 +291,5 @@ unfolding powM addM negM subM mulM inverse1 add4 sub4 mul4 scale4 power4 sum4 pr
     accumulator row-words fault-at row-fault trace first-fault used entry-refusal rows-outcome entry-outcome generation others additive-numerator
     additive-denominator exclusive-numerator exclusive-denominator numerator common-denominator cell cell-sum lookup-constraint step binding
     row-verdict rows-verdict constraints-refusal verdict count lookup-entries row-entries entries same-list post ledger listed met tuples-met
-    row-part has-ledger
+    row-part has-ledger known-field prime-of w-of choices.known choices.known-rule choices.limits-of generation-at verdict-at
 cases-hold = tt

@@ -7,7 +7,8 @@ use mathlib.Core.List.{List, []}
 use Prim.Native.Nat.{ℕ, suc, _+_, _*_, _-_, _<_, _≤_}
 use lib.Dec.{ltb}
 use lib.ListN.{length, take, drop}
-use Rattle.field.specs.Modulus.{Modulus, Certificate}
+use Rattle.field.specs.Modulus.{Certificate}
+use Rattle.field.specs.inner.Requires.{KnownPrime}
 use Rattle.expression.specs.Words.{word}
 use Rattle.expression.specs.Requires.{Below}
 use Rattle.lookup.specs.Lookups.{Lookups, lent-lookups, lookup-words, tuple-count, tuple-start, multiplicity-start, flag-start, element-start}
@@ -25,7 +26,7 @@ own-place own widths multiplicities flags nodes vals alpha beta =
 
 -- p, w and the values on a row, as they must be
 pub record FieldValues (p w : ℕ) (vals : List ℕ) : Type 0 where
-  pub modulus : Modulus p
+  pub modulus : KnownPrime p
   pub low : w < p
   pub certificate : Certificate p w
   pub below : Below p vals

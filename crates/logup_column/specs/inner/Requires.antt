@@ -4,7 +4,8 @@ use mathlib.Core.List.{List}
 use Prim.Native.Nat.{ℕ, _+_, _*_, _<_, _≤_}
 use lib.ListN.{length}
 use Rattle.lists.specs.Tab.{tab}
-use Rattle.field.specs.Modulus.{Modulus, Certificate}
+use Rattle.field.specs.Modulus.{Certificate}
+use Rattle.field.specs.inner.Requires.{KnownPrime}
 use Rattle.field.specs.Element.{power4, element}
 use Rattle.expression.specs.Words.{word}
 use Rattle.expression.specs.Requires.{Below}
@@ -37,7 +38,7 @@ pub record PowersTable (p w : ℕ) (challenges table : List ℕ) (n : ℕ) : Typ
   pub powers : (i : ℕ) → i < n → tab (λ e. element table (8 * i + e)) 0 8 ≡ tab (power4 p w (element challenges (2 * i + 1))) 0 8
 
 pub record Field (p w : ℕ) : Type 0 where
-  pub modulus : Modulus p
+  pub modulus : KnownPrime p
   pub low : w < p
   pub certificate : Certificate p w
 

@@ -7,8 +7,9 @@ use Prim.Native.Nat.{ℕ, _≤_}
 use native.Mathlib.Omega.{arith}
 use lib.Dec.{ltb}
 use Rattle.lists.specs.laws.Tests.{both-left, both-right, passed}
-use Rattle.field.specs.Modulus.{Modulus, babybear, babybear-w}
-use Rattle.field.specs.laws.Extension.{babybear-certificate}
+use Rattle.field.specs.inner.Requires.{KnownPrime}
+use Rattle.field.specs.Known.{prime-of, w-of}
+use Rattle.field.specs.laws.Known.{known-prime, w-below, certificate-of}
 use Rattle.expression.specs.Limits.{Sane}
 use Rattle.expression.specs.Node.{node-count}
 use Rattle.expression.specs.Tests.{nodes-within, traces-fit, traces-below, constants-below, degrees-low}
@@ -66,13 +67,13 @@ module _ {m : Limits} {p : ℕ} {t : Table} {fit low : Bool} (g : Sane m) (s : T
         narrow = λ j. omega (arith, limited m (t .lookups .lookups) (t .lookups .tuples) (s .lookups-within) .width j, g .tuple-words);
       }
 
-  pub tested-traces : Modulus p → has-lookups (t .lookups .lookups) ≡ true → rows-enough (t .traces .shape) (t .lookups .lookups) ≡ true → Evaluable p (t .traces) (t .nodes)
+  pub tested-traces : KnownPrime p → has-lookups (t .lookups .lookups) ≡ true → rows-enough (t .traces .shape) (t .lookups .lookups) ≡ true → Evaluable p (t .traces) (t .nodes)
   unfolding rows-enough preprocessed-enough known
   tested-traces o h r =
       traces-tested m p (t .traces) (t .nodes) g o (s .nodes-within) (s .traces-fit) (s .traces-below) (s .constants-below) (s .known)
       (both-right (ltb 0 (t .traces .shape .height)) (preprocessed-enough (t .traces .shape))
       (subst (λ (b : Bool). (not b || (ltb 0 (t .traces .shape .height) && preprocessed-enough (t .traces .shape))) ≡ true) h r))
 
--- the field of SPECIFICATION, section 2.1
-pub babybear-field : Field babybear babybear-w
-babybear-field = record { modulus = record { big = omega arith; small = omega arith }; low = omega arith; certificate = babybear-certificate }
+-- the field of a number, whatever the number
+pub field-of : (field : ℕ) → Field (prime-of field) (w-of field)
+field-of field = record { modulus = known-prime field; low = w-below field; certificate = certificate-of field }

@@ -3,13 +3,13 @@ use mathlib.Core.Path.{_≡_}
 use mathlib.Core.List.{List, _++_}
 use Prim.Native.Nat.{ℕ, zero, suc, _+_, _*_, _<_}
 use Rattle.lists.specs.Count.{joined}
-use Rattle.field.specs.Modulus.{Modulus}
+use Rattle.field.specs.inner.Requires.{KnownPrime}
 use Rattle.field.specs.Element.{at, Word4, add4, sum4, element}
 use Rattle.lookup.specs.Lookups.{lookup-count, tuple-count, tuple-start}
 
 -- words below p
 pub record Quotients (p : ℕ) (quotients : List ℕ) : Type 0 where
-  pub modulus : Modulus p
+  pub modulus : KnownPrime p
   pub below : (k : ℕ) → at quotients k < p
 
 -- the sum of n quotients from quotient a on

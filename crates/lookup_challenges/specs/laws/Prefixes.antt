@@ -1,15 +1,14 @@
 -- What the prefixes' code relies on: one element is its list, and what the tests leave.
 use mathlib.Core.Path.{_≡_, sym, ap, _∙_}
-use mathlib.Core.Bool.{Bool, true, false, not, _&&_}
+use mathlib.Core.Bool.{Bool, false, not, _&&_}
 use mathlib.Core.Option.{Option}
 use mathlib.Core.List.{List, [], _∷_}
-use Prim.Native.Nat.{ℕ, _*_, _/_, _<_, _≤_}
+use Prim.Native.Nat.{ℕ, _/_, _<_, _≤_}
 use native.Mathlib.Omega.{arith}
 use lib.Dec.{eqb, leb}
 use lib.ListN.{length}
 use borrow.Author.Tests.{eqb-true, leb-true, not-false}
 use Rattle.lists.specs.laws.Tests.{passed}
-use Rattle.field.specs.Modulus.{Modulus}
 use Rattle.field.specs.Element.{Word4, element}
 use Rattle.field.specs.laws.Slice.{word-element}
 use Rattle.expression.specs.Words.{all-below}
@@ -43,10 +42,9 @@ writable {p} {s} {a} {b} m alpha beta width n out pos hk hm es hs ea eb h =
     }
 
 -- a refusal and the list that it leaves are the outcome
-pub outcome-is : {m k : Limits} {r : Option Refusal} {written : List ℕ} (p w : ℕ) (alpha beta : List ℕ) (width n : ℕ) (out : List ℕ) → m ≡ k
+pub outcome-is : (m : Limits) {r : Option Refusal} {written : List ℕ} (p w : ℕ) (alpha beta : List ℕ) (width n : ℕ) (out : List ℕ)
     → (r ≡ prefixes-refusal m p alpha beta width n out) × (written ≡ prefixes-after r p w alpha beta width n out)
-    → record { answer = numbers r; out = written } ≡ prefixes k p w alpha beta width n out
+    → record { answer = numbers r; out = written } ≡ prefixes m p w alpha beta width n out
 unfolding prefixes
-outcome-is {m} {k} {r} p w alpha beta width n out e (er, ew) =
-    (λ i. record { answer = numbers r; out = ew i })
-    ∙ ap (λ (x : Option Refusal). outcome x p w alpha beta width n out) (er ∙ ap (λ (x : Limits). prefixes-refusal x p alpha beta width n out) e)
+outcome-is m {r} p w alpha beta width n out (er, ew) =
+    (λ i. record { answer = numbers r; out = ew i }) ∙ ap (λ (x : Option Refusal). outcome x p w alpha beta width n out) er

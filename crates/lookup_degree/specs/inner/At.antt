@@ -10,8 +10,8 @@ use Rattle.lookup_degree.specs.Sums.{greatest}
 use Rattle.lookup_degree.specs.Degree.{tuple-degree}
 
 -- the degree of the table's tuple j; `deg` is the nodes' degree
-unfoldable pub degree-at : (ℕ → ℕ) → List ℕ → List ℕ → ℕ → ℕ
-degree-at deg tuples elements j = tuple-degree deg (take (word tuples j) (drop (element-start tuples j) elements))
+unfoldable pub tuple-degree-at : (ℕ → ℕ) → List ℕ → List ℕ → ℕ → ℕ
+tuple-degree-at deg tuples elements j = tuple-degree deg (take (word tuples j) (drop (element-start tuples j) elements))
 
 -- lookup i, from the degrees of all tuples
 unfoldable pub denominator-at : List ℕ → List ℕ → ℕ → ℕ

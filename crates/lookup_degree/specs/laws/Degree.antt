@@ -17,7 +17,7 @@ use Rattle.lookup.specs.Requires.{Fitting, Agreeing}
 use Rattle.lookup.specs.laws.Tested.{placed}
 use Rattle.lookup_degree.specs.Sums.{sum-of, largest-of, greatest}
 use Rattle.lookup_degree.specs.Degree.{tuple-degree, denominator-degree, term-degree, numerator-degree, additive-degree, exclusive-degree, lookup-degree}
-use Rattle.lookup_degree.specs.inner.At.{degree-at, denominator-at, numerator-at, additive-at, exclusive-at, lookup-degree-at}
+use Rattle.lookup_degree.specs.inner.At.{tuple-degree-at, denominator-at, numerator-at, additive-at, exclusive-at, lookup-degree-at}
 
 pub greatest-cong : (f g : ℕ → ℕ) (n : ℕ) → ((k : ℕ) → k < n → f k ≡ g k) → greatest f n ≡ greatest g n
 unfolding greatest
@@ -69,7 +69,7 @@ part-tab m s (suc n) h =
 
 -- `degrees` has the degrees of the table's tuples, `nodes` those of its nodes
 module _ (n : ℕ) (l : Lookups) (nodes degrees : List ℕ) (fit : Fitting l) (agree : Agreeing n l)
-    (right : (j : ℕ) → j < length (l .tuples) → word degrees j ≡ degree-at (word nodes) (l .tuples) (l .elements) j)
+    (right : (j : ℕ) → j < length (l .tuples) → word degrees j ≡ tuple-degree-at (word nodes) (l .tuples) (l .elements) j)
     (i : ℕ) (here : i < lookup-count (l .lookups)) where
   abbrev T : ℕ
   T = tuple-start (l .lookups) i
@@ -84,7 +84,7 @@ module _ (n : ℕ) (l : Lookups) (nodes degrees : List ℕ) (fit : Fitting l) (a
   N = tuple-count (l .lookups) i
 
   tuple-at : (k : ℕ) → k < N → word degrees (T + k) ≡ tuple-degree (word nodes) (tuple-nodes l i k)
-  unfolding degree-at tuple-nodes tuple-width
+  unfolding tuple-degree-at tuple-nodes tuple-width
   tuple-at k h = right (T + k) (omega (arith, placed l fit i here .tuples))
 
   multiplicities-are : lookup-at l i .multiplicities ≡ tab (λ k. word (l .multiplicities) (M + k)) 0 N

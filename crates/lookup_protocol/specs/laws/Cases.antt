@@ -1,14 +1,15 @@
--- The worked case c12 of SPECIFICATION, section 12.1, and its examples of refusals 19 and 20, with some that show the readings, as one
--- table with one theorem. An answer is its number and its three details.
+-- The worked case c12 of SPECIFICATION, section 12.1, and its examples of refusals 19 and 20, with some that show the readings, the second
+-- field and unknown choices, as one table with one theorem. An answer is its number and its three details.
 use mathlib.Core.List.{List, [], _∷_}
 use mathlib.Core.Option.{Option}
 use Prim.Native.Nat.{ℕ}
 use lib.Dec.{T}
 use Rattle.lists.specs.Count.{total, every}
-use Rattle.field.specs.Modulus.{babybear}
+use Rattle.field.specs.Known.{known-field, prime-of}
 use Rattle.field.specs.Word.{addM}
 use Rattle.field.specs.Element.{add4, is-zero}
 use Rattle.expression.specs.Limits.{cabinet}
+use Rattle.expression.specs.Choices.{choices-of, known, limits-of}
 use Rattle.expression.specs.Words.{all-below, all-within}
 use Rattle.expression.specs.Refusal.{answer-number, answer-details}
 use Rattle.lists.specs.Same.{same-list}
@@ -17,8 +18,8 @@ use Rattle.expression.specs.declared.refusal.Refusal.{Refusal}
 use Rattle.lookup.specs.Lookups.{tuple-start}
 use Rattle.lookup.specs.Sizes.{size-start, table-part}
 use Rattle.lookup.specs.Tests.{lengths-agree}
-use Rattle.lookup_protocol.specs.Terminals.{present, terminal, terminal-below, with-terminal, terminal-sum, terminals-refusal}
-use Rattle.lookup_protocol.specs.Height.{table-lookups, weight-sum, table-weight, height-sum, lookups-small, tables-within, tables-fit, height-refusal}
+use Rattle.lookup_protocol.specs.Terminals.{present, terminal, terminal-below, with-terminal, terminal-sum, terminals-refusal, terminals-at}
+use Rattle.lookup_protocol.specs.Height.{table-lookups, weight-sum, table-weight, height-sum, lookups-small, tables-within, tables-fit, height-refusal, height-at}
 
 abbrev pub answer : Option Refusal → List ℕ
 answer o = answer-number o ∷ answer-details o
@@ -26,40 +27,57 @@ answer o = answer-number o ∷ answer-details o
 abbrev pub passes : List ℕ
 passes = 0 ∷ 0 ∷ 0 ∷ 0 ∷ []
 
-abbrev pub terminals : List ℕ → List ℕ
-terminals ts = answer (terminals-refusal cabinet babybear ts)
+-- of the cabinet's profile, in this field
+abbrev pub terminals : ℕ → List ℕ → List ℕ
+terminals field ts = answer (terminals-at (choices-of field 1) ts)
 
 -- one lookup of this weight on a bus without a name, in a table of this height
-abbrev pub weighing : ℕ → ℕ → List ℕ
-weighing w h = answer (height-refusal cabinet babybear (1 ∷ 0 ∷ w ∷ 0 ∷ 0 ∷ 0 ∷ 0 ∷ 0 ∷ []) (1 ∷ []) (h ∷ []))
+abbrev pub weighing : ℕ → ℕ → ℕ → List ℕ
+weighing field w h = answer (height-at (choices-of field 1) (1 ∷ 0 ∷ w ∷ 0 ∷ 0 ∷ 0 ∷ 0 ∷ 0 ∷ []) (1 ∷ []) (h ∷ []))
 
 -- one lookup with this mark and these numbers of tuples, multiplicities and flags, of weight p in a table of height 1
 abbrev pub counting : ℕ → ℕ → ℕ → ℕ → List ℕ
 counting exclusive tuples multiplicities flags =
-    answer (height-refusal cabinet babybear (1 ∷ 0 ∷ 2013265921 ∷ 0 ∷ exclusive ∷ tuples ∷ multiplicities ∷ flags ∷ []) (1 ∷ []) (1 ∷ []))
+    answer (height-at (choices-of 1 1) (1 ∷ 0 ∷ 2013265921 ∷ 0 ∷ exclusive ∷ tuples ∷ multiplicities ∷ flags ∷ []) (1 ∷ []) (1 ∷ []))
 
 pub cases : List Case
 cases =
     -- 20: terminals 1 and 1; 1 and -1 cancel, an absent one is skipped, whatever its words
-    record { computed = terminals (1 ∷ 1 ∷ 0 ∷ 0 ∷ 0 ∷ 1 ∷ 1 ∷ 0 ∷ 0 ∷ 0 ∷ []); expected = 20 ∷ 0 ∷ 0 ∷ 0 ∷ [] }
-    ∷ record { computed = terminals (1 ∷ 1 ∷ 0 ∷ 0 ∷ 0 ∷ 0 ∷ 1 ∷ 4294967295 ∷ 0 ∷ 0 ∷ 1 ∷ 2013265920 ∷ 0 ∷ 0 ∷ 0 ∷ []); expected = passes }
-    ∷ record { computed = terminals (1 ∷ 2013265921 ∷ 0 ∷ 0 ∷ 0 ∷ []); expected = 2 ∷ 0 ∷ 0 ∷ 0 ∷ [] }
-    ∷ record { computed = terminals []; expected = passes }
+    record { computed = terminals 1 (1 ∷ 1 ∷ 0 ∷ 0 ∷ 0 ∷ 1 ∷ 1 ∷ 0 ∷ 0 ∷ 0 ∷ []); expected = 20 ∷ 0 ∷ 0 ∷ 0 ∷ [] }
+    ∷ record { computed = terminals 1 (1 ∷ 1 ∷ 0 ∷ 0 ∷ 0 ∷ 0 ∷ 1 ∷ 4294967295 ∷ 0 ∷ 0 ∷ 1 ∷ 2013265920 ∷ 0 ∷ 0 ∷ 0 ∷ []); expected = passes }
+    ∷ record { computed = terminals 1 (1 ∷ 2013265921 ∷ 0 ∷ 0 ∷ 0 ∷ []); expected = 2 ∷ 0 ∷ 0 ∷ 0 ∷ [] }
+    ∷ record { computed = terminals 1 []; expected = passes }
+    -- a word that is the prime of field 1, or above it, is one of field 2's; the sums are modulo the field's own prime
+    ∷ record { computed = terminals 2 (1 ∷ 2013265921 ∷ 0 ∷ 0 ∷ 0 ∷ 1 ∷ 117440512 ∷ 0 ∷ 0 ∷ 0 ∷ []); expected = passes }
+    ∷ record { computed = terminals 2 (1 ∷ 0 ∷ 0 ∷ 0 ∷ 2130706433 ∷ []); expected = 2 ∷ 0 ∷ 0 ∷ 0 ∷ [] }
+    ∷ record { computed = terminals 2 (1 ∷ 1065353216 ∷ 0 ∷ 0 ∷ 0 ∷ 1 ∷ 1065353217 ∷ 0 ∷ 0 ∷ 0 ∷ []); expected = passes }
+    ∷ record { computed = terminals 1 (1 ∷ 1065353216 ∷ 0 ∷ 0 ∷ 0 ∷ 1 ∷ 1065353217 ∷ 0 ∷ 0 ∷ 0 ∷ []); expected = 20 ∷ 0 ∷ 0 ∷ 0 ∷ [] }
+    ∷ record { computed = terminals 2 (1 ∷ 1 ∷ 0 ∷ 0 ∷ 0 ∷ 1 ∷ 2013265920 ∷ 0 ∷ 0 ∷ 0 ∷ []); expected = 20 ∷ 0 ∷ 0 ∷ 0 ∷ [] }
+    -- an unknown field, an unknown profile: 1, also without terminals
+    ∷ record { computed = terminals 3 []; expected = 1 ∷ 0 ∷ 0 ∷ 0 ∷ [] }
+    ∷ record { computed = answer (terminals-at (choices-of 1 2) []); expected = 1 ∷ 0 ∷ 0 ∷ 0 ∷ [] }
     -- c12: weight 2013265920, height 1 passes
-    ∷ record { computed = weighing 2013265920 1; expected = passes }
+    ∷ record { computed = weighing 1 2013265920 1; expected = passes }
     -- 19: weight 2013265921, height 1
-    ∷ record { computed = weighing 2013265921 1; expected = 19 ∷ 2013265921 ∷ 0 ∷ 0 ∷ [] }
-    ∷ record { computed = weighing 0 1048577; expected = 1 ∷ 0 ∷ 0 ∷ 0 ∷ [] }
+    ∷ record { computed = weighing 1 2013265921 1; expected = 19 ∷ 2013265921 ∷ 0 ∷ 0 ∷ [] }
+    -- in field 2 that passes, and the bound is its own prime
+    ∷ record { computed = weighing 2 2013265921 1; expected = passes }
+    ∷ record { computed = weighing 2 2130706432 1; expected = passes }
+    ∷ record { computed = weighing 2 2130706433 1; expected = 19 ∷ 2130706433 ∷ 0 ∷ 0 ∷ [] }
+    ∷ record { computed = weighing 1 0 1048577; expected = 1 ∷ 0 ∷ 0 ∷ 0 ∷ [] }
     -- 5 before 19: a tuple without a multiplicity; an additive lookup with a flag; an exclusive one with none
     ∷ record { computed = counting 0 1 0 0; expected = 5 ∷ 0 ∷ 0 ∷ 0 ∷ [] }
     ∷ record { computed = counting 0 1 1 1; expected = 5 ∷ 0 ∷ 0 ∷ 0 ∷ [] }
     ∷ record { computed = counting 1 1 1 0; expected = 5 ∷ 0 ∷ 0 ∷ 0 ∷ [] }
     ∷ record { computed = counting 1 1 1 1; expected = 19 ∷ 2013265921 ∷ 0 ∷ 0 ∷ [] }
-    ∷ record { computed = answer (height-refusal cabinet babybear [] [] []); expected = passes }
-    ∷ record { computed = answer (height-refusal cabinet babybear [] [] (1 ∷ [])); expected = 1 ∷ 0 ∷ 0 ∷ 0 ∷ [] }
+    ∷ record { computed = answer (height-at (choices-of 1 1) [] [] []); expected = passes }
+    ∷ record { computed = answer (height-at (choices-of 1 1) [] [] (1 ∷ [])); expected = 1 ∷ 0 ∷ 0 ∷ 0 ∷ [] }
+    -- an unknown field, an unknown profile: 1, also without tables
+    ∷ record { computed = answer (height-at (choices-of 0 1) [] [] []); expected = 1 ∷ 0 ∷ 0 ∷ 0 ∷ [] }
+    ∷ record { computed = answer (height-at (choices-of 2 2) [] [] []); expected = 1 ∷ 0 ∷ 0 ∷ 0 ∷ [] }
     ∷ []
 
 -- each case computes to what SPECIFICATION says
 pub cases-hold : T (hold cases)
-unfolding cases cabinet total every all-below all-within addM add4 is-zero present terminal terminal-below with-terminal terminal-sum terminals-refusal tuple-start size-start table-part table-lookups weight-sum table-weight height-sum lookups-small tables-within tables-fit lengths-agree height-refusal same-list
+unfolding cases cabinet known-field prime-of known limits-of total every all-below all-within addM add4 is-zero present terminal terminal-below with-terminal terminal-sum terminals-refusal terminals-at tuple-start size-start table-part table-lookups weight-sum table-weight height-sum lookups-small tables-within tables-fit lengths-agree height-refusal height-at same-list
 cases-hold = tt

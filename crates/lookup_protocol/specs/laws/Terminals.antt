@@ -1,6 +1,6 @@
 -- The turns of the terminals' sum, and what the test of their words says.
 use mathlib.Core.Path.{_≡_, refl, sym, ap, _∙_}
-use mathlib.Core.Bool.{Bool, true, false, not, _&&_, _||_}
+use mathlib.Core.Bool.{Bool, true, false, not, _||_}
 use mathlib.Core.List.{List, [], _∷_}
 use Prim.Native.Nat.{ℕ, _+_, _*_, _<_, _≤_, zero-le}
 use native.Mathlib.Omega.{arith}
@@ -9,7 +9,7 @@ use lib.Dec.{ltb}
 use borrow.Author.Tests.{ltb-true}
 use Rattle.lists.specs.laws.Tests.{passed}
 use Rattle.field.specs.Element.{Word4, zero4}
-use Rattle.field.specs.Modulus.{Modulus}
+use Rattle.field.specs.inner.Requires.{KnownPrime}
 use Rattle.expression.specs.Words.{word}
 use Rattle.lookup_protocol.specs.Terminals.{terminal-words, present, terminal, terminal-below, with-terminal, terminal-sum}
 
@@ -31,7 +31,7 @@ pub record Adding (p : ℕ) (ts : List ℕ) (n i : ℕ) (s : List ℕ) : Type 0 
   pub word4 : Word4 p s
   pub is : s ≡ terminal-sum p ts i
 
-pub begins : {p : ℕ} {ts : List ℕ} {n : ℕ} → Modulus p → Adding p ts n 0 zero4
+pub begins : {p : ℕ} {ts : List ℕ} {n : ℕ} → KnownPrime p → Adding p ts n 0 zero4
 unfolding terminal-sum
 begins {p} m =
     let pos : 0 < p = omega (arith, m .big) in record { within = zero-le; word4 = record { w0 = pos; w1 = pos; w2 = pos; w3 = pos }; is = refl }

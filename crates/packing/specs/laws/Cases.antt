@@ -1,4 +1,5 @@
--- Worked cases c8 to c10 of SPECIFICATION, section 12.1, and its examples of refusals 6 and 7: one table, one theorem, by computation.
+-- Worked cases c8 to c10 of SPECIFICATION, section 12.1, its examples of refusals 6 and 7, and the choices of a call: one table, one theorem, by
+-- computation.
 use mathlib.Core.Path.{_≡_, refl}
 use mathlib.Core.List.{List, [], _∷_, _++_, flatMap, zipWith}
 use Prim.Native.Nat.{ℕ}
@@ -6,12 +7,15 @@ use lib.ListN.{replicate}
 use Rattle.lists.specs.Same.{same-list}
 use Rattle.lists.specs.Count.{total, every, first}
 use Rattle.lists.specs.Tab.{tab}
+use Rattle.field.specs.Known.{known-field, prime-of}
 use Rattle.expression.specs.Words.{all-below, all-within}
 use Rattle.expression.specs.Limits.{cabinet}
+use Rattle.expression.specs.Choices.{choices-of, known, limits-of}
 use Rattle.expression.specs.Node.{decode, node}
 use Rattle.expression.specs.Degree.{node-degree, degrees}
 use Rattle.expression.specs.Tests.{nodes-within, nodes-fit, constants-below, nodes-known, degrees-low}
-use Rattle.expression.specs.declared.refusal.Refusal.the-variants.{SizeAtOdds, NodeInvalid, LookupInvalid, WidthsDiffer, WeightTooLarge}
+use Rattle.expression.specs.declared.choices.Choices.{Choices}
+use Rattle.expression.specs.declared.refusal.Refusal.the-variants.{SizeAtOdds, WordTooLarge, NodeInvalid, LookupInvalid, WidthsDiffer, WeightTooLarge}
 use Rattle.lookup.specs.Lookups.{Lookups, name-start, tuple-start, multiplicity-start, flag-start, element-start, tuple-width, multiplicity-node, flag-node, tuple-nodes, lookup-at, lookups-of}
 use Rattle.lookup.specs.Refusals.{columns-within, form-sizes, nodes-refusal, lists-refusal, form-refusal, shape-of}
 use Rattle.lookup.specs.declared.refusals.Columns.{Columns}
@@ -19,21 +23,22 @@ use Rattle.lookup.specs.Tests.{lookups-within, lookups-fit, lengths-agree, node
 use Rattle.lookup.specs.Buses.{name-at, alone-at, same-bus}
 use Rattle.lookup_degree.specs.Sums.{sum-of, largest-of, greatest}
 use Rattle.lookup_degree.specs.Degree.{tuple-degree, denominator-degree, numerator-degree, additive-degree, exclusive-degree, lookup-degree}
-use Rattle.lookup_degree.specs.ConstraintDegree.{degree-refusal, degree-answer}
+use Rattle.lookup_degree.specs.ConstraintDegree.{degree-refusal, degree-answer, degree-at}
 use Rattle.lookup_degree.specs.declared.constraint_degree.DegreeAnswer.{DegreeAnswer}
 use Rattle.lookup_degree.specs.declared.constraint_degree.DegreeAnswer.the-variants as degree
 use Rattle.lookup_buses.specs.Order.{keep, position, by-place, numbers, place, arranged}
 use Rattle.lookup_buses.specs.Widths.{width-in-lookup, width-in-table, expected, by-bus, lookup-refusal, table-refusal, widths-refusal, widest-in-lookup, widest-in-table, widest}
 use Rattle.lookup.specs.Sizes.{size-start, table-part}
-use Rattle.lookup_buses.specs.CheckBusWidths.{BusTables, table-at, tables-of, lists-fit, table-fits, all-fit, widths-answer}
+use Rattle.lookup_buses.specs.CheckBusWidths.{BusTables, table-at, tables-of, lists-fit, table-fits, all-fit, widths-answer, widths-at}
 use Rattle.lookup_buses.specs.declared.check_bus_widths.WidthsAnswer.the-variants as widths
 use Rattle.packing.specs.Packing.{in-order, fill, filled, renumbered, packed, overweight}
 use Rattle.packing.specs.Written.{lookup-words, words-of}
-use Rattle.packing.specs.PackSameBus.{Outcome, holds, columns, packing-refusal, packing}
+use Rattle.packing.specs.PackSameBus.{Outcome, holds, columns, packing-refusal, packing, packing-at}
 use Rattle.packing.specs.declared.answer.PackingAnswer.the-variants.{Packed, Refused}
 
-abbrev p : ℕ
-p = 2013265921
+-- the cabinet's limits, in this field
+abbrev in-field : ℕ → Choices
+in-field field = choices-of field 1
 
 -- a table with one column, and one node: column 0 of the current row, of degree 1
 abbrev one-column : Columns
@@ -42,11 +47,15 @@ one-column = record { main = 1; preprocessed = 0; «public_values» = 0 }
 abbrev one-node : List ℕ
 one-node = 1 ∷ 0 ∷ 0 ∷ []
 
+-- or one node that is a constant
+abbrev constant : ℕ → List ℕ
+constant a = 0 ∷ a ∷ 0 ∷ []
+
 abbrev degree-of : Lookups → DegreeAnswer
-degree-of l = degree-answer cabinet p one-column one-node l 0 0
+degree-of l = degree-at (in-field 1) one-column one-node l 0 0
 
 abbrev packed-with : ℕ → Lookups → Lookups → Outcome
-packed-with limit l lent = packing cabinet p limit one-column one-node l lent
+packed-with limit l lent = packing-at (in-field 1) limit one-column one-node l lent
 
 -- one lookup of n tuples (node 0), counted by node 0; on the bus "b"
 abbrev additive : List ℕ → ℕ → Lookups
@@ -177,24 +186,41 @@ pub cases :
     × (packed-with 9 branches branches .lists ≡ branches)
     -- a lent list that is shorter than the table's own is 1, also where the columns would fit, and before 3
     × (packed-with 3 five snug ≡ record { answer = Refused SizeAtOdds; lists = snug })
-    × (packing cabinet p 3 one-column (99 ∷ 0 ∷ 0 ∷ []) five snug .answer ≡ Refused SizeAtOdds)
-    × (packing cabinet p 3 one-column (99 ∷ 0 ∷ 0 ∷ []) five room .answer ≡ Refused NodeInvalid)
+    × (packing-at (in-field 1) 3 one-column (99 ∷ 0 ∷ 0 ∷ []) five snug .answer ≡ Refused SizeAtOdds)
+    × (packing-at (in-field 1) 3 one-column (99 ∷ 0 ∷ 0 ∷ []) five room .answer ≡ Refused NodeInvalid)
     -- 6: bus "mem": 2 and 3
     × (packed-with 3 mem mem ≡ record { answer = Refused (WidthsDiffer 1 2 3); lists = mem })
-    × (widths-answer cabinet (mem-tables 1 (2 ∷ 3 ∷ [])) ≡ widths.Refused (WidthsDiffer 0 2 3))
-    × (widths-answer cabinet (mem-tables 1 (2 ∷ 2 ∷ [])) ≡ widths.Widest 2)
+    × (widths-at (in-field 1) (mem-tables 1 (2 ∷ 3 ∷ [])) ≡ widths.Refused (WidthsDiffer 0 2 3))
+    × (widths-at (in-field 1) (mem-tables 1 (2 ∷ 2 ∷ [])) ≡ widths.Widest 2)
     -- 5 before 6: a tuple without a multiplicity, in the second table
-    × (widths-answer cabinet (mem-tables 0 (2 ∷ 3 ∷ [])) ≡ widths.Refused LookupInvalid)
+    × (widths-at (in-field 1) (mem-tables 0 (2 ∷ 3 ∷ [])) ≡ widths.Refused LookupInvalid)
     -- 7: weights 4294967295 and 1; a merge that is not kept is none
     × (packed-with 3 heavy room ≡ record { answer = Refused WeightTooLarge; lists = room })
     × (packed-with 2 heavy room .answer
     ≡ Packed (record { lookups = 16; names = 2; tuples = 2; multiplicities = 2; flags = 0; elements = 2 }))
-unfolding total every first tab flatMap zipWith all-below all-within cabinet decode node node-degree degrees nodes-within nodes-fit constants-below
-    nodes-known degrees-low name-start tuple-start multiplicity-start flag-start element-start tuple-width multiplicity-node flag-node tuple-nodes
-    lookup-at lookups-of lookups-within lookups-fit lengths-agree nodes-present lists-agree sum-of largest-of greatest tuple-degree denominator-degree
-    numerator-degree additive-degree exclusive-degree lookup-degree columns-within form-sizes nodes-refusal lists-refusal form-refusal shape-of
-    degree-refusal degree-answer keep position by-place numbers same-list name-at alone-at same-bus place arranged width-in-lookup width-in-table
-    expected by-bus lookup-refusal table-refusal widths-refusal widest-in-lookup widest-in-table widest size-start table-part table-at tables-of
-    lists-fit table-fits all-fit widths-answer in-order fill filled renumbered packed overweight lookup-words words-of holds columns packing-refusal
-    packing
-cases = (refl, refl, refl, refl, refl, refl, refl, refl, refl, refl, refl, refl, refl, refl, refl, refl)
+    -- 2 reads the prime of the field: the first is a word of field 2, of degree 0
+    × (degree-at (in-field 1) one-column (constant 2013265921) two 0 0 ≡ degree.Refused WordTooLarge)
+    × (degree-at (in-field 2) one-column (constant 2013265921) two 0 0 ≡ degree.Degree 1)
+    × (degree-at (in-field 2) one-column (constant 2130706433) two 0 0 ≡ degree.Refused WordTooLarge)
+    × (packing-at (in-field 1) 1 one-column (constant 2013265921) five room ≡ record { answer = Refused WordTooLarge; lists = room })
+    × (packing-at (in-field 2) 1 one-column (constant 2013265921) five room .answer
+    ≡ Packed (record { lookups = 8; names = 1; tuples = 5; multiplicities = 5; flags = 0; elements = 5 }))
+    × (packing-at (in-field 2) 1 one-column (constant 2130706433) five room ≡ record { answer = Refused WordTooLarge; lists = room })
+    -- no prime in the widths
+    × (widths-at (in-field 2) (mem-tables 1 (2 ∷ 3 ∷ [])) ≡ widths.Refused (WidthsDiffer 0 2 3))
+    -- an unknown field or profile is 1, before 5, and the lent lists stay
+    × (degree-at (in-field 3) one-column one-node two 0 0 ≡ degree.Refused SizeAtOdds)
+    × (degree-at (choices-of 1 2) one-column one-node two 0 0 ≡ degree.Refused SizeAtOdds)
+    × (packing-at (in-field 0) 3 one-column one-node five room ≡ record { answer = Refused SizeAtOdds; lists = room })
+    × (packing-at (choices-of 2 0) 3 one-column one-node five room ≡ record { answer = Refused SizeAtOdds; lists = room })
+    × (widths-at (in-field 3) (mem-tables 0 (2 ∷ 3 ∷ [])) ≡ widths.Refused SizeAtOdds)
+    × (widths-at (choices-of 1 2) (mem-tables 1 (2 ∷ 2 ∷ [])) ≡ widths.Refused SizeAtOdds)
+unfolding known-field prime-of known limits-of total every first tab flatMap zipWith all-below all-within cabinet decode node node-degree degrees
+    nodes-within nodes-fit constants-below nodes-known degrees-low name-start tuple-start multiplicity-start flag-start element-start tuple-width
+    multiplicity-node flag-node tuple-nodes lookup-at lookups-of lookups-within lookups-fit lengths-agree nodes-present lists-agree sum-of largest-of
+    greatest tuple-degree denominator-degree numerator-degree additive-degree exclusive-degree lookup-degree columns-within form-sizes nodes-refusal
+    lists-refusal form-refusal shape-of degree-refusal degree-answer degree-at keep position by-place numbers same-list name-at alone-at same-bus
+    place arranged width-in-lookup width-in-table expected by-bus lookup-refusal table-refusal widths-refusal widest-in-lookup widest-in-table widest
+    size-start table-part table-at tables-of lists-fit table-fits all-fit widths-answer widths-at in-order fill filled renumbered packed overweight
+    lookup-words words-of holds columns packing-refusal packing packing-at
+cases = (refl, refl, refl, refl, refl, refl, refl, refl, refl, refl, refl, refl, refl, refl, refl, refl, refl, refl, refl, refl, refl, refl, refl, refl, refl, refl, refl, refl, refl)

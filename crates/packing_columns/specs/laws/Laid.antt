@@ -24,7 +24,7 @@ use Rattle.lookup.specs.laws.Tested.{placed, tuple-placed, element-next, elemen
 use Rattle.lookup.specs.Buses.{name-at, alone-at}
 use Rattle.lookup_degree.specs.Sums.{sum-of}
 use Rattle.lookup_degree.specs.Degree.{node-degrees}
-use Rattle.lookup_degree.specs.inner.At.{degree-at}
+use Rattle.lookup_degree.specs.inner.At.{tuple-degree-at}
 use Rattle.lookup_degree.specs.Formed.{Formed}
 use Rattle.lookup_degree.specs.laws.Degree.{sum-tab, part-tab}
 use Rattle.lookup_buses.specs.laws.Order.{arranged-in}
@@ -208,7 +208,7 @@ module _ (m : Limits) (nodes : List ℕ) (l : Lookups) (f : Formed m nodes l) (l
   kept-sum deg g adds h = omega (arith, ap (λ (x : List Lookup). sum-of g (filled deg limit x)) (sym order-map) ∙ filled-sum g adds deg limit (in-order l) ∙ order-sum l g, h)
 
   pub laid : (b d : List ℕ) → b ≡ degrees 0 nodes (node-count nodes) ++ replicate (1024 - node-count nodes) 0
-      → d ≡ tab (degree-at (word b) (l .tuples) (l .elements)) 0 (length (l .tuples)) ++ drop (length (l .tuples)) (replicate 64 0)
+      → d ≡ tab (tuple-degree-at (word b) (l .tuples) (l .elements)) 0 (length (l .tuples)) ++ drop (length (l .tuples)) (replicate 64 0)
       → Laid limit nodes l (columns-of (plan-source b d (l .lookups) (l .names) (l .multiplicities) limit) (ordered (l .lookups) (l .names)))
   unfolding columns packed words-of list-parts
   laid b d eb ed =
@@ -239,10 +239,10 @@ module _ (m : Limits) (nodes : List ℕ) (l : Lookups) (f : Formed m nodes l) (l
       cs : List Lookup
       cs = filled (word b) limit (map (lookup-at l) (ordered (l .lookups) (l .names)))
 
-      right : (j : ℕ) → j < length (l .tuples) → word d j ≡ degree-at (word b) (l .tuples) (l .elements) j
+      right : (j : ℕ) → j < length (l .tuples) → word d j ≡ tuple-degree-at (word b) (l .tuples) (l .elements) j
       right j h =
-          ap (λ (x : List ℕ). word x j) ed ∙ getD-pad (tab (degree-at (word b) (l .tuples) (l .elements)) 0 (length (l .tuples))) 64 (length (l .tuples)) j
-          ∙ tab-get (degree-at (word b) (l .tuples) (l .elements)) 0 (length (l .tuples)) j h ∙ ap (degree-at (word b) (l .tuples) (l .elements)) (zero-add j)
+          ap (λ (x : List ℕ). word x j) ed ∙ getD-pad (tab (tuple-degree-at (word b) (l .tuples) (l .elements)) 0 (length (l .tuples))) 64 (length (l .tuples)) j
+          ∙ tab-get (tuple-degree-at (word b) (l .tuples) (l .elements)) 0 (length (l .tuples)) j h ∙ ap (tuple-degree-at (word b) (l .tuples) (l .elements)) (zero-add j)
 
       ms : Matched (word b) (l .lookups) (l .names) os cs
       ms = plan-matches (node-count nodes) l b d (f .fitting) (f .agreeing) right limit (ordered (l .lookups) (l .names)) order-below

@@ -18,7 +18,7 @@ use Rattle.lookup.specs.laws.Tested.{placed}
 use Rattle.lookup.specs.Buses.{name-at, alone-at, same-bus}
 use Rattle.lookup_degree.specs.Sums.{sum-of}
 use Rattle.lookup_degree.specs.Degree.{denominator-degree, lookup-degree}
-use Rattle.lookup_degree.specs.inner.At.{degree-at}
+use Rattle.lookup_degree.specs.inner.At.{tuple-degree-at}
 use Rattle.lookup_degree.specs.laws.Degree.{denominator-is, numerator-is}
 use Rattle.packing_columns.specs.inner.Columns.{PlanSource, plan-source, top-at, opened, opened-at, merge, column-degree, fits, joins-at, columns-from, columns-of, column-words, words-from, heads-of, over-of}
 use Rattle.packing_columns.specs.declared.columns.OpenColumn.{OpenColumn}
@@ -75,7 +75,7 @@ Matched deg lookups names (o ∷ os) (c ∷ cs) = Shows deg lookups names o c ×
 
 -- `degrees` has the degrees of the table's tuples, `nodes` those of its nodes
 module _ (n : ℕ) (l : Lookups) (nodes degrees : List ℕ) (fit : Fitting l) (agree : Agreeing n l)
-    (right : (j : ℕ) → j < length (l .tuples) → word degrees j ≡ degree-at (word nodes) (l .tuples) (l .elements) j) (limit : ℕ) where
+    (right : (j : ℕ) → j < length (l .tuples) → word degrees j ≡ tuple-degree-at (word nodes) (l .tuples) (l .elements) j) (limit : ℕ) where
   abbrev S : PlanSource
   S = plan-source nodes degrees (l .lookups) (l .names) (l .multiplicities) limit
 

@@ -1,9 +1,8 @@
 use mathlib.Core.Path.{ap, _∙_}
 use mir.Syntax.{w32}
 use mir.ValLaws.{toZ-ofZ}
-use Rattle.expression.specs.Limits.{cabinet}
-use Rattle.field.specs.Modulus.{babybear}
-use Rattle.lookup_count.specs.Count.{Outcome, from-i32}
+use Rattle.expression.specs.Choices.{choices-of}
+use Rattle.lookup_count.specs.Count.{Outcome, from-i32-at}
 use Rattle.lookup_count.specs.laws.Count.{in-numbers-injective}
 use Rattle.delmatik_answers.specs.Count.{count-refused, counted-words}
 use Rattle.delmatik.specs.Exports.{exported-count, exported-verdict}
@@ -35,7 +34,8 @@ returns c =
     let start = at-7 .before .before .before in
     let args = start .args in
     let lent = args .count .now in
-    let o = in-numbers-injective _ _ (at-7 .from-i32 .ensures) ∙ ap (from-i32 cabinet babybear (args .nodes .now) (args .used)) (toZ-ofZ w32 (args .x) (start .fits .x)) in
+    let choices = choices-of (args .field) (args .profile) in
+    let o = in-numbers-injective _ _ (at-7 .from-i32 .ensures) ∙ ap (from-i32-at choices (args .nodes .now) (args .used)) (toZ-ofZ w32 (args .x) (start .fits .x)) in
     let v = verdict-is (c .write-answer .ensures) (c .before .before .count-verdict .ensures ∙ ap (λ (x : Outcome). count-refused (x .answer)) o) in
     let written = at-3 .write-counted .ensures ∙ ap (λ (x : Outcome). counted-words (x .answer) lent) o in
     λ i. record { number = v i .number; details = v i .details; count = written i; nodes = o i .nodes }

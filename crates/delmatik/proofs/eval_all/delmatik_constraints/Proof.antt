@@ -1,5 +1,5 @@
 use mathlib.Core.Path.{ap, _∙_}
-use Rattle.logup.specs.Constraints.{verdict}
+use Rattle.logup.specs.Constraints.{verdict-at}
 use Rattle.expression.specs.Refusal.{numbers}
 use Rattle.delmatik.specs.Exports.{exported-verdict}
 use Rattle.delmatik.proofs.Answered.{numbers-are}
@@ -19,7 +19,7 @@ write-answer-requires c κs = search needs
 returns : tie.Need-returns
 unfolding exported-verdict
 returns c =
-    numbers-are (c .write-answer .ensures) (c .before .before .eval-all .ensures ∙ ap numbers (ap (verdict _ _ _ _ _ _ _) (c .before .before .before .marked-terminal .ensures)))
+    numbers-are (c .write-answer .ensures) (c .before .before .eval-all .ensures ∙ ap numbers (ap (verdict-at _ _ _ _ _ _) (c .before .before .before .marked-terminal .ensures)))
 
 pub delmatik-constraints-spec : {M : Type 1} → statement M
 delmatik-constraints-spec =

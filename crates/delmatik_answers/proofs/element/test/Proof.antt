@@ -1,31 +1,36 @@
-use Rattle.lists.specs.laws.Count.{eqb-true, eqb-false}
-use Rattle.delmatik_answers.specs.Element.{element-number}
-use native.Mathlib.Omega.{arith}
-use mathlib.Core.Path.{_≡_, refl}
+use mathlib.Core.Path.{sym, ap, _∙_}
+use mathlib.Core.Bool.{Bool, cond}
+use lib.ListN.{length}
+use Rattle.delmatik_answers.proofs.Tested.{refused, four-words, compared}
 use borrow.Author.Needs.{needs}
 use Rattle.delmatik_answers.proofs.element.test.Statement.{statement}
 use Rattle.delmatik_answers.proofs.element.test.Tie as tie
 
-returns : tie.Need-returns
-unfolding element-number
-returns c = rw (eqb-false (c .if1 .taken))
+known-field-requires : tie.Need-known-field-requires
+known-field-requires c κs = search needs
 
-returns-2 : tie.Need-returns-2
-unfolding element-number
-returns-2 c = rw (eqb-true (c .before .if1 .left), eqb-false (c .if2 .taken))
+returns : tie.Need-returns
+returns c = refused _ _ _ (c .before .known-field .ensures) (c .if1 .taken)
+
+prime-of-requires : tie.Need-prime-of-requires
+prime-of-requires c κs = search needs
 
 below-requires : tie.Need-below-requires
-below-requires c κs = search needs
+below-requires c κs =
+    let at-5 = c .before .before .before .before .before in
+    four-words _ (at-5 .args .a .now) (length (at-5 .args .out .now)) (c .before .before .known-field .ensures) (c .before .if1 .left)
+
+returns-2 : tie.Need-returns-2
+returns-2 c =
+    let at-3 = c .before .before .before in
+    ap (λ (b : Bool). cond b 0 2) (sym (c .if2 .taken))
+    ∙ compared _ _ _ (at-3 .before .known-field .ensures) (at-3 .if1 .left) (c .before .before .prime-of .ensures) (c .before .below .ensures)
 
 returns-3 : tie.Need-returns-3
-unfolding element-number
 returns-3 c =
-    rw (eqb-true (c .before .before .before .if1 .left), eqb-true (c .before .before .if2 .left), ← (c .before .below .ensures), c .if3 .taken)
-
-returns-4 : tie.Need-returns-4
-unfolding element-number
-returns-4 c =
-    rw (eqb-true (c .before .before .before .if1 .left), eqb-true (c .before .before .if2 .left), ← (c .before .below .ensures), c .if3 .left)
+    let at-3 = c .before .before .before in
+    ap (λ (b : Bool). cond b 0 2) (sym (c .if2 .left))
+    ∙ compared _ _ _ (at-3 .before .known-field .ensures) (at-3 .if1 .left) (c .before .before .prime-of .ensures) (c .before .below .ensures)
 
 pub test-spec : {M : Type 1} → statement M
-test-spec = tie.close (tie.spec returns returns-2 below-requires returns-3 returns-4)
+test-spec = tie.close (tie.spec known-field-requires returns prime-of-requires below-requires returns-2 returns-3)

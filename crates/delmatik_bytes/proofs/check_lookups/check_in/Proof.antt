@@ -8,7 +8,7 @@ use Rattle.delmatik_bytes.proofs.check_lookups.check_in.Tie as tie
 mul-check-lookups : tie.Need-mul-check-lookups
 mul-check-lookups c =
     let start = c .before .before .before in
-    scaled (start .pre .fourth-in) (start .good .0 .1)
+    scaled (start .pre .fourth-in) (start .good .1 .0 .1)
 
 sub-check-lookups : tie.Need-sub-check-lookups
 sub-check-lookups c =
@@ -39,7 +39,7 @@ part-check-lookups-end-2 c =
 mul-check-lookups-2 : tie.Need-mul-check-lookups-2
 mul-check-lookups-2 c =
     let start = c .before .before .before .before .before in
-    scaled (start .pre .first-in) (start .good .0 .1)
+    scaled (start .pre .first-in) (start .good .1 .0 .1)
 
 sub-check-lookups-3 : tie.Need-sub-check-lookups-3
 sub-check-lookups-3 c =
@@ -59,7 +59,7 @@ part-check-lookups-end-3 c =
 mul-check-lookups-3 : tie.Need-mul-check-lookups-3
 mul-check-lookups-3 c =
     let start = c .before .before .before .before .before .before in
-    scaled (start .pre .second-in) (start .good .0 .1)
+    scaled (start .pre .second-in) (start .good .1 .0 .1)
 
 sub-check-lookups-4 : tie.Need-sub-check-lookups-4
 sub-check-lookups-4 c =
@@ -79,7 +79,7 @@ part-check-lookups-end-4 c =
 mul-check-lookups-4 : tie.Need-mul-check-lookups-4
 mul-check-lookups-4 c =
     let start = c .before .before .before .before .before .before .before in
-    scaled (start .pre .third-in) (start .good .0 .1)
+    scaled (start .pre .third-in) (start .good .1 .0 .1)
 
 sub-check-lookups-5 : tie.Need-sub-check-lookups-5
 sub-check-lookups-5 c =
@@ -99,7 +99,7 @@ part-check-lookups-end-5 c =
 mul-check-lookups-5 : tie.Need-mul-check-lookups-5
 mul-check-lookups-5 c =
     let start = c .before .before .before .before .before .before .before .before in
-    scaled (start .pre .fifth-in) (start .good .0 .1)
+    scaled (start .pre .fifth-in) (start .good .1 .0 .1)
 
 sub-check-lookups-6 : tie.Need-sub-check-lookups-6
 sub-check-lookups-6 c =
@@ -119,7 +119,7 @@ part-check-lookups-end-6 c =
 mul-check-lookups-6 : tie.Need-mul-check-lookups-6
 mul-check-lookups-6 c =
     let start = c .before .before .before .before .before .before .before .before .before in
-    scaled (start .pre .sixth-in) (start .good .0 .1)
+    scaled (start .pre .sixth-in) (start .good .1 .0 .1)
 
 sub-check-lookups-7 : tie.Need-sub-check-lookups-7
 sub-check-lookups-7 c =
@@ -139,7 +139,7 @@ part-check-lookups-end-7 c =
 mul-check-lookups-7 : tie.Need-mul-check-lookups-7
 mul-check-lookups-7 c =
     let start = c .before .before .before .before .before .before .before .before .before .before in
-    scaled (start .pre .seventh-in) (start .good .0 .1)
+    scaled (start .pre .seventh-in) (start .good .1 .0 .1)
 
 sub-check-lookups-8 : tie.Need-sub-check-lookups-8
 sub-check-lookups-8 c =
@@ -159,7 +159,7 @@ part-check-lookups-end-8 c =
 mul-check-lookups-8 : tie.Need-mul-check-lookups-8
 mul-check-lookups-8 c =
     let start = c .before .before .before .before .before .before .before .before .before .before .before in
-    scaled (start .pre .eighth-in) (start .good .0 .1)
+    scaled (start .pre .eighth-in) (start .good .1 .0 .1)
 
 sub-check-lookups-9 : tie.Need-sub-check-lookups-9
 sub-check-lookups-9 c =
@@ -179,7 +179,7 @@ part-check-lookups-end-9 c =
 mul-check-lookups-9 : tie.Need-mul-check-lookups-9
 mul-check-lookups-9 c =
     let start = c .before .before .before .before .before .before .before .before .before .before .before .before in
-    scaled (start .pre .ninth-in) (start .good .0 .1)
+    scaled (start .pre .ninth-in) (start .good .1 .0 .1)
 
 sub-check-lookups-10 : tie.Need-sub-check-lookups-10
 sub-check-lookups-10 c =

@@ -18,7 +18,7 @@ part-generate-end c =
 mul-generate : tie.Need-mul-generate
 mul-generate c =
     let start = c .before .before .before .before in
-    scaled (start .pre .first-in) (start .good .1 .0 .1)
+    scaled (start .pre .first-in) (start .good .1 .1 .1 .0 .1)
 
 sub-generate-2 : tie.Need-sub-generate-2
 sub-generate-2 c =
@@ -38,7 +38,7 @@ part-generate-end-2 c =
 mul-generate-2 : tie.Need-mul-generate-2
 mul-generate-2 c =
     let start = c .before .before .before .before .before in
-    scaled (start .pre .second-in) (start .good .1 .0 .1)
+    scaled (start .pre .second-in) (start .good .1 .1 .1 .0 .1)
 
 sub-generate-3 : tie.Need-sub-generate-3
 sub-generate-3 c =
@@ -58,7 +58,7 @@ part-generate-end-3 c =
 mul-generate-3 : tie.Need-mul-generate-3
 mul-generate-3 c =
     let start = c .before .before .before .before .before .before in
-    scaled (start .pre .third-in) (start .good .1 .0 .1)
+    scaled (start .pre .third-in) (start .good .1 .1 .1 .0 .1)
 
 sub-generate-4 : tie.Need-sub-generate-4
 sub-generate-4 c =
@@ -78,7 +78,7 @@ part-generate-end-4 c =
 mul-generate-4 : tie.Need-mul-generate-4
 mul-generate-4 c =
     let start = c .before .before .before .before .before .before .before in
-    scaled (start .pre .fifth-in) (start .good .1 .0 .1)
+    scaled (start .pre .fifth-in) (start .good .1 .1 .1 .0 .1)
 
 sub-generate-5 : tie.Need-sub-generate-5
 sub-generate-5 c =
@@ -98,7 +98,7 @@ part-generate-end-5 c =
 mul-generate-5 : tie.Need-mul-generate-5
 mul-generate-5 c =
     let start = c .before .before .before .before .before .before .before .before in
-    scaled (start .pre .sixth-in) (start .good .1 .0 .1)
+    scaled (start .pre .sixth-in) (start .good .1 .1 .1 .0 .1)
 
 sub-generate-6 : tie.Need-sub-generate-6
 sub-generate-6 c =
@@ -118,7 +118,7 @@ part-generate-end-6 c =
 mul-generate-6 : tie.Need-mul-generate-6
 mul-generate-6 c =
     let start = c .before .before .before .before .before .before .before .before .before in
-    scaled (start .pre .seventh-in) (start .good .1 .0 .1)
+    scaled (start .pre .seventh-in) (start .good .1 .1 .1 .0 .1)
 
 sub-generate-7 : tie.Need-sub-generate-7
 sub-generate-7 c =
@@ -138,7 +138,7 @@ part-generate-end-7 c =
 mul-generate-7 : tie.Need-mul-generate-7
 mul-generate-7 c =
     let start = c .before .before .before .before .before .before .before .before .before .before in
-    scaled (start .pre .eighth-in) (start .good .1 .0 .1)
+    scaled (start .pre .eighth-in) (start .good .1 .1 .1 .0 .1)
 
 sub-generate-8 : tie.Need-sub-generate-8
 sub-generate-8 c =
@@ -158,7 +158,7 @@ part-generate-end-8 c =
 mul-generate-8 : tie.Need-mul-generate-8
 mul-generate-8 c =
     let start = c .before .before .before .before .before .before .before .before .before .before .before in
-    scaled (start .pre .ninth-in) (start .good .1 .0 .1)
+    scaled (start .pre .ninth-in) (start .good .1 .1 .1 .0 .1)
 
 sub-generate-9 : tie.Need-sub-generate-9
 sub-generate-9 c =
@@ -178,7 +178,7 @@ part-generate-end-9 c =
 mul-generate-9 : tie.Need-mul-generate-9
 mul-generate-9 c =
     let start = c .before .before .before .before .before .before .before .before .before .before .before .before in
-    scaled (start .pre .fourth-in) (start .good .1 .0 .1)
+    scaled (start .pre .fourth-in) (start .good .1 .1 .1 .0 .1)
 
 sub-generate-10 : tie.Need-sub-generate-10
 sub-generate-10 c =

@@ -17,20 +17,16 @@ lent c = lookups-in (c .args .names-out .now) (parts (c .args .room .now) 0 (fiv
 
 -- the verdict is that of the definition
 refused-so : (c : tie.After-plan-refusal)
-    → let start = c .before .before .before .before .before .before .before .before .before .before .before .before .before in
+    → let start = c .before .before .before .before .before .before .before .before .before .before .before .before in
     refusal (c .plan-refusal .result) ≡ formed-refusal (start .args .limit) (start .args .nodes .now) (given start)
 refused-so c =
-    let start = c .before .before .before .before .before .before .before .before .before .before .before .before .before in
+    let start = c .before .before .before .before .before .before .before .before .before .before .before .before in
     same-refusal (start .args .limit) (start .args .nodes .now) (given start) (lent start) (c .before .before .plan-of .ensures) (c .plan-refusal .result) (c .plan-refusal .ensures)
-
-cabinet-requires : tie.Need-cabinet-requires
-cabinet-requires c κs = search needs
 
 plan-of-requires : tie.Need-plan-of-requires
 plan-of-requires c κs =
-    let at-cabinet = c in
-    let start = c .before .before .before .before .before .before .before .before .before .before in
-    rw (at-cabinet .cabinet .ensures) (start .pre .0)
+    let start = c .before .before .before .before .before .before .before .before .before in
+    start .pre .0
 
 counts-of-requires : tie.Need-counts-of-requires
 counts-of-requires c κs =
@@ -39,7 +35,7 @@ counts-of-requires c κs =
 
 plan-refusal-requires : tie.Need-plan-refusal-requires
 plan-refusal-requires c κs =
-    let start = c .before .before .before .before .before .before .before .before .before .before .before .before in
+    let start = c .before .before .before .before .before .before .before .before .before .before .before in
     start .pre .1
 
 enum-known-v : tie.Need-enum-known-v
@@ -50,7 +46,7 @@ enum-told c = search needs
 
 write-in-requires : tie.Need-write-in-requires
 write-in-requires c κs =
-    let start = c .before .before .before .before .before .before .before .before .before .before .before .before .before .before .before .before .before in
+    let start = c .before .before .before .before .before .before .before .before .before .before .before .before .before .before .before .before in
     let at-plan-of = c .before .before .before .before .before .before in
     let at-plan-refusal = c .before .before .before .before in
     let at-enum-told = c .before .before in (
@@ -61,7 +57,7 @@ write-in-requires c κs =
 
 returns : tie.Need-returns
 returns c =
-    let start = c .before .before .before .before .before .before .before .before .before .before .before .before .before .before .before .before in
+    let start = c .before .before .before .before .before .before .before .before .before .before .before .before .before .before .before in
     let at-plan-of = c .before .before .before .before .before in
     let at-plan-refusal = c .before .before .before in
     let at-v = c .before in
@@ -80,7 +76,7 @@ same-length-2 c =
 
 returns-2 : tie.Need-returns-2
 returns-2 c =
-    let start = c .before .before .before .before .before .before .before .before .before .before .before .before .before .before .before .before .before .before .before .before .before .before in
+    let start = c .before .before .before .before .before .before .before .before .before .before .before .before .before .before .before .before .before .before .before .before .before in
     let at-plan-of = c .before .before .before .before .before .before .before .before .before .before .before in
     let at-counts-of = c .before .before .before .before .before .before .before .before .before .before in
     let at-plan-refusal = c .before .before .before .before .before .before .before .before .before in
@@ -94,7 +90,6 @@ pub pack-formed-spec : {M : Type 1} → statement M
 pack-formed-spec =
     tie.close
     (tie.spec
-    cabinet-requires
     plan-of-requires
     counts-of-requires
     plan-refusal-requires

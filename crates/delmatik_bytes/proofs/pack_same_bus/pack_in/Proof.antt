@@ -2,23 +2,30 @@ use Rattle.delmatik_bytes.specs.inner.Words.{list, lookups-in}
 use Rattle.wire.specs.laws.Room.{scaled}
 use Rattle.wire.specs.inner.Place.{parts, five-ends}
 use Rattle.delmatik_bytes.specs.laws.Pack.{counts-in}
-use Rattle.packing_entry.proofs.Answers.{cabinet-asks, whole, held, answer-small, answer-refused, answer-formed}
+use Rattle.packing_entry.proofs.Answers.{limits-ask, whole, held, answer-small, answer-refused, answer-formed}
 use Rattle.packing_columns.specs.inner.Layout.{counts-hold}
 use Rattle.packing.specs.PackSameBus.{Outcome, counts}
 use Rattle.lookup_degree.specs.laws.Formed.{formed}
 use Rattle.lookup.specs.Lookups.{Lookups, lent-lookups}
 use Rattle.lookup.specs.Refusals.{form-refusal}
-use Rattle.expression.specs.laws.Tested.{cabinet-sane}
 use Rattle.expression.specs.declared.sizes.Limits.{Limits}
 use Rattle.expression.specs.Refusal.{refusal}
-use Rattle.expression.specs.Limits.{cabinet}
+use Rattle.expression.specs.Choices.{limits-of}
+use Rattle.field.specs.Known.{prime-of}
 use Prim.Native.Nat.{ℕ}
 use mathlib.Core.List.{List, _∷_}
-use mathlib.Core.Path.{_≡_, refl, sym, ap, _∙_}
+use mathlib.Core.Path.{_≡_, sym, ap, ap₂, _∙_}
 use Prim.Native.Nat.{zero-le}
 use borrow.Author.Needs.{needs}
 use Rattle.delmatik_bytes.proofs.pack_same_bus.pack_in.Statement.{statement}
 use Rattle.delmatik_bytes.proofs.pack_same_bus.pack_in.Tie as tie
+
+-- the limits and the prime of the choices
+abbrev limits : tie.Start → Limits
+limits c = limits-of (c .args .choices .profile)
+
+abbrev prime : tie.Start → ℕ
+prime c = prime-of (c .args .choices .field)
 
 abbrev lists : tie.Start → List (List ℕ)
 lists c = parts (c .args .room .now) 0 (c .args .nodes-end ∷ five-ends (c .args .ends))
@@ -42,12 +49,14 @@ held-so c =
     ∙ ap (counts-hold (counts (given start))) (counts-in (start .args .out-room .now) (start .args .out-ends) (start .pre .1) (start .args .names-out .now))
 
 refused-is : (c : tie.After-form-refusal)
-    → let start = c .before .before .before .before .before .before .before .before .before .before .before .before .before .before .before .before .before .before in
-    refusal (c .form-refusal .result) ≡ form-refusal cabinet 2013265921 (start .args .columns) (nodes start) (given start)
+    → let start = c .before .before .before .before .before .before .before .before .before .before .before .before .before .before .before .before .before .before .before in
+    refusal (c .form-refusal .result) ≡ form-refusal (limits start) (prime start) (start .args .columns) (nodes start) (given start)
 refused-is c =
-    let start = c .before .before .before .before .before .before .before .before .before .before .before .before .before .before .before .before .before .before in
-    let at-cabinet = c .before in
-    c .form-refusal .ensures ∙ ap (λ (m : Limits). form-refusal m 2013265921 (start .args .columns) (nodes start) (given start)) (at-cabinet .cabinet .ensures)
+    let start = c .before .before .before .before .before .before .before .before .before .before .before .before .before .before .before .before .before .before .before in
+    let at-prime-of = c .before in
+    let at-limits-of = c .before .before in
+    c .form-refusal .ensures
+    ∙ ap₂ (λ (m : Limits) (p : ℕ). form-refusal m p (start .args .columns) (nodes start) (given start)) (at-limits-of .limits-of .ensures) (at-prime-of .prime-of .ensures)
 
 sub-nodes : tie.Need-sub-nodes
 sub-nodes c = zero-le
@@ -63,7 +72,7 @@ part-nodes-end c =
 mul-lookups : tie.Need-mul-lookups
 mul-lookups c =
     let start = c .before .before .before .before .before in
-    scaled (start .pre .0 .first-in) (start .good .1 .1 .0 .1)
+    scaled (start .pre .0 .first-in) (start .good .1 .1 .1 .0 .1)
 
 sub-lookups : tie.Need-sub-lookups
 sub-lookups c =
@@ -83,7 +92,7 @@ part-lookups-end c =
 mul-tuples : tie.Need-mul-tuples
 mul-tuples c =
     let start = c .before .before .before .before .before .before in
-    scaled (start .pre .0 .rest .first-in) (start .good .1 .1 .0 .1)
+    scaled (start .pre .0 .rest .first-in) (start .good .1 .1 .1 .0 .1)
 
 sub-tuples : tie.Need-sub-tuples
 sub-tuples c =
@@ -103,7 +112,7 @@ part-tuples-end c =
 mul-multiplicities : tie.Need-mul-multiplicities
 mul-multiplicities c =
     let start = c .before .before .before .before .before .before .before in
-    scaled (start .pre .0 .rest .second-in) (start .good .1 .1 .0 .1)
+    scaled (start .pre .0 .rest .second-in) (start .good .1 .1 .1 .0 .1)
 
 sub-multiplicities : tie.Need-sub-multiplicities
 sub-multiplicities c =
@@ -123,7 +132,7 @@ part-multiplicities-end c =
 mul-flags : tie.Need-mul-flags
 mul-flags c =
     let start = c .before .before .before .before .before .before .before .before in
-    scaled (start .pre .0 .rest .third-in) (start .good .1 .1 .0 .1)
+    scaled (start .pre .0 .rest .third-in) (start .good .1 .1 .1 .0 .1)
 
 sub-flags : tie.Need-sub-flags
 sub-flags c =
@@ -143,7 +152,7 @@ part-flags-end c =
 mul-elements : tie.Need-mul-elements
 mul-elements c =
     let start = c .before .before .before .before .before .before .before .before .before in
-    scaled (start .pre .0 .rest .fourth-in) (start .good .1 .1 .0 .1)
+    scaled (start .pre .0 .rest .fourth-in) (start .good .1 .1 .1 .0 .1)
 
 sub-elements : tie.Need-sub-elements
 sub-elements c =
@@ -160,23 +169,23 @@ part-elements-end c =
     let start = c .before .before .before .before .before .before .before .before .before in
     start .pre .0 .rest .fifth-in
 
-sub-t42 : tie.Need-sub-t42
-sub-t42 c =
+sub-t44 : tie.Need-sub-t44
+sub-t44 c =
     let start = c .before .before .before .before .before .before .before .before .before .before .before in
     start .pre .1 .second
 
-sub-t41 : tie.Need-sub-t41
-sub-t41 c =
+sub-t43 : tie.Need-sub-t43
+sub-t43 c =
     let start = c .before .before .before .before .before .before .before .before .before .before .before .before in
     start .pre .1 .third
 
-sub-t40 : tie.Need-sub-t40
-sub-t40 c =
+sub-t42 : tie.Need-sub-t42
+sub-t42 c =
     let start = c .before .before .before .before .before .before .before .before .before .before .before .before .before in
     start .pre .1 .fourth
 
-sub-t39 : tie.Need-sub-t39
-sub-t39 c =
+sub-t41 : tie.Need-sub-t41
+sub-t41 c =
     let start = c .before .before .before .before .before .before .before .before .before .before .before .before .before .before in
     start .pre .1 .fifth
 
@@ -186,16 +195,19 @@ counts-hold-requires c κs = search needs
 returns : tie.Need-returns
 returns c =
     let start = c .before .before .before .before .before .before .before .before .before .before .before .before .before .before .before .before in
-    let q = answer-small cabinet 2013265921 (start .args .limit) (start .args .columns) (nodes start) (given start) (lent start) (held-so (c .before)) (c .if1 .taken) in
+    let q = answer-small (limits start) (prime start) (start .args .limit) (start .args .columns) (nodes start) (given start) (lent start) (held-so (c .before)) (c .if1 .taken) in
     λ i. record { answer = q .0 i; lists = q .1 i }
 
-cabinet-requires : tie.Need-cabinet-requires
-cabinet-requires c κs = search needs
+limits-of-requires : tie.Need-limits-of-requires
+limits-of-requires c κs = search needs
+
+prime-of-requires : tie.Need-prime-of-requires
+prime-of-requires c κs = search needs
 
 form-refusal-requires : tie.Need-form-refusal-requires
 form-refusal-requires c κs =
-    let at-cabinet = c in
-    cabinet-asks (at-cabinet .cabinet .ensures) .0
+    let at-limits-of = c .before in
+    rw (at-limits-of .limits-of .ensures) (limits-ask _ .0)
 
 enum-known-v : tie.Need-enum-known-v
 enum-known-v c = search needs
@@ -207,19 +219,25 @@ pack-formed-requires : tie.Need-pack-formed-requires
 pack-formed-requires c κs =
     let at-enum-told = c .before .before in
     let at-form-refusal = c .before .before .before .before in
-    let at-if1 = c .before .before .before .before .before .before in
-    let start = c .before .before .before .before .before .before .before .before .before .before .before .before .before .before .before .before .before .before .before .before .before .before in
+    let at-limits-of = c .before .before .before .before .before .before in
+    let at-if1 = c .before .before .before .before .before .before .before in
+    let start = c .before .before .before .before .before .before .before .before .before .before .before .before .before .before .before .before .before .before .before .before .before .before .before in
+    let ask = limits-ask (start .args .choices .profile) in
     let none-refused = sym (refused-is at-form-refusal) ∙ ap refusal (at-enum-told .enum-told .given .1) in
-    let form = formed cabinet 2013265921 (start .args .columns) (nodes start) (given start) cabinet-sane none-refused in
-    (form, whole cabinet 2013265921 (start .args .columns) (nodes start) (given start) cabinet-sane (cabinet-asks refl .1) form none-refused, start .pre .1, held (given start) (lent start) (held-so (at-if1 .before)) (at-if1 .if1 .left))
+    let form = formed (limits start) (prime start) (start .args .columns) (nodes start) (given start) (ask .0) none-refused in (
+      rw (at-limits-of .limits-of .ensures) form,
+      whole (limits start) (prime start) (start .args .columns) (nodes start) (given start) (ask .0) (ask .1) form none-refused,
+      start .pre .1,
+      held (given start) (lent start) (held-so (at-if1 .before)) (at-if1 .if1 .left),
+    )
 
 returns-2 : tie.Need-returns-2
 returns-2 c =
-    let start = c .before .before .before .before .before .before .before .before .before .before .before .before .before .before .before .before .before .before .before .before .before in
-    let at-if1 = c .before .before .before .before .before in
-    let at-form-refusal = c .before .before .before in
     let at-v = c .before in
-    let q = answer-refused cabinet 2013265921 (start .args .limit) (start .args .columns) (nodes start) (given start) (lent start) (held-so (at-if1 .before)) (at-if1 .if1 .left) (refused-is at-form-refusal) (at-v .v .given .1) in
+    let at-form-refusal = c .before .before .before in
+    let at-if1 = c .before .before .before .before .before .before in
+    let start = c .before .before .before .before .before .before .before .before .before .before .before .before .before .before .before .before .before .before .before .before .before .before in
+    let q = answer-refused (limits start) (prime start) (start .args .limit) (start .args .columns) (nodes start) (given start) (lent start) (held-so (at-if1 .before)) (at-if1 .if1 .left) (refused-is at-form-refusal) (at-v .v .given .1) in
     λ i. record { answer = q .0 i; lists = q .1 i }
 
 same-length : tie.Need-same-length
@@ -235,12 +253,12 @@ same-length-2 c =
 returns-3 : tie.Need-returns-3
 returns-3 c =
     let at-pack-formed = c .before .before .before .before in
-    let start = c .before .before .before .before .before .before .before .before .before .before .before .before .before .before .before .before .before .before .before .before .before .before .before .before .before .before .before in
-    let at-if1 = c .before .before .before .before .before .before .before .before .before .before .before in
-    let at-form-refusal = c .before .before .before .before .before .before .before .before .before in
     let at-enum-told = c .before .before .before .before .before .before .before in
+    let at-form-refusal = c .before .before .before .before .before .before .before .before .before in
+    let at-if1 = c .before .before .before .before .before .before .before .before .before .before .before .before in
+    let start = c .before .before .before .before .before .before .before .before .before .before .before .before .before .before .before .before .before .before .before .before .before .before .before .before .before .before .before .before in
     let o = at-pack-formed .pack-formed .ensures in
-    let q = answer-formed cabinet 2013265921 (start .args .limit) (start .args .columns) (nodes start) (given start) (lent start) (held-so (at-if1 .before)) (at-if1 .if1 .left) (refused-is at-form-refusal) (at-enum-told .enum-told .given .1)
+    let q = answer-formed (limits start) (prime start) (start .args .limit) (start .args .columns) (nodes start) (given start) (lent start) (held-so (at-if1 .before)) (at-if1 .if1 .left) (refused-is at-form-refusal) (at-enum-told .enum-told .given .1)
     (ap (λ (z : Outcome). z .answer) o, ap (λ (z : Outcome). z .lists) o) in
     λ i. record { answer = q .0 i; lists = q .1 i }
 
@@ -271,13 +289,14 @@ pack-in-spec =
     sub-elements
     part-elements-start
     part-elements-end
+    sub-t44
+    sub-t43
     sub-t42
     sub-t41
-    sub-t40
-    sub-t39
     counts-hold-requires
     returns
-    cabinet-requires
+    limits-of-requires
+    prime-of-requires
     form-refusal-requires
     enum-known-v
     enum-told

@@ -1,6 +1,7 @@
-use mathlib.Core.Path.{_∙_}
-use Prim.Native.Nat.{_+_, _*_, _%_}
-use native.Mathlib.Nat.{add-mod}
+use mathlib.Core.Path.{ap, _∙_}
+use Prim.Native.Nat.{ℕ, _+_, _*_, _%_}
+use native.Mathlib.Nat.{add-mod, mod-eq-of-lt}
+use native.Mathlib.Omega.{arith}
 use Rattle.field.specs.Word.{addM, mulM}
 use borrow.Author.Needs.{needs}
 use Rattle.field.proofs.word.dot2.Statement.{statement}
@@ -23,7 +24,9 @@ unfolding addM mulM
 returns c =
     let s = c .before .before .before .args in (
       c .reduce .ensures .0,
-      c .reduce .ensures .1 ∙ (λ i. ((c .before .before .product .ensures .0) i + (c .before .product2 .ensures .0) i) % s .p)
+      c .reduce .ensures .1
+          ∙ ap (λ (n : ℕ). n % s .p) (mod-eq-of-lt (omega (arith, c .before .before .product .ensures .1, c .before .product2 .ensures .1)))
+          ∙ (λ i. ((c .before .before .product .ensures .0) i + (c .before .product2 .ensures .0) i) % s .p)
           ∙ add-mod (s .a * s .b) (s .c * s .d) (s .p),
     )
 

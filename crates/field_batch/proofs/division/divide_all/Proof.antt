@@ -2,6 +2,7 @@ use mathlib.Core.Path.{ap, _∙_}
 use native.Mathlib.Omega.{arith}
 use lib.ListN.{replicate}
 use Rattle.field.specs.Word.{mulM}
+use Rattle.field.specs.laws.Known.{modulus}
 use Rattle.field_batch.specs.laws.Quotients.{all-inverted}
 use Rattle.field_batch.proofs.DivisionLoops.{again-in, again-is}
 use borrow.Author.Needs.{needs}
@@ -45,7 +46,7 @@ quotients-requires c κs =
       v .ensures .0,
       again-is (replicate 1024 0) _ _ _ _ _ (r .ensures .2),
       ap
-          (mulM _ _) (v .ensures .1) ∙ all-inverted _ _ (t .certificate) (t .modulus) _ _ _ (r .ensures .1),
+          (mulM _ _) (v .ensures .1) ∙ all-inverted _ _ (t .certificate) (modulus (t .modulus)) _ _ _ (r .ensures .1),
     )
 
 same-length : tie.Need-same-length

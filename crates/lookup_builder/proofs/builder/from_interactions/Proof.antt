@@ -1,28 +1,52 @@
-use Rattle.field.specs.Modulus.{babybear}
 use Rattle.lookup_builder.specs.FromInteractions.{lent-interactions, in-numbers}
-use Rattle.lookup_builder.proofs.Answers.{cabinet-asks, at-cabinet}
+use Rattle.lookup_builder.proofs.Answers.{choice-unknown, choices-known}
+use Rattle.expression.specs.laws.Tested.{limits-sane}
+use mathlib.Core.Path.{ap}
 use borrow.Author.Needs.{needs}
 use Rattle.lookup_builder.proofs.builder.from_interactions.Statement.{statement}
 use Rattle.lookup_builder.proofs.builder.from_interactions.Tie as tie
 
-cabinet-requires : tie.Need-cabinet-requires
-cabinet-requires c κs = search needs
+known-requires : tie.Need-known-requires
+known-requires c κs = search needs
+
+returns : tie.Need-returns
+returns c =
+    let args = c .before .before .before .before .before .before .before .before .before .before .before .args in
+    let given = lent-interactions (args .interactions .now) (args .weights .now) (args .names .now) (args .tuples .now) (args .multiplicities .now) (args
+    .flags .now) (args .elements .now) in
+    ap in-numbers (choice-unknown (args .choices) (args .columns) (args .nodes .now) (args .kinds) given (args .lookups .now) (c .before .known .ensures)
+    (c .if1 .taken))
+
+limits-of-requires : tie.Need-limits-of-requires
+limits-of-requires c κs = search needs
+
+prime-of-requires : tie.Need-prime-of-requires
+prime-of-requires c κs = search needs
 
 build-within-requires : tie.Need-build-within-requires
-build-within-requires c κs = cabinet-asks (c .before .cabinet .ensures)
+build-within-requires c κs = rw (c .before .before .limits-of .ensures) (limits-sane _)
 
 same-length : tie.Need-same-length
 same-length c = search needs
 
-returns : tie.Need-returns
-returns c =
+returns-2 : tie.Need-returns-2
+returns-2 c =
     let at-4 = c .before .before .before .before in
-    let at-14 = at-4 .before .before .before .before .before .before .before .before .before .before in
-    let k = at-cabinet babybear (at-14 .args .columns) (at-14 .args .nodes .now) (at-14 .args .kinds) (lent-interactions (at-14 .args .interactions .now) (at-14
-    .args .weights .now) (at-14 .args .names .now) (at-14 .args .tuples .now) (at-14 .args .multiplicities .now) (at-14 .args .flags .now) (at-14
-    .args .elements .now)) (at-14 .args .lookups .now) (at-4 .cabinet .ensures) (c .before .before .build-within .ensures) in
-    λ i. in-numbers (record { answer = k .0 i; lookups = k .1 i })
+    let at-6 = at-4 .before .before in
+    let args = at-6 .before .before .before .before .before .before .before .before .before .before .before .args in
+    let given = lent-interactions (args .interactions .now) (args .weights .now) (args .names .now) (args .tuples .now) (args .multiplicities .now) (args
+    .flags .now) (args .elements .now) in
+    ap in-numbers (choices-known (args .choices) (args .columns) (args .nodes .now) (args .kinds) given (args .lookups .now) (at-6 .before .known
+    .ensures) (at-6 .if1 .left) (at-4 .before .limits-of .ensures) (at-4 .prime-of .ensures) (c .before .before .build-within .ensures))
 
 pub from-interactions-spec : {M : Type 1} → statement M
 from-interactions-spec =
-    tie.close (tie.spec cabinet-requires build-within-requires same-length returns)
+    tie.close
+    (tie.spec
+    known-requires
+    returns
+    limits-of-requires
+    prime-of-requires
+    build-within-requires
+    same-length
+    returns-2)

@@ -1,7 +1,5 @@
-use mathlib.Core.Path.{sym, _∙_}
 use Rattle.lookup_challenges.specs.laws.Prefixes.{loaded}
 use Rattle.field.specs.laws.Slice.{element-whole}
-use Rattle.lookup_challenges.specs.Prefixes.{prefix-by}
 use borrow.Author.Needs.{needs}
 use Rattle.lookup_challenges.proofs.challenges.write.Statement.{statement}
 use Rattle.lookup_challenges.proofs.challenges.write.Tie as tie

@@ -1,4 +1,3 @@
-use mathlib.Core.Path.{_∙_}
 use Rattle.field.specs.laws.Word.{negM-mod}
 use borrow.Author.Needs.{needs}
 use Rattle.lookup_count.proofs.count.residue.Statement.{statement}

@@ -1,7 +1,6 @@
-use native.Mathlib.Omega.{arith}
 use mathlib.Core.Path.{refl}
 use lib.ListN.{length}
-use Prim.Native.Nat.{_-_, _+_, _*_}
+use Prim.Native.Nat.{_-_}
 use Rattle.lookup_protocol.specs.laws.Height.{WeightSoFar, weight-none, weight-next, weight-all, part-in, part-few}
 use borrow.Author.Needs.{needs}
 use Rattle.lookup_protocol.proofs.protocol.height_sum.Statement.{statement}

@@ -1,4 +1,3 @@
-use mathlib.Core.Path.{refl}
 use Rattle.lookup_protocol.specs.Terminals.{terminal-below}
 use borrow.Author.Needs.{needs}
 use Rattle.lookup_protocol.proofs.protocol.terminal_below.Statement.{statement}

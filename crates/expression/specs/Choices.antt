@@ -1,0 +1,24 @@
+-- The choices of a call, by number: the field in which it computes, the profile whose limits it keeps, and for generation and constraints the
+-- tuple rule. SPECIFICATION, section 1.5: "An unknown field, profile or rule is refusal 1, before anything else is read."
+use Prim.Native.Nat.{ℕ}
+use mathlib.Core.Bool.{Bool, _&&_}
+use lib.Dec.{eqb}
+use Rattle.field.specs.Known.{known-field}
+use Rattle.expression.specs.Limits.{cabinet}
+use Rattle.expression.specs.declared.choices.Choices.{Choices}
+use Rattle.expression.specs.declared.sizes.Limits.{Limits}
+
+abbrev pub choices-of : ℕ → ℕ → Choices
+choices-of field profile = record { field = field; profile = profile }
+
+-- profile 1 is the cabinet
+unfoldable pub known : Choices → Bool
+known c = known-field (c .field) && eqb (c .profile) 1
+
+-- the tuple rule of SPECIFICATION, section 4.2, is rule 1
+unfoldable pub known-rule : ℕ → Bool
+known-rule rule = eqb rule 1
+
+-- the limits of a known profile; a call that names another is refused before they are read
+unfoldable pub limits-of : ℕ → Limits
+limits-of profile = cabinet

@@ -1,0 +1,36 @@
+// The choices of a call, by number. Every entry point that can refuse takes them first, and tests them before anything else.
+use crate::sizes::Limits;
+use crate::sizes::cabinet;
+use field::modulus::known_field;
+ghost use mathlib.Core.Path.{_≡_};
+ghost use Rattle.expression.specs.Choices.{known, known-rule, limits-of};
+
+// The field, by the number that the field crate gives it, and the profile, whose limits the call keeps.
+pub struct Choices {
+    pub field: u32,
+    pub profile: u32,
+}
+
+pub const CABINET_NUMBER: u32 = 1;
+
+pub const RULE_1: u32 = 1;
+
+pub fn known(choices: Choices) -> bool
+    ensures { λ r. ⌜ r ≡ known choices ⌝ }
+{
+    known_field(choices.field) & (choices.profile == CABINET_NUMBER)
+}
+
+// The tuple rule, which generation and constraints take beside the other choices.
+pub fn known_rule(rule: u32) -> bool
+    ensures { λ r. ⌜ r ≡ known-rule rule ⌝ }
+{
+    rule == RULE_1
+}
+
+// The limits of a profile. The cabinet's is the only one known: a call that names another is refused before its limits are read.
+pub fn limits_of(profile: u32) -> Limits
+    ensures { λ r. ⌜ r ≡ limits-of profile ⌝ }
+{
+    cabinet()
+}
