@@ -8,8 +8,11 @@ use mathlib.Core.List.{List, [], _∷_, List·Memᴰ}
 use lib.Dec.{T}
 use lib.ListN.{length}
 use Rattle.field.specs.Modulus.{Certificate}
+use Rattle.field.specs.Known.{prime-of, w-of}
 use Rattle.field.specs.Extension.{K}
 use Rattle.theorems_logup.specs.Sets.{Pairing}
+use Rattle.expression.specs.Choices.{known, limits-of}
+use Rattle.expression.specs.declared.choices.Choices.{Choices}
 use Rattle.expression.specs.declared.sizes.Limits.{Limits}
 use Rattle.lookup.specs.Tests.{words-below}
 use Rattle.balance_slots.specs.Nets.{net-of}
@@ -17,7 +20,7 @@ use Rattle.balance.specs.Tables.{TableLists}
 use Rattle.balance.specs.Groups.{Member}
 use Rattle.balance.specs.Entries.{entries}
 use Rattle.balance.specs.Refusals.{tables-refusal}
-use Rattle.balance.specs.Balance.{check}
+use Rattle.balance.specs.Balance.{Check, check-at}
 use Rattle.balance.specs.Passes.{Fits, Balanced, AllGroups, groups-of}
 use Rattle.theorems_balance.specs.Sums.{Wide, group-sum, IdenticallyZero, Vanishes, Sampled}
 
@@ -41,13 +44,13 @@ abbrev pub AllVanish : (p w : ℕ) (C : Certificate p w) (gs : List (List Member
 AllVanish p w C [] ss = Unit {0}
 AllVanish p w C (ms ∷ gs) (s, ss) = Vanishes p w C ms (s .set) × AllVanish p w C gs ss
 
--- The entry point, by the definition that its contract cites: where refusals 1 to 5 and 9 are not given and the different tuples of each group have
--- slots, balance refuses nothing exactly where the sum of every group over all tables vanishes at every pair of a full set for that group.
-abbrev pub SumsDetermineBalance : Limits → (p w : ℕ) → Certificate p w → Type 0
-SumsDetermineBalance m p w C =
+-- Where refusals 1 to 5 and 9 are not given and the different tuples of each group have slots, balance refuses nothing exactly where the sum of every
+-- group over all tables vanishes at every pair of a full set for that group.
+abbrev pub SumsDetermineBalance : Limits → (p w : ℕ) → Certificate p w → Check → Type 0
+SumsDetermineBalance m p w C check =
     (l : TableLists) (workspace : List ℕ) → tables-refusal m p l ≡ none → AllGroups (Fits p (length workspace)) (groups-of l)
     → (samples : AllGroups (Sampled p w C) (groups-of l))
-    → (check m p l workspace .refusal ≡ none) ↔ AllVanish p w C (groups-of l) samples
+    → (check l workspace .refusal ≡ none) ↔ AllVanish p w C (groups-of l) samples
 
 -- the tuples of a group are of one width
 abbrev pub OneWidth : List Member → Type 0
@@ -58,8 +61,25 @@ abbrev pub SamplesExist : Limits → (p w : ℕ) → Certificate p w → Type 0
 SamplesExist m p w C = (l : TableLists) → tables-refusal m p l ≡ none → AllGroups OneWidth (groups-of l) → AllGroups (Sampled p w C) (groups-of l)
 
 -- So, as the paper has it for functions: balance refuses nothing exactly where the sum of every group over all tables is identically zero.
-abbrev pub BalanceIsTheIdentity : Limits → (p w : ℕ) → Certificate p w → Type 0
-BalanceIsTheIdentity m p w C =
+abbrev pub BalanceIsTheIdentity : Limits → (p w : ℕ) → Certificate p w → Check → Type 0
+BalanceIsTheIdentity m p w C check =
     (l : TableLists) (workspace : List ℕ) → tables-refusal m p l ≡ none → AllGroups (Fits p (length workspace)) (groups-of l)
     → AllGroups OneWidth (groups-of l)
-    → (check m p l workspace .refusal ≡ none) ↔ AllGroups (IdenticallyZero p w C) (groups-of l)
+    → (check l workspace .refusal ≡ none) ↔ AllGroups (IdenticallyZero p w C) (groups-of l)
+
+-- What holds of the entry point at every known field and profile, by the definition that its contract cites, with that profile's limits and that
+-- field's prime and value of X⁴.
+abbrev pub AtKnownChoices : ((m : Limits) (p w : ℕ) → Certificate p w → Check → Type 0) → Type 0
+AtKnownChoices S =
+    (c : Choices) → T (known c) → (C : Certificate (prime-of (c .field)) (w-of (c .field)))
+    → S (limits-of (c .profile)) (prime-of (c .field)) (w-of (c .field)) C (check-at c)
+
+-- the three in each field
+abbrev pub KnownSums : Type 0
+KnownSums = AtKnownChoices SumsDetermineBalance
+
+abbrev pub KnownSamples : Type 0
+KnownSamples = AtKnownChoices (λ m p w C check. SamplesExist m p w C)
+
+abbrev pub KnownIdentity : Type 0
+KnownIdentity = AtKnownChoices BalanceIsTheIdentity

@@ -1,22 +1,25 @@
--- The worked cases c1 to c12 of SPECIFICATION, section 12.1: what the definitions give, beside the numbers that it names.
-use Prim.Native.Nat.{ℕ}
-use mathlib.Core.Option.{Option·getD}
+-- The worked cases c1 to c12 of SPECIFICATION, section 12.1, and some of them in field 2: what the definitions give, beside the numbers that are
+-- expected.
+use Prim.Native.Nat.{ℕ, _*_}
+use mathlib.Core.Option.{Option, Option·getD}
 use mathlib.Core.List.{List, [], _∷_, _++_, map}
 use lib.ListN.{length, replicate}
 use Rattle.lists.specs.Count.{joined}
 use Rattle.lists.specs.Cases.{Case}
 use Rattle.field.specs.Element.{lift, mul4}
-use Rattle.field.specs.Modulus.{babybear, babybear-w}
+use Rattle.field.specs.Known.{babybear, babybear-w, prime-of, w-of}
+use Rattle.expression.specs.Choices.{choices-of}
 use Rattle.expression.specs.Limits.{cabinet}
 use Rattle.expression.specs.Refusal.{answer-number, answer-details}
+use Rattle.expression.specs.declared.refusal.Refusal.{Refusal}
 use Rattle.lookup.specs.Lookups.{Lookups, Lookup, lookup-at}
 use Rattle.lookup.specs.Table.{Table}
 use Rattle.lookup_degree.specs.Degree.{node-degrees, lookup-degree}
 use Rattle.packing.specs.PackSameBus.{columns}
-use Rattle.lookup_challenges.specs.Prefixes.{prefix}
-use Rattle.lookup_protocol.specs.Height.{height-refusal}
+use Rattle.lookup_challenges.specs.Prefixes.{prefix, prefixes-at}
+use Rattle.lookup_protocol.specs.Height.{height-refusal, height-at}
 use Rattle.logup.specs.Tuple.{combine}
-use Rattle.logup.specs.Generation.{Answer, generation}
+use Rattle.logup.specs.Generation.{Answer, Outcome, generation, generation-at}
 
 -- one node: a column, of degree 1
 abbrev pub one-node : List ℕ
@@ -63,11 +66,17 @@ branching n times on rows = table-of 1 n n times on rows
 abbrev pub answer-words : Answer → List ℕ
 answer-words a = a .number ∷ a .details ++ Option·getD (a .terminal) []
 
--- what generation gives with this alpha and beta 0, in a buffer of so many words: its answer, then the buffer
+-- the answer, then the buffer
+abbrev pub outcome-words : Outcome → List ℕ
+outcome-words o = answer-words (o .answer) ++ o .buffer
+
+-- what generation gives with this alpha and beta 0, in a buffer of so many words
 abbrev pub generated : Table → ℕ → ℕ → List ℕ
-generated t alpha room =
-    let o = generation cabinet babybear babybear-w t (lift alpha ++ lift 0) (replicate room 7) in
-    answer-words (o .answer) ++ o .buffer
+generated t alpha room = outcome-words (generation cabinet babybear babybear-w t (lift alpha ++ lift 0) (replicate room 7))
+
+-- the same at the entry point in field 2
+abbrev pub generated-2 : Table → ℕ → ℕ → List ℕ
+generated-2 t alpha room = outcome-words (generation-at (choices-of 2 1) 1 t (lift alpha ++ lift 0) (replicate room 7))
 
 -- five lookups of one such tuple each
 abbrev pub five-singles : Lookups
@@ -85,11 +94,27 @@ five-singles =
 abbrev pub column-sizes : ℕ → List ℕ
 column-sizes limit = map (λ (l : Lookup). length (l .tuples)) (columns limit one-node five-singles)
 
--- one lookup of this weight, in a table of this height
+-- a number and three details
+abbrev pub refusal-words : Option Refusal → List ℕ
+refusal-words r = answer-number r ∷ answer-details r
+
+-- one lookup of this weight
+abbrev pub weighing : ℕ → List ℕ
+weighing weight = 1 ∷ 0 ∷ weight ∷ 0 ∷ 0 ∷ 0 ∷ 0 ∷ 0 ∷ []
+
+-- in a table of this height
 abbrev pub bound-of : ℕ → ℕ → List ℕ
-bound-of weight height =
-    let r = height-refusal cabinet babybear (1 ∷ 0 ∷ weight ∷ 0 ∷ 0 ∷ 0 ∷ 0 ∷ 0 ∷ []) (1 ∷ []) (height ∷ []) in
-    answer-number r ∷ answer-details r
+bound-of weight height = refusal-words (height-refusal cabinet babybear (weighing weight) (1 ∷ []) (height ∷ []))
+
+-- the same at the entry point in field 2
+abbrev pub bound-of-2 : ℕ → ℕ → List ℕ
+bound-of-2 weight height = refusal-words (height-at (choices-of 2 1) (weighing weight) (1 ∷ []) (height ∷ []))
+
+-- so many prefixes of these words at the entry point in field 2: the answer's number, then the prefixes
+abbrev pub prefixes-2 : ℕ → ℕ → ℕ → ℕ → List ℕ
+prefixes-2 alpha beta width n =
+    let o = prefixes-at (choices-of 2 1) (lift alpha) (lift beta) width n (replicate (4 * n) 7) in
+    o .answer .number ∷ o .out
 
 abbrev pub cases : List Case
 cases =
@@ -121,4 +146,21 @@ cases =
     ∷ record { computed = joined (prefix babybear babybear-w (lift 1) (lift 2) 3) 0 2; expected = lift 9 ++ lift 17 }
     -- c12: weight 2013265920, height 1: passes
     ∷ record { computed = bound-of 2013265920 1; expected = 0 ∷ 0 ∷ 0 ∷ 0 ∷ [] }
+    ∷ []
+
+-- p = 2130706433 and X⁴ = 3
+abbrev pub field-2-cases : List Case
+field-2-cases =
+    -- c3: X³ × X = 3
+    record { computed = mul4 (prime-of 2) (w-of 2) (0 ∷ 0 ∷ 0 ∷ 1 ∷ []) (0 ∷ 1 ∷ 0 ∷ 0 ∷ []); expected = lift 3 }
+    -- c4: fractions 1065353217 and 1, terminal 1065353218
+    ∷ record {
+      computed = generated-2 (additive 1 (3 ∷ 4 ∷ [])) 5 16;
+      expected = replicate 4 0 ++ lift 1065353218 ++ lift 0 ++ lift 1065353217 ++ lift 1065353217 ++ lift 1;
+    }
+    -- c11: the same 9, 17
+    ∷ record { computed = prefixes-2 1 2 3 2; expected = 0 ∷ lift 9 ++ lift 17 }
+    -- c12: weight 2130706432, height 1: passes; weight 2130706433: 19
+    ∷ record { computed = bound-of-2 2130706432 1; expected = 0 ∷ 0 ∷ 0 ∷ 0 ∷ [] }
+    ∷ record { computed = bound-of-2 2130706433 1; expected = 19 ∷ 2130706433 ∷ 0 ∷ 0 ∷ [] }
     ∷ []

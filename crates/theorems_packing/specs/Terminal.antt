@@ -8,11 +8,13 @@ use lib.Dec.{T}
 use lib.ListN.{length}
 use Rattle.field.specs.Element.{zero4, sum4}
 use Rattle.theorems_logup.specs.Sets.{Pair}
+use Rattle.expression.specs.Choices.{known, known-rule}
+use Rattle.expression.specs.declared.choices.Choices.{Choices}
 use Rattle.expression.specs.declared.sizes.Limits.{Limits}
 use Rattle.lookup.specs.Lookups.{Lookup, lookup-count, lookup-at, lookups-of}
 use Rattle.lookup.specs.Table.{Table, values-of}
 use Rattle.logup.specs.Rows.{fraction-at}
-use Rattle.logup.specs.Generation.{generation, accepts}
+use Rattle.logup.specs.Generation.{Generation, generation-at, accepts}
 use Rattle.theorems_packing.specs.Packed.{packed-table}
 use Rattle.theorems_packing.specs.Passes.{Tested}
 use Rattle.theorems_packing.specs.Same.{on-the-bus}
@@ -40,12 +42,16 @@ challenges-of c t = flatMap (λ (q : Pair (List ℕ)). q .alpha ++ q .beta) (pai
 
 -- Where generation accepts a table it accepts the packed table too, at the same pairs and with the same buffer, and the answers are the
 -- same: the same terminal, or none for both.
-abbrev pub SameTerminal : Type 0
-SameTerminal =
-    (m : Limits) (p w limit : ℕ) (t : Table) (c : SharedPairs) (buffer : List ℕ)
-    → T (accepts (generation m p w t (challenges-of c t) buffer .answer))
-    → generation m p w (packed-table limit t) (challenges-of c (packed-table limit t)) buffer .answer
-    ≡ generation m p w t (challenges-of c t) buffer .answer
+abbrev pub SameTerminal : Generation → Type 0
+SameTerminal generation =
+    (limit : ℕ) (t : Table) (c : SharedPairs) (buffer : List ℕ)
+    → T (accepts (generation t (challenges-of c t) buffer .answer))
+    → generation (packed-table limit t) (challenges-of c (packed-table limit t)) buffer .answer
+    ≡ generation t (challenges-of c t) buffer .answer
+
+-- of the entry point `generate` at every known field, profile and rule
+abbrev pub KnownSameTerminal : Type 0
+KnownSameTerminal = (c : Choices) (rule : ℕ) → T (known c) → T (known-rule rule) → SameTerminal (generation-at c rule)
 
 -- the sum of the fractions of all lookups on one bus, over all rows
 unfoldable pub bus-sum : ℕ → ℕ → Table → List ℕ → List ℕ → List ℕ

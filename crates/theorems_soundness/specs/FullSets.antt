@@ -8,7 +8,8 @@ use Rattle.expression.specs.declared.sizes.Limits.{Limits}
 use Rattle.lookup.specs.Table.{Table}
 use Rattle.logup.specs.Rows.{used}
 use Rattle.logup.specs.Ledger.{has-ledger, tuples-met}
-use Rattle.theorems_soundness.specs.Soundness.{Buffers, AcceptedAt, FullSet, AtEachPair}
+use Rattle.logup.specs.Generation.{Generation}
+use Rattle.theorems_soundness.specs.Soundness.{Buffers, AcceptedAt, FullSet, AtEachPair, AtKnownChoices}
 use Rattle.theorems_soundness.specs.Lawful.{LawfulFlags}
 
 -- "buffers that are long enough"
@@ -17,10 +18,14 @@ LongEnough t buffers = (alpha beta : List ℕ) → used (t .lookups .lookups) (t
 
 -- "for any two tables with ledgers, tuples of at most 8 words, lawful flags on every row, and buffers that are long enough, there is a full
 -- set at each pair of which generation accepts both"
-abbrev pub FullSetsExist : Limits → ℕ → ℕ → Type 0
-FullSetsExist m p w =
+abbrev pub FullSetsExist : Limits → ℕ → Generation → Type 0
+FullSetsExist m p g =
     (t₁ t₂ : Table) (width : ℕ) (buffers₁ buffers₂ : Buffers)
     → width ≤ 8 → T (has-ledger m p t₁) → T (has-ledger m p t₂) → LawfulFlags p t₁ → LawfulFlags p t₂
     → LongEnough t₁ buffers₁ → LongEnough t₂ buffers₂
     → (set : List (Pairing (List ℕ))) × FullSet p width (tuples-met p t₁ t₂) set
-    × AtEachPair set (AcceptedAt m p w t₁ buffers₁) × AtEachPair set (AcceptedAt m p w t₂ buffers₂)
+    × AtEachPair set (AcceptedAt g t₁ buffers₁) × AtEachPair set (AcceptedAt g t₂ buffers₂)
+
+-- in each field
+abbrev pub KnownFullSets : Type 0
+KnownFullSets = AtKnownChoices FullSetsExist

@@ -8,15 +8,17 @@ use mathlib.Core.List.{List}
 use lib.Dec.{T}
 use Rattle.field.specs.Element.{add4, element}
 use Rattle.field.specs.Modulus.{Certificate}
+use Rattle.field.specs.Known.{prime-of, w-of}
 use Rattle.field.specs.Extension.{K, KEl, el}
 use Rattle.theorems_logup.specs.Sums.{sum-to}
 use Rattle.theorems_logup.specs.Tables as Tables
-use Rattle.expression.specs.declared.sizes.Limits.{Limits}
+use Rattle.expression.specs.Choices.{known, known-rule}
+use Rattle.expression.specs.declared.choices.Choices.{Choices}
 use Rattle.lookup.specs.Lookups.{lookup-count}
 use Rattle.lookup.specs.Table.{Table, values-of}
 use Rattle.lookup.specs.Tests.{words-below}
 use Rattle.logup.specs.Rows.{fraction-at, row-sum, accumulator, first-fault}
-use Rattle.logup.specs.Generation.{terminal, generation}
+use Rattle.logup.specs.Generation.{Generation, terminal, generation-at}
 use Rattle.logup.specs.Ledger.{Element, lookup-entries, entries, at-pair}
 use Rattle.theorems_soundness.specs.Entries.{N}
 
@@ -53,17 +55,24 @@ AccumulatorIsTheSum p w C =
     → (n : ℕ) → n ≤ t .traces .shape .height → el p w C (accumulator p w (t .lookups) challenges (values-of p t) n) ≡ paper-sum p w C t challenges n
 
 -- the terminal that generation answers: the last accumulator plus the fractions of the last row, and the sum over all rows
-abbrev pub TerminalIsTheSum : Limits → (p w : ℕ) → Certificate p w → Type 0
-TerminalIsTheSum m p w C =
-    (t : Table) (challenges buffer e : List ℕ) → generation m p w t challenges buffer .answer ≡ terminal e
+abbrev pub TerminalIsTheSum : (p w : ℕ) → Certificate p w → Generation → Type 0
+TerminalIsTheSum p w C g =
+    (t : Table) (challenges buffer e : List ℕ) → g t challenges buffer .answer ≡ terminal e
     → (last : ℕ) → t .traces .shape .height ≡ suc last
     → (e
     ≡ add4 p (accumulator p w (t .lookups) challenges (values-of p t) last) (row-sum p w (t .lookups) challenges (values-of p t) last))
     × (el p w C e ≡ paper-sum p w C t challenges (t .traces .shape .height))
 
 -- and at one pair for all lookups the sum over all entries of the table, in any order
-abbrev pub TerminalAtPairIsTheSum : Limits → (p w : ℕ) → Certificate p w → Type 0
-TerminalAtPairIsTheSum m p w C =
+abbrev pub TerminalAtPairIsTheSum : (p w : ℕ) → Certificate p w → Generation → Type 0
+TerminalAtPairIsTheSum p w C g =
     (t : Table) (alpha beta buffer e : List ℕ) → Element p alpha → Element p beta
-    → generation m p w t (at-pair t alpha beta) buffer .answer ≡ terminal e
+    → g t (at-pair t alpha beta) buffer .answer ≡ terminal e
     → el p w C e ≡ Tables.terminal (K p w C) (N p w C) (el p w C alpha) (el p w C beta) (entries p t)
+
+-- of the entry point `generate` at every known field, profile and rule
+abbrev pub KnownTerminals : Type 0
+KnownTerminals =
+    (c : Choices) (rule : ℕ) → T (known c) → T (known-rule rule) → (C : Certificate (prime-of (c .field)) (w-of (c .field)))
+    → TerminalIsTheSum (prime-of (c .field)) (w-of (c .field)) C (generation-at c rule)
+    × TerminalAtPairIsTheSum (prime-of (c .field)) (w-of (c .field)) C (generation-at c rule)

@@ -1,4 +1,5 @@
--- Terminals determine ledgers, as a statement. SPECIFICATION, section 9.3. Its proof is laws/Soundness.antt.
+-- Terminals determine ledgers, as a statement: for a generation, and for the entry point's in every known field. SPECIFICATION, section 9.3. Its
+-- proof is laws/Soundness.antt.
 use Prim.Native.Nat.{ℕ, _+_, _*_, _-_, _/_, _<_, _≤_}
 use mathlib.Core.Path.{_≡_}
 use mathlib.Core.Logic.{_↔_}
@@ -6,12 +7,15 @@ use mathlib.Core.Bool.{false}
 use mathlib.Core.List.{List, map, List·Memᴰ}
 use lib.Dec.{T}
 use lib.ListN.{length}
+use Rattle.field.specs.Known.{prime-of}
 use Rattle.theorems_logup.specs.Distinct.{Distinct}
 use Rattle.theorems_logup.specs.Sets.{Pairing}
+use Rattle.expression.specs.Choices.{known, known-rule, limits-of}
+use Rattle.expression.specs.declared.choices.Choices.{Choices}
 use Rattle.expression.specs.declared.sizes.Limits.{Limits}
 use Rattle.lookup.specs.Lookups.{lookup-count, tuple-count, tuple-width, lookup-at}
 use Rattle.lookup.specs.Table.{Table}
-use Rattle.logup.specs.Generation.{Answer, generation, accepts, terminal-words}
+use Rattle.logup.specs.Generation.{Answer, Generation, generation-at, accepts, terminal-words}
 use Rattle.logup.specs.Ledger.{has-ledger, ledger, tuples-met, Element, Listed, at-pair}
 
 -- "all lookups of both on one bus"
@@ -42,18 +46,18 @@ SameLedger p width t₁ t₂ = (l : List ℕ) → Listed p width l → ledger p 
 abbrev pub Buffers : Type 0
 Buffers = List ℕ → List ℕ → List ℕ
 
--- generation's answer at a pair, with the buffer that is lent to that call
-abbrev pub answer-at : Limits → ℕ → ℕ → Table → Buffers → List ℕ → List ℕ → Answer
-answer-at m p w t buffers alpha beta = generation m p w t (at-pair t alpha beta) (buffers alpha beta) .answer
+-- its answer at a pair, with the buffer that is lent to that call
+abbrev pub answer-at : Generation → Table → Buffers → List ℕ → List ℕ → Answer
+answer-at g t buffers alpha beta = g t (at-pair t alpha beta) (buffers alpha beta) .answer
 
 -- "It accepts where it refuses nothing."
-abbrev pub AcceptedAt : Limits → ℕ → ℕ → Table → Buffers → List ℕ → List ℕ → Type 0
-AcceptedAt m p w t buffers alpha beta = T (accepts (answer-at m p w t buffers alpha beta))
+abbrev pub AcceptedAt : Generation → Table → Buffers → List ℕ → List ℕ → Type 0
+AcceptedAt g t buffers alpha beta = T (accepts (answer-at g t buffers alpha beta))
 
 -- "Terminals agree where their four words are equal; an absent one counts as four zeros."
-abbrev pub AgreeAt : Limits → ℕ → ℕ → Table → Table → Buffers → Buffers → List ℕ → List ℕ → Type 0
-AgreeAt m p w t₁ t₂ buffers₁ buffers₂ alpha beta =
-    terminal-words (answer-at m p w t₁ buffers₁ alpha beta) ≡ terminal-words (answer-at m p w t₂ buffers₂ alpha beta)
+abbrev pub AgreeAt : Generation → Table → Table → Buffers → Buffers → List ℕ → List ℕ → Type 0
+AgreeAt g t₁ t₂ buffers₁ buffers₂ alpha beta =
+    terminal-words (answer-at g t₁ buffers₁ alpha beta) ≡ terminal-words (answer-at g t₂ buffers₂ alpha beta)
 
 -- SPECIFICATION, section 9.2: "1 + (w - 1) · n · (n - 1) / 2 different betas, and with each beta n different alphas", "each beta may have
 -- alphas of its own. With n = 0 the set has no pair."
@@ -71,16 +75,25 @@ AtEachPair set P = (r : Pairing (List ℕ)) → List·Memᴰ r set → (alpha : 
 
 -- "Take a full set at each pair of which generation accepts both tables, whatever buffers it is lent. Then the two ledgers are equal
 -- exactly where the two terminals agree at every pair of the set."
-abbrev pub TerminalsDetermineLedgers : Limits → ℕ → ℕ → Table → Table → ℕ → List (Pairing (List ℕ)) → Buffers → Buffers → Type 0
-TerminalsDetermineLedgers m p w t₁ t₂ width set buffers₁ buffers₂ =
+abbrev pub TerminalsDetermineLedgers : ℕ → Generation → Table → Table → ℕ → List (Pairing (List ℕ)) → Buffers → Buffers → Type 0
+TerminalsDetermineLedgers p g t₁ t₂ width set buffers₁ buffers₂ =
     FullSet p width (tuples-met p t₁ t₂) set
-    → AtEachPair set (AcceptedAt m p w t₁ buffers₁)
-    → AtEachPair set (AcceptedAt m p w t₂ buffers₂)
-    → SameLedger p width t₁ t₂ ↔ AtEachPair set (AgreeAt m p w t₁ t₂ buffers₁ buffers₂)
+    → AtEachPair set (AcceptedAt g t₁ buffers₁)
+    → AtEachPair set (AcceptedAt g t₂ buffers₂)
+    → SameLedger p width t₁ t₂ ↔ AtEachPair set (AgreeAt g t₁ t₂ buffers₁ buffers₂)
 
--- the theorem of section 9.3
-abbrev pub LogUpSoundness : Limits → ℕ → ℕ → Type 0
-LogUpSoundness m p w =
+-- for a generation, the limits that it keeps and the prime of its field
+abbrev pub LogUpSoundness : Limits → ℕ → Generation → Type 0
+LogUpSoundness m p g =
     (t₁ t₂ : Table) (bus : List ℕ) (width : ℕ) (set : List (Pairing (List ℕ))) (buffers₁ buffers₂ : Buffers)
     → Comparable m p t₁ t₂ bus width
-    → TerminalsDetermineLedgers m p w t₁ t₂ width set buffers₁ buffers₂
+    → TerminalsDetermineLedgers p g t₁ t₂ width set buffers₁ buffers₂
+
+-- what holds of the entry point `generate` at every known field, profile and rule, with that profile's limits and that field's prime
+abbrev pub AtKnownChoices : (Limits → ℕ → Generation → Type 0) → Type 0
+AtKnownChoices S =
+    (c : Choices) (rule : ℕ) → T (known c) → T (known-rule rule) → S (limits-of (c .profile)) (prime-of (c .field)) (generation-at c rule)
+
+-- the theorem of section 9.3: in each field, both tables and the whole set being of it
+abbrev pub KnownSoundness : Type 0
+KnownSoundness = AtKnownChoices LogUpSoundness

@@ -4,26 +4,30 @@ use mathlib.Core.Logic.{_↔_, _⊎_, inl, inr, ⊎-elim}
 use mathlib.Core.List.{List, [], _∷_, map, List·Memᴰ, List·Memᴰ·head, List·Memᴰ·tail, List·Memᴰ·not-nil, List·Memᴰ·cases-cons}
 use Prim.Native.Nat.{ℕ}
 use lib.ListN.{length}
-use Rattle.field.specs.Modulus.{Modulus, Certificate, babybear, babybear-w}
+use Rattle.field.specs.Modulus.{Modulus, Certificate}
+use Rattle.field.specs.Known.{prime-of, w-of}
 use Rattle.field.specs.Extension.{K, KEl}
-use Rattle.field.specs.laws.Extension.{h, babybear-certificate, babybear-modulus}
+use Rattle.field.specs.laws.Extension.{h}
+use Rattle.field.specs.laws.Known.{modulus-of}
 use Rattle.theorems_logup.specs.Tables as Tables
 use Rattle.theorems_logup.specs.Sets as Sets
 use Rattle.theorems_logup.specs.Sets.{Pairing}
 use Rattle.theorems_logup.specs.laws.Support.{support, support-is}
 use Rattle.theorems_logup.specs.laws.Balance.{vanishes}
-use Rattle.expression.specs.Limits.{cabinet}
+use Rattle.expression.specs.Choices.{limits-of}
 use Rattle.expression.specs.declared.sizes.Limits.{Limits}
 use Rattle.logup.specs.Ledger.{Entry, met}
 use Rattle.balance.specs.Groups.{Member}
 use Rattle.balance.specs.Entries.{entries}
+use Rattle.balance.specs.Balance.{check}
 use Rattle.balance.specs.Passes.{Fits, Passes, AllGroups, groups-of}
 use Rattle.balance.specs.laws.Passes.{check-passes}
+use Rattle.balance.specs.laws.Balance.{check-known}
 use Rattle.theorems_soundness.specs.Entries.{N}
 use Rattle.theorems_soundness.specs.laws.Ledgers.{met-is}
 use Rattle.theorems_soundness.specs.laws.Pairs.{in-field, each-pair, full}
 use Rattle.theorems_balance.specs.Sums.{group-sum, Sampled}
-use Rattle.theorems_balance.specs.Balance.{WordsBelow, AllVanish, SumsDetermineNets, NetsAreSeen, SumsDetermineBalance}
+use Rattle.theorems_balance.specs.Balance.{WordsBelow, AllVanish, SumsDetermineNets, NetsAreSeen, SumsDetermineBalance, KnownSums}
 use Rattle.theorems_balance.specs.laws.Nets.{net-is}
 use Rattle.theorems_balance.specs.laws.Groups.{words-of-groups, table-of-group}
 
@@ -94,12 +98,14 @@ module _ (p w : ℕ) (M : Modulus p) (C : Certificate p w) where
       let (theres, backs) = all-groups room gs (λ g k. below g (List·Memᴰ·tail k)) fits samples in
       (λ x. (there (x .0 .1), theres (x .1)), λ x. ((f, back (x .0)), backs (x .1)))
 
-  pub sums-determine-balance : (m : Limits) → SumsDetermineBalance m p w C
+  pub sums-determine-balance : (m : Limits) → SumsDetermineBalance m p w C (check m p)
   sums-determine-balance m l workspace e fits samples =
       let (there, back) = check-passes m p (h p w C) l workspace in
       let (theres, backs) = all-groups (length workspace) (groups-of l) (words-of-groups m p l e) fits samples in
       (λ x. theres (there x .1), λ x. back (e, backs x))
 
--- for the cabinet and its field
-pub cabinet-sums-determine-balance : SumsDetermineBalance cabinet babybear babybear-w babybear-certificate
-cabinet-sums-determine-balance = sums-determine-balance babybear babybear-w babybear-modulus babybear-certificate cabinet
+-- at the entry point, in each field
+pub known-sums : KnownSums
+known-sums c k C =
+    subst (SumsDetermineBalance (limits-of (c .profile)) (prime-of (c .field)) (w-of (c .field)) C) (sym (check-known c k))
+    (sums-determine-balance (prime-of (c .field)) (w-of (c .field)) (modulus-of (c .field)) C (limits-of (c .profile)))

@@ -1,5 +1,6 @@
--- The theorems at work on two tables with one bus: the first enters (3) once, the second `count` times. The hypotheses are met. With count p - 1 the
--- sum vanishes, and so balance refuses nothing; with count 2 it does not, and balance refuses.
+-- The theorems at work on two tables with one bus, at the entry point in each field: the first table enters (3) once, the second `count` times. The
+-- hypotheses are met. Where the count is p - 1 the sum vanishes, and so balance refuses nothing; else it does not, and balance refuses. So the tables
+-- that balance in field 1 are refused in field 2.
 use Prim.Native.Nat.{ℕ}
 use mathlib.Core.Path.{_≡_, refl, sym, ap, _∙_, subst}
 use mathlib.Core.Logic.{_≢_, _↔_, ⊎-elim}
@@ -8,8 +9,8 @@ use mathlib.Core.Option.{none}
 use mathlib.Core.List.{List, [], _∷_, _++_, flatMap, List·Memᴰ, List·Memᴰ·head, List·Memᴰ·cases-cons, List·Memᴰ·eq-of-singleton}
 use native.Mathlib.Omega.{arith}
 use native.Mathlib.Nat.{le-of-eq}
+use lib.Dec.{T, eqb}
 use lib.ListN.{length, replicate}
-use Rattle.algebra.specs.Field.{Field}
 use Rattle.algebra.specs.Power.{powM}
 use Rattle.lists.specs.Same.{same-list}
 use Rattle.lists.specs.Count.{total, every, joined}
@@ -17,12 +18,15 @@ use Rattle.lists.specs.Fold.{fold}
 use Rattle.lists.specs.Tab.{tab}
 use Rattle.field.specs.Word.{addM, negM, subM, mulM, inverse1}
 use Rattle.field.specs.Element.{lift, add4, sub4, mul4, scale4, power4, sum4, conjugate, conjugate2, norm2, norm, inverse4, is-zero}
-use Rattle.field.specs.Modulus.{babybear, babybear-w}
+use Rattle.field.specs.Known.{known-field, prime-of, w-of}
+use Rattle.field.specs.Modulus.{Certificate}
 use Rattle.field.specs.Extension.{K, KEl, el}
-use Rattle.field.specs.laws.Extension.{babybear-certificate, babybear-modulus}
+use Rattle.field.specs.laws.Known.{modulus-of, certificate-of}
 use Rattle.theorems_logup.specs.Tables as Tables
 use Rattle.theorems_logup.specs.Sets.{Pairing}
 use Rattle.expression.specs.Words.{all-below, all-within}
+use Rattle.expression.specs.Choices as Choices
+use Rattle.expression.specs.Choices.{choices-of, limits-of}
 use Rattle.expression.specs.Limits.{cabinet}
 use Rattle.expression.specs.Node.{decode, node}
 use Rattle.expression.specs.Window.{row-of, window}
@@ -41,18 +45,19 @@ use Rattle.balance.specs.Tables.{TableLists, shape-at, lookups-at, table-at, ta
 use Rattle.balance.specs.Groups.{Member, members, same-bus, appears, local-group, bus-group, bus-groups, groups}
 use Rattle.balance.specs.Entries.{count-of, entry-of, row-entries, member-entries, entries}
 use Rattle.balance.specs.Refusals.{all, listed, covered, tables-refusal}
-use Rattle.balance.specs.Balance.{check}
+use Rattle.balance.specs.Balance.{check-at}
 use Rattle.balance.specs.laws.Cases.{columns, bus-words}
 use Rattle.balance.specs.Passes.{Fits, AllGroups, groups-of}
 use Rattle.theorems_soundness.specs.Soundness.{FullSet}
 use Rattle.theorems_soundness.specs.Entries.{N}
 use Rattle.theorems_soundness.specs.laws.Example.{one-pair, one-full, at-one}
+use Rattle.theorems_soundness.specs.laws.Choices.{prime-least}
 use Rattle.theorems_balance.specs.Sums.{Wide, group-sum, IdenticallyZero, Vanishes, Sampled}
 use Rattle.theorems_balance.specs.Balance.{AllVanish, OneWidth}
 use Rattle.theorems_balance.specs.laws.Words.{sum-words, sum-zero-iff, accepts-of}
 use Rattle.theorems_balance.specs.laws.Groups.{words-of-groups}
-use Rattle.theorems_balance.specs.laws.Balance.{nets-are-seen, cabinet-sums-determine-balance}
-use Rattle.theorems_balance.specs.laws.Identity.{cabinet-balance-is-the-identity}
+use Rattle.theorems_balance.specs.laws.Balance.{nets-are-seen, known-sums}
+use Rattle.theorems_balance.specs.laws.Identity.{known-identity}
 
 -- two tables of one row each, with a lookup on the bus "b" each: the tuple (column 0), counted column 1 times
 abbrev exchange : ℕ → TableLists
@@ -82,24 +87,32 @@ both count = members (tables-of (exchange count))
 abbrev entered : ℕ → List Entry
 entered count = record { tuple = 3 ∷ []; count = 1 } ∷ record { tuple = 3 ∷ []; count = count } ∷ []
 
--- what is computed of a count: the tests find nothing, the lookups of both tables are one group, and its entries
-record Computed (count : ℕ) : Type 0 where
-  tests : tables-refusal cabinet babybear (exchange count) ≡ none
+-- what is computed of a count in a field: the tests find nothing, the lookups of both tables are one group, and its entries; the net of (3) there;
+-- the denominator of (3), which is 2, and where the sum of 1 ÷ 2 and count ÷ 2 is zero
+record Computed (field count net : ℕ) : Type 0 where
+  is-known : T (Choices.known (choices-of field 1))
+  tests : tables-refusal (limits-of 1) (prime-of field) (exchange count) ≡ none
   grouped : groups-of (exchange count) ≡ both count ∷ []
-  entries-are : entries babybear (both count) ≡ entered count
+  entries-are : entries (prime-of field) (both count) ≡ entered count
   tuple-met : length (met (entered count)) ≡ 1
-  slots-few : length (slots babybear (entered count)) ≡ 1
+  slots-few : length (slots (prime-of field) (entered count)) ≡ 1
+  net-is : net-of (prime-of field) (entered count) (3 ∷ []) ≡ net
+  nonzero : is-zero (denominator (prime-of field) (w-of field) (lift 5) (lift 7) (3 ∷ [])) ≡ false
+  zero-sum : is-zero (sum-words (prime-of field) (w-of field) (lift 5) (lift 7) (entered count)) ≡ eqb net 0
 
-computed : Computed 2013265920 × Computed 2
-unfolding addM mulM total every joined fold tab flatMap all-below all-within cabinet decode node row-of window node-value values row-values
-    node-degree degrees traces-within nodes-within traces-fit nodes-fit traces-below constants-below nodes-known degrees-low name-start tuple-start
-    multiplicity-start flag-start element-start tuple-width tuple-nodes lookup-at lookups-of lookups-within lookups-fit sizes words-below known
-    lengths-agree nodes-present lists-agree has-lookups preprocessed-enough same-list add-nonzero add slots keep size-start table-part shape-at
-    lookups-at table-at tables-of lists-fit members same-bus appears local-group bus-group bus-groups groups count-of entry-of row-entries
-    member-entries entries all listed covered tables-refusal listed-in met
+computed : Computed 1 2013265920 0 × Computed 1 2 3 × Computed 2 2130706432 0 × Computed 2 2013265920 2013265921
+unfolding powM known-field prime-of w-of addM negM subM mulM inverse1 add4 sub4 mul4 scale4 power4 sum4 conjugate conjugate2 norm2 norm inverse4
+    is-zero total every joined fold tab flatMap all-below all-within Choices.known limits-of cabinet decode node row-of window node-value values
+    row-values node-degree degrees traces-within nodes-within traces-fit nodes-fit traces-below constants-below nodes-known degrees-low name-start
+    tuple-start multiplicity-start flag-start element-start tuple-width tuple-nodes lookup-at lookups-of lookups-within lookups-fit sizes words-below
+    known lengths-agree nodes-present lists-agree has-lookups preprocessed-enough combine denominator quotient4 same-list post listed-in met
+    add-nonzero add slots net-of keep size-start table-part shape-at lookups-at table-at tables-of lists-fit members same-bus appears local-group
+    bus-group bus-groups groups count-of entry-of row-entries member-entries entries all listed covered tables-refusal sum-words
 computed = (
-  record { tests = refl; grouped = refl; entries-are = refl; tuple-met = refl; slots-few = refl },
-  record { tests = refl; grouped = refl; entries-are = refl; tuple-met = refl; slots-few = refl },
+  record { is-known = tt; tests = refl; grouped = refl; entries-are = refl; tuple-met = refl; slots-few = refl; net-is = refl; nonzero = refl; zero-sum = refl },
+  record { is-known = tt; tests = refl; grouped = refl; entries-are = refl; tuple-met = refl; slots-few = refl; net-is = refl; nonzero = refl; zero-sum = refl },
+  record { is-known = tt; tests = refl; grouped = refl; entries-are = refl; tuple-met = refl; slots-few = refl; net-is = refl; nonzero = refl; zero-sum = refl },
+  record { is-known = tt; tests = refl; grouped = refl; entries-are = refl; tuple-met = refl; slots-few = refl; net-is = refl; nonzero = refl; zero-sum = refl },
 )
 
 -- the nodes of a lookup's only tuple
@@ -119,117 +132,128 @@ wide count m k nodes i =
 abbrev workspace : List ℕ
 workspace = replicate 10 7
 
--- the denominator of (3) is 2; 1 ÷ 2 - 1 ÷ 2 is 0, and 1 ÷ 2 + 2 ÷ 2 is not
-words : (is-zero (denominator babybear babybear-w (lift 5) (lift 7) (3 ∷ [])) ≡ false)
-    × (is-zero (sum-words babybear babybear-w (lift 5) (lift 7) (entered 2013265920)) ≡ true)
-    × (is-zero (sum-words babybear babybear-w (lift 5) (lift 7) (entered 2)) ≡ false)
-unfolding powM addM negM subM mulM inverse1 add4 sub4 mul4 scale4 power4 sum4 conjugate conjugate2 norm2 norm inverse4 is-zero combine denominator
-    quotient4 sum-words
-words = (refl, refl, refl)
+-- some pair of the set sees that the group's sum is not zero
+abbrev Seen : ℕ → ℕ → Type 0
+Seen field count =
+    (r : Pairing (List ℕ)) × List·Memᴰ r one-pair × (alpha : List ℕ) × List·Memᴰ alpha (r .alphas)
+    × (group-sum (prime-of field) (w-of field) (certificate-of field) (both count) alpha (r .beta)
+    ≢ K (prime-of field) (w-of field) (certificate-of field) .ring .z)
 
-abbrev field : Field
-field = K babybear babybear-w babybear-certificate
+-- the sum of each group is zero at every pair that is no pole
+abbrev Zero : ℕ → ℕ → Type 0
+Zero field count = AllGroups (IdenticallyZero (prime-of field) (w-of field) (certificate-of field)) (groups-of (exchange count))
 
-abbrev base : Tables.Entries field
-base = N babybear babybear-w babybear-certificate
+module _ (field count net : ℕ) (c : Computed field count net) where
+  abbrev p : ℕ
+  p = prime-of field
 
-abbrev ⟦_⟧ : List ℕ → KEl babybear babybear-w babybear-certificate
-⟦ a ⟧ = el babybear babybear-w babybear-certificate a
+  abbrev w : ℕ
+  w = w-of field
 
-module _ (count : ℕ) (c : Computed count) where
+  abbrev C : Certificate p w
+  C = certificate-of field
+
+  abbrev ⟦_⟧ : List ℕ → KEl p w C
+  ⟦ a ⟧ = el p w C a
+
   -- the group with its set: its entries have the denominator 2
-  sampled : Sampled babybear babybear-w babybear-certificate (both count)
+  sampled : Sampled p w C (both count)
   sampled =
       record {
         width = 1;
         wide = wide count;
         set = one-pair;
         full =
-            subst (λ (n : ℕ). FullSet babybear 1 n one-pair)
-            (sym (ap (λ (es : List Entry). length (met es)) (c .entries-are) ∙ c .tuple-met)) one-full;
+            subst (λ (n : ℕ). FullSet p 1 n one-pair)
+            (sym (ap (λ (es : List Entry). length (met es)) (c .entries-are) ∙ c .tuple-met)) (one-full p (prime-least field));
         no-pole =
-            at-one (λ a b. Tables.Accepts field base ⟦ a ⟧ ⟦ b ⟧ (entries babybear (both count)))
-            (subst (Tables.Accepts field base ⟦ lift 5 ⟧ ⟦ lift 7 ⟧) (sym (c .entries-are))
-            (accepts-of babybear babybear-w babybear-modulus babybear-certificate (lift 5) (lift 7) (entered count)
+            at-one (λ a b. Tables.Accepts (K p w C) (N p w C) ⟦ a ⟧ ⟦ b ⟧ (entries p (both count)))
+            (subst (Tables.Accepts (K p w C) (N p w C) ⟦ lift 5 ⟧ ⟦ lift 7 ⟧) (sym (c .entries-are))
+            (accepts-of p w (modulus-of field) C (lift 5) (lift 7) (entered count)
             (λ e k. ⊎-elim (λ q. three e q) (λ j. three e (List·Memᴰ·eq-of-singleton j)) (List·Memᴰ·cases-cons k))));
       }
     where
-      three : (e : Entry) {n : ℕ} → e ≡ record { tuple = 3 ∷ []; count = n } → is-zero (denominator babybear babybear-w (lift 5) (lift 7) (e .tuple)) ≡ false
-      three e q = ap (λ (e : Entry). is-zero (denominator babybear babybear-w (lift 5) (lift 7) (e .tuple))) q ∙ words .0
+      three : (e : Entry) {n : ℕ} → e ≡ record { tuple = 3 ∷ []; count = n } → is-zero (denominator p w (lift 5) (lift 7) (e .tuple)) ≡ false
+      three e q = ap (λ (e : Entry). is-zero (denominator p w (lift 5) (lift 7) (e .tuple))) q ∙ c .nonzero
 
-  -- its sum vanishes at the pair where the sum's words are zero
-  vanishes-iff : Vanishes babybear babybear-w babybear-certificate (both count) one-pair
-      ↔ (is-zero (sum-words babybear babybear-w (lift 5) (lift 7) (entered count)) ≡ true)
+  -- its sum vanishes at the pair where the net is zero
+  vanishes-iff : Vanishes p w C (both count) one-pair ↔ (eqb net 0 ≡ true)
   vanishes-iff =
-      let (there, back) = sum-zero-iff babybear babybear-w babybear-modulus babybear-certificate (lift 5) (lift 7) (entered count) in (
+      let (there, back) = sum-zero-iff p w (modulus-of field) C (lift 5) (lift 7) (entered count) in (
         λ v.
-            back
-            (subst (λ (es : List Entry). Tables.terminal field base ⟦ lift 5 ⟧ ⟦ lift 7 ⟧ es ≡ field .ring .z) (c .entries-are)
+            sym (c .zero-sum)
+            ∙ back
+            (subst (λ (es : List Entry). Tables.terminal (K p w C) (N p w C) ⟦ lift 5 ⟧ ⟦ lift 7 ⟧ es ≡ K p w C .ring .z) (c .entries-are)
             (v _ (List·Memᴰ·head refl) (lift 5) (List·Memᴰ·head refl))),
         λ e.
-            at-one (λ a b. group-sum babybear babybear-w babybear-certificate (both count) a b ≡ field .ring .z)
-            (subst (λ (es : List Entry). Tables.terminal field base ⟦ lift 5 ⟧ ⟦ lift 7 ⟧ es ≡ field .ring .z) (sym (c .entries-are)) (there e)),
+            at-one (λ a b. group-sum p w C (both count) a b ≡ K p w C .ring .z)
+            (subst (λ (es : List Entry). Tables.terminal (K p w C) (N p w C) ⟦ lift 5 ⟧ ⟦ lift 7 ⟧ es ≡ K p w C .ring .z) (sym (c .entries-are)) (there (c .zero-sum ∙ e))),
       )
 
   -- it is the only group
-  samples : (ss : AllGroups (Sampled babybear babybear-w babybear-certificate) (groups-of (exchange count)))
-      × (AllVanish babybear babybear-w babybear-certificate (groups-of (exchange count)) ss
-      ↔ Vanishes babybear babybear-w babybear-certificate (both count) one-pair)
+  samples : (ss : AllGroups (Sampled p w C) (groups-of (exchange count)))
+      × (AllVanish p w C (groups-of (exchange count)) ss ↔ Vanishes p w C (both count) one-pair)
   unfolding sampled
   samples =
       subst (λ (gs : List (List Member)).
-      (ss : AllGroups (Sampled babybear babybear-w babybear-certificate) gs)
-      × (AllVanish babybear babybear-w babybear-certificate gs ss ↔ Vanishes babybear babybear-w babybear-certificate (both count) one-pair))
+      (ss : AllGroups (Sampled p w C) gs) × (AllVanish p w C gs ss ↔ Vanishes p w C (both count) one-pair))
       (sym (c .grouped)) ((sampled, tt), (λ v. v .0, λ v. (v, tt)))
 
-  fits : AllGroups (Fits babybear (length workspace)) (groups-of (exchange count))
+  fits : AllGroups (Fits p (length workspace)) (groups-of (exchange count))
   fits =
-      subst (AllGroups (Fits babybear (length workspace))) (sym (c .grouped))
-      (le-of-eq (ap (λ (es : List Entry). length (slots babybear es)) (c .entries-are) ∙ c .slots-few), tt)
+      subst (AllGroups (Fits p (length workspace))) (sym (c .grouped))
+      (le-of-eq (ap (λ (es : List Entry). length (slots p es)) (c .entries-are) ∙ c .slots-few), tt)
+
+  one-width : AllGroups OneWidth (groups-of (exchange count))
+  one-width = subst (AllGroups OneWidth) (sym (c .grouped)) ((1, wide count), tt)
 
   -- the theorem at these two tables
-  told : (check cabinet babybear (exchange count) workspace .refusal ≡ none)
-      ↔ (is-zero (sum-words babybear babybear-w (lift 5) (lift 7) (entered count)) ≡ true)
+  told : (check-at (choices-of field 1) (exchange count) workspace .refusal ≡ none) ↔ (eqb net 0 ≡ true)
   told =
       let (ss, one) = samples in
-      let claim = cabinet-sums-determine-balance (exchange count) workspace (c .tests) fits ss in
+      let claim = known-sums (choices-of field 1) (c .is-known) C (exchange count) workspace (c .tests) fits ss in
       (λ e. vanishes-iff .0 (one .0 (claim .0 e)), λ e. claim .1 (one .1 (vanishes-iff .1 e)))
 
+  -- without sets: the sum is zero at every pair that is no pole
+  identity : (check-at (choices-of field 1) (exchange count) workspace .refusal ≡ none) ↔ Zero field count
+  identity = known-identity (choices-of field 1) (c .is-known) C (exchange count) workspace (c .tests) fits one-width
+
+  -- a net that is not zero is seen at the pair
+  seen-at : net ≢ 0 → Seen field count
+  unfolding sampled
+  seen-at n =
+      nets-are-seen p w (modulus-of field) C (both count)
+      (words-of-groups (limits-of 1) p (exchange count) (c .tests) (both count)
+      (subst (List·Memᴰ (both count)) (sym (c .grouped)) (List·Memᴰ·head refl)))
+      sampled (3 ∷ [])
+      (λ e. n (sym (c .net-is) ∙ ap (λ (es : List Entry). net-of p es (3 ∷ [])) (sym (c .entries-are)) ∙ e))
+
 -- the sum vanishes: balance refuses nothing
-pub cancelled : check cabinet babybear (exchange 2013265920) workspace .refusal ≡ none
-cancelled = told 2013265920 (computed .0) .1 (words .1)
+pub cancelled : (check-at (choices-of 1 1) (exchange 2013265920) workspace .refusal ≡ none)
+    × (check-at (choices-of 2 1) (exchange 2130706432) workspace .refusal ≡ none)
+cancelled = (told 1 2013265920 0 (computed .0) .1 refl, told 2 2130706432 0 (computed .2) .1 refl)
 
 -- it does not: balance refuses
-pub told-apart : check cabinet babybear (exchange 2) workspace .refusal ≢ none
-told-apart e = true≢false (sym (told 2 (computed .1) .0 e) ∙ words .2)
+pub told-apart : (check-at (choices-of 1 1) (exchange 2) workspace .refusal ≢ none)
+    × (check-at (choices-of 2 1) (exchange 2013265920) workspace .refusal ≢ none)
+told-apart = (
+  λ e. true≢false (sym (told 1 2 3 (computed .1) .0 e)),
+  λ e. true≢false (sym (told 2 2013265920 2013265921 (computed .3) .0 e)),
+)
 
--- the net of (3) is 3 then, and the pair sees it
-net-three : net-of babybear (entered 2) (3 ∷ []) ≡ 3
-unfolding addM net-of fold post same-list
-net-three = refl
+-- the net of (3) is 3 then, or the first prime, and the pair sees it
+pub seen : Seen 1 2 × Seen 2 2013265920
+seen = (seen-at 1 2 3 (computed .1) (λ e. omega arith), seen-at 2 2013265920 2013265921 (computed .3) (λ e. omega arith))
 
-pub seen : (r : Pairing (List ℕ)) × List·Memᴰ r one-pair × (alpha : List ℕ) × List·Memᴰ alpha (r .alphas)
-    × (group-sum babybear babybear-w babybear-certificate (both 2) alpha (r .beta) ≢ field .ring .z)
-unfolding sampled
-seen =
-    nets-are-seen babybear babybear-w babybear-modulus babybear-certificate (both 2)
-    (words-of-groups cabinet babybear (exchange 2) (computed .1 .tests) (both 2)
-    (subst (List·Memᴰ (both 2)) (sym (computed .1 .grouped)) (List·Memᴰ·head refl)))
-    (sampled 2 (computed .1)) (3 ∷ [])
-    (λ e.
-    let z : _≡_ {A = ℕ} 3 0 = sym net-three ∙ ap (λ (es : List Entry). net-of babybear es (3 ∷ [])) (sym (computed .1 .entries-are)) ∙ e in
-    omega arith)
+-- Without sets: with count p - 1 the sum is zero at every pair that is no pole, with the others it is not.
+pub identically-zero : Zero 1 2013265920 × Zero 2 2130706432
+identically-zero = (
+  identity 1 2013265920 0 (computed .0) .0 (cancelled .0),
+  identity 2 2130706432 0 (computed .2) .0 (cancelled .1),
+)
 
--- Without sets: with count p - 1 the sum is zero at every pair that is no pole, with count 2 it is not.
-one-width : (count : ℕ) → Computed count → AllGroups OneWidth (groups-of (exchange count))
-one-width count c = subst (AllGroups OneWidth) (sym (c .grouped)) ((1, wide count), tt)
-
-pub identically-zero : AllGroups (IdenticallyZero babybear babybear-w babybear-certificate) (groups-of (exchange 2013265920))
-identically-zero =
-    cabinet-balance-is-the-identity (exchange 2013265920) workspace (computed .0 .tests) (fits 2013265920 (computed .0))
-    (one-width 2013265920 (computed .0)) .0 cancelled
-
-pub not-identically-zero : ¬ AllGroups (IdenticallyZero babybear babybear-w babybear-certificate) (groups-of (exchange 2))
-not-identically-zero x =
-    told-apart
-    (cabinet-balance-is-the-identity (exchange 2) workspace (computed .1 .tests) (fits 2 (computed .1)) (one-width 2 (computed .1)) .1 x)
+pub not-identically-zero : ¬ Zero 1 2 × ¬ Zero 2 2013265920
+not-identically-zero = (
+  λ x. told-apart .0 (identity 1 2 3 (computed .1) .1 x),
+  λ x. told-apart .1 (identity 2 2013265920 2013265921 (computed .3) .1 x),
+)

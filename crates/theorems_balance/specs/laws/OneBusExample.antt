@@ -9,8 +9,8 @@ use Rattle.lists.specs.Same.{same-list}
 use Rattle.lists.specs.Count.{total, every, joined}
 use Rattle.lists.specs.Fold.{fold}
 use Rattle.field.specs.Word.{addM, mulM}
-use Rattle.field.specs.Modulus.{babybear}
-use Rattle.field.specs.laws.Extension.{babybear-modulus}
+use Rattle.field.specs.Known.{babybear}
+use Rattle.field.specs.laws.Known.{babybear-modulus}
 use Rattle.expression.specs.Words.{all-below, all-within}
 use Rattle.expression.specs.Limits.{cabinet}
 use Rattle.expression.specs.Node.{decode, node}

@@ -9,6 +9,9 @@ use lib.Dec.{ltb}
 use lib.ListN.{length}
 use borrow.Author.Tests.{ltb-true, lt-ltb}
 use Rattle.lists.specs.laws.Tests.{both-left, both-right}
+use Rattle.field.specs.Known.{prime-of}
+use Rattle.field.specs.laws.Known.{modulus-of}
+use Rattle.expression.specs.Choices.{limits-of}
 use Rattle.expression.specs.Node.{node-count}
 use Rattle.expression.specs.Refusal.{unless}
 use Rattle.expression.specs.Tests.{degrees-low}
@@ -21,12 +24,14 @@ use Rattle.lookup.specs.Tests.{sizes, words-below, known, lists-agree, has-look
 use Rattle.lookup.specs.laws.Tested.{sizes-passed, fitting, agreeing}
 use Rattle.balance.specs.Tables.{TableLists, tables-of, lists-fit}
 use Rattle.balance.specs.Refusals.{all, listed, covered, tables-refusal}
+use Rattle.balance.specs.Balance.{Check, check}
 use Rattle.balance.specs.laws.Passes.{check-passes}
+use Rattle.balance.specs.laws.Balance.{check-known}
 use Rattle.theorems_packing.specs.Packed.{packed-table}
 use Rattle.theorems_packing.specs.Passes.{Tested}
 use Rattle.theorems_packing.specs.Lists.{lists-of}
 use Rattle.theorems_packing.specs.Same.{IsPacked, AllPacked}
-use Rattle.theorems_packing.specs.Accepted.{PackingAccepted, PackedListsAccepted}
+use Rattle.theorems_packing.specs.Accepted.{PackingAccepted, PackedListsAccepted, AtKnownChoices, KnownAccepted, KnownListsAccepted}
 use Rattle.theorems_packing.specs.laws.Each.{Each, each-and}
 use Rattle.theorems_packing.specs.laws.Lists.{Whole, tables-back, lists-of-fit, few-tables, whole-of}
 use Rattle.theorems_packing.specs.laws.Passes.{packed-passes, fewer-columns}
@@ -143,7 +148,7 @@ same-many [] (u ∷ us) k = absurd k
 same-many (t ∷ ts) [] k = absurd k
 same-many (t ∷ ts) (u ∷ us) k = ap suc (same-many ts us (k .1))
 
-pub packing-accepted : PackingAccepted
+pub packing-accepted : (m : Limits) (p : ℕ) → 0 < p → PackingAccepted m p (check m p)
 packing-accepted m p z l l′ k fit q =
     record {
       tests = passes′;
@@ -161,7 +166,7 @@ packing-accepted m p z l l′ k fit q =
     passes′ = refusal-none m p l′ fit (packed-each-entered m p (tables-of l) (tables-of l′) k e)
 
 -- the packed tables as a caller lends them
-pub packed-lists-accepted : PackedListsAccepted
+pub packed-lists-accepted : (m : Limits) (p : ℕ) → 0 < p → PackedListsAccepted m p (check m p)
 packed-lists-accepted m p z l us k q =
     packing-accepted m p z l (lists-of us) (subst (AllPacked (tables-of l)) (sym (tables-back us whole)) k) (lists-of-fit m us few whole) q
   where
@@ -175,3 +180,15 @@ packed-lists-accepted m p z l us k q =
     few =
         let n : length (tables-of l) ≤ m .tables = few-tables m l (fits-of m p l q) in
         omega (arith, same-many (tables-of l) us k)
+
+-- what holds for every modulus, at the entry point
+at-known : (S : Limits → ℕ → Check → Type 0) → ((m : Limits) (p : ℕ) → 0 < p → S m p (check m p)) → AtKnownChoices S
+at-known S holds c k =
+    subst (S (limits-of (c .profile)) (prime-of (c .field))) (sym (check-known c k))
+    (holds (limits-of (c .profile)) (prime-of (c .field)) (omega (arith, modulus-of (c .field) .big)))
+
+pub known-accepted : KnownAccepted
+known-accepted = at-known PackingAccepted packing-accepted
+
+pub known-lists-accepted : KnownListsAccepted
+known-lists-accepted = at-known PackedListsAccepted packed-lists-accepted

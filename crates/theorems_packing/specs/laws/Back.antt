@@ -1,27 +1,34 @@
 -- The words of a list of lookups, read back.
-use mathlib.Core.Path.{_≡_, refl, sym, ap, ap₂, _∙_}
+use mathlib.Core.Path.{_≡_, refl, sym, ap, ap₂, _∙_, subst}
 use mathlib.Core.Bool.{Bool, true, false, cond, not}
 use mathlib.Core.Option.{Option}
 use mathlib.Core.List.{List, [], _∷_, _++_, append-assoc, map, flatMap}
 use Prim.Native.Nat.{ℕ, zero, suc, _+_, _*_, _<_}
 use native.Mathlib.Nat.{zero-add}
 use native.Mathlib.Omega.{arith}
-use lib.Dec.{eqb}
+use lib.Dec.{T, eqb}
 use lib.ListN.{length, take, drop, getD, length-append, length-map, List·getD-append}
 use lib.Seq.{getD-append-add, drop-append-add, take-at}
 use Rattle.lists.specs.Count.{total}
 use Rattle.lists.specs.Tab.{tab}
 use Rattle.lists.specs.laws.Tab.{tab-none, tab-cons, tab-cong}
 use Rattle.lists.specs.laws.Sums.{total-head}
+use Rattle.lists.specs.laws.Count.{true-of}
+use Rattle.field.specs.Known.{prime-of}
 use Rattle.expression.specs.Words.{word}
+use Rattle.expression.specs.Choices.{known, limits-of}
 use Rattle.expression.specs.Values.{bit}
 use Rattle.lookup.specs.Lookups.{Lookups, Lookup, lookup-count, lookup-word, on-bus, name-length, exclusive, tuple-count, multiplicity-count, flag-count, name-start, tuple-start, multiplicity-start, flag-start, element-start, tuple-width, tuple-nodes, lookup-at, lookups-of}
 use Rattle.lookup.specs.Requires.{Fitting}
+use Rattle.expression.specs.declared.choices.Choices.{Choices}
+use Rattle.expression.specs.declared.sizes.Limits.{Limits}
 use Rattle.expression.specs.declared.refusal.Refusal.{Refusal}
+use Rattle.expression.specs.declared.refusal.Refusal.the-variants.{SizeAtOdds}
 use Rattle.lookup_degree.specs.Degree.{node-degrees}
 use Rattle.packing.specs.Written.{lookup-words, words-of}
-use Rattle.packing.specs.PackSameBus.{columns, outcome, packing}
-use Rattle.theorems_packing.specs.Packed.{WritesPacked}
+use Rattle.packing.specs.PackSameBus.{columns, outcome, packing, packing-at}
+use Rattle.packing.specs.declared.answer.PackingAnswer.the-variants.{Refused}
+use Rattle.theorems_packing.specs.Packed.{WritesPacked, KnownWritesPacked}
 use Rattle.theorems_packing.specs.laws.Each.{Each, packed-each}
 
 -- a local has no name
@@ -307,6 +314,19 @@ pub columns-back : (limit : ℕ) (nodes : List ℕ) (l : Lookups) → lookups-of
 columns-back limit nodes l = read-back (columns limit nodes l) (columns-unnamed limit nodes l)
 
 -- packing's own definition, at a table
-pub writes-packed : WritesPacked
+pub writes-packed : (m : Limits) (p : ℕ) → WritesPacked m p (packing m p)
 unfolding packing
 writes-packed m p limit c t lent e = ap (λ (o : Option Refusal). outcome o (words-of (columns limit (t .nodes) (t .lookups))) lent) e
+
+packing-known : (c : Choices) → T (known c) → packing-at c ≡ packing (limits-of (c .profile)) (prime-of (c .field))
+unfolding packing-at
+packing-known c k =
+    λ i limit columns nodes l lent.
+    cond (true-of (known c) k i) (packing (limits-of (c .profile)) (prime-of (c .field)) limit columns nodes l lent)
+    (record { answer = Refused SizeAtOdds; lists = lent })
+
+-- at the entry point, in each field
+pub known-writes-packed : KnownWritesPacked
+known-writes-packed c k =
+    subst (WritesPacked (limits-of (c .profile)) (prime-of (c .field))) (sym (packing-known c k))
+    (writes-packed (limits-of (c .profile)) (prime-of (c .field)))

@@ -17,9 +17,11 @@ use Rattle.lists.specs.laws.Sums.{total-cong, total-zero}
 use Rattle.lists.specs.laws.Count.{first-none, total-in, first-all}
 use Rattle.lists.specs.laws.Tests.{both-left, both-right}
 use Rattle.field.specs.Element.{at, zero4, sum4}
+use Rattle.field.specs.Known.{prime-of, w-of}
 use Rattle.field.specs.laws.Element.{sum4-words}
 use Rattle.theorems_logup.specs.Sets.{Pair}
 use Rattle.expression.specs.Words.{all-below}
+use Rattle.expression.specs.Choices.{limits-of}
 use Rattle.expression.specs.Node.{node-count}
 use Rattle.expression.specs.Values.{row-values}
 use Rattle.expression.specs.Tests.{degrees-low}
@@ -38,13 +40,14 @@ use Rattle.lookup_degree.specs.Degree.{node-degrees}
 use Rattle.logup.specs.Column.{Place, fraction, fault}
 use Rattle.logup.specs.Rows.{fault-refusal, place, fraction-at, row-sum, accumulator, fault-at, row-fault, first-fault, used}
 use Rattle.logup.specs.Generation.{refused, absent, terminal, entry-refusal, rows-outcome, entry-outcome, generation, accepts}
+use Rattle.logup.specs.laws.Choices.{generation-known}
 use Rattle.packing.specs.Packing.{on-one-bus, merged, numbered, packed}
 use Rattle.packing.specs.PackSameBus.{columns}
 use Rattle.packing.specs.laws.Columns.{on-one}
 use Rattle.theorems_packing.specs.Packed.{packed-table}
 use Rattle.theorems_packing.specs.Passes.{Tested}
 use Rattle.theorems_packing.specs.Same.{on-the-bus}
-use Rattle.theorems_packing.specs.Terminal.{SharedPairs, pairs-from, challenges-of, SameTerminal, bus-sum, SameBusSum}
+use Rattle.theorems_packing.specs.Terminal.{SharedPairs, pairs-from, challenges-of, SameTerminal, KnownSameTerminal, bus-sum, SameBusSum}
 use Rattle.theorems_packing.specs.inner.Entries.{Aligned}
 use Rattle.theorems_packing.specs.laws.Each.{Each, each-at, each-flat, flat-each}
 use Rattle.theorems_packing.specs.laws.Back.{nothing, columns-back}
@@ -348,7 +351,7 @@ module _ (m : Limits) (p limit : ℕ) (t : Table) (c : SharedPairs) (tested : Te
           let n : H * (lookup-count (u .lookups .lookups) + 1) ≤ H * (lookup-count (t .lookups .lookups) + 1) = mul-le-mul-left H (omega (arith, fewer-columns limit t)) in
           le-leb (H * (lookup-count (u .lookups .lookups) + 1) * 4) (length buffer) (omega arith)
 
-pub same-terminal : SameTerminal
+pub same-terminal : (m : Limits) (p w : ℕ) → SameTerminal (generation m p w)
 same-terminal m p w limit t c buffer a =
     answer-is m p w u′ (challenges-of c u′) buffer (entered-none m p w u′ (challenges-of c u′) buffer (entered-same m p limit t c (e .tested) buffer e))
     (λ h. faults-same m p limit t c (e .tested) w (k .1 (sym (same-has limit t) ∙ h)))
@@ -364,6 +367,11 @@ same-terminal m p w limit t c buffer a =
 
     e : Entered m p t (challenges-of c t) buffer
     e = none-entered m p w t (challenges-of c t) buffer (k .0)
+
+-- at the entry point, in each field
+pub known-same-terminal : KnownSameTerminal
+known-same-terminal c rule k r =
+    subst SameTerminal (sym (generation-known c rule k r)) (same-terminal (limits-of (c .profile)) (prime-of (c .field)) (w-of (c .field)))
 
 -- the lookups on one bus, exclusives too
 pub same-bus-sum : SameBusSum

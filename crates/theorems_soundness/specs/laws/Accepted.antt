@@ -4,11 +4,15 @@ use Prim.Native.Nat.{ℕ, _%_}
 use lib.Dec.{eqb}
 use lib.ListN.{length}
 use Rattle.lists.specs.laws.Count.{and-left}
+use Rattle.field.specs.Known.{prime-of, w-of}
+use Rattle.expression.specs.Choices.{limits-of}
 use Rattle.expression.specs.Words.{all-below}
 use Rattle.expression.specs.declared.sizes.Limits.{Limits}
 use Rattle.lookup.specs.Table.{Table}
 use Rattle.lookup.specs.Tests.{sizes, words-below}
-use Rattle.theorems_soundness.specs.Accepted.{LedgerOfAccepted}
+use Rattle.logup.specs.Generation.{generation}
+use Rattle.theorems_soundness.specs.Accepted.{LedgerOfAccepted, KnownLedgers}
+use Rattle.theorems_soundness.specs.laws.Choices.{at-known}
 use Rattle.theorems_soundness.specs.laws.Entered.{Passed, passed, Ledgered, ledger-of}
 use Rattle.theorems_soundness.specs.laws.Answers.{accepted-of}
 
@@ -24,7 +28,11 @@ own-tests m p w t challenges buffer q =
       nine = q .nine;
     }
 
-pub ledger-of-accepted : (m : Limits) (p w : ℕ) → LedgerOfAccepted m p w
+pub ledger-of-accepted : (m : Limits) (p w : ℕ) → LedgerOfAccepted m p (generation m p w)
 ledger-of-accepted m p w t challenges buffer ok =
     ledger-of m p t
     (own-tests m p w t challenges buffer (passed m p w t challenges buffer (accepted-of m p w t challenges buffer ok .entered)))
+
+-- and so in each field, at the entry point
+pub logup-ledgers : KnownLedgers
+logup-ledgers = at-known LedgerOfAccepted (λ c k. ledger-of-accepted (limits-of (c .profile)) (prime-of (c .field)) (w-of (c .field)))

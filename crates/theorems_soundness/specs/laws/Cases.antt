@@ -1,7 +1,7 @@
--- Small tables that meet the theorems' hypotheses, and what is computed of them.
-use Prim.Native.Nat.{ℕ, _/_}
+-- Small tables that meet the theorems' hypotheses, and what is computed of them, in each field.
+use Prim.Native.Nat.{ℕ, _+_, _-_, _/_}
 use mathlib.Core.Path.{_≡_}
-use mathlib.Core.Bool.{Bool, true, _&&_, not}
+use mathlib.Core.Bool.{Bool, true, cond, _&&_, not}
 use mathlib.Core.List.{List, [], _∷_}
 use lib.Dec.{T, eqb, leb}
 use lib.ListN.{length, replicate, take}
@@ -9,11 +9,12 @@ use Rattle.algebra.specs.Power.{powM}
 use Rattle.lists.specs.Same.{same-list}
 use Rattle.lists.specs.Fold.{fold}
 use Rattle.lists.specs.Count.{total, every, some-of, first, joined}
-use Rattle.lists.specs.laws.Count.{true-of}
+use Rattle.lists.specs.laws.Count.{and-left, and-right, true-of}
 use Rattle.lists.specs.laws.Tests.{chain, Passed, passed}
 use Rattle.field.specs.Word.{addM, negM, subM, mulM, inverse1}
 use Rattle.field.specs.Element.{lift, add4, sub4, mul4, scale4, power4, sum4, conjugate, conjugate2, norm2, norm, inverse4, is-zero, element}
-use Rattle.field.specs.Modulus.{babybear, babybear-w}
+use Rattle.field.specs.Known.{known-field, prime-of, w-of}
+use Rattle.expression.specs.Choices.{choices-of, known as known-choices, known-rule, limits-of}
 use Rattle.expression.specs.Words.{all-below, all-within}
 use Rattle.expression.specs.Limits.{cabinet}
 use Rattle.expression.specs.Node.{decode, node}
@@ -21,17 +22,21 @@ use Rattle.expression.specs.Window.{row-of, window}
 use Rattle.expression.specs.Values.{node-value, values, row-values}
 use Rattle.expression.specs.Degree.{node-degree, degrees}
 use Rattle.expression.specs.Tests.{traces-within, nodes-within, traces-fit, nodes-fit, traces-below, constants-below, nodes-known, degrees-low}
+use Rattle.expression.specs.declared.sizes.Limits.{Limits}
 use Rattle.lookup.specs.Lookups.{name-start, tuple-start, multiplicity-start, flag-start, element-start, tuple-width, multiplicity-node, flag-node, tuple-nodes}
 use Rattle.lookup.specs.Table.{Table, values-of}
 use Rattle.lookup.specs.Tests.{lookups-within, lookups-fit, sizes, words-below, known, lengths-agree, nodes-present, lists-agree, in-position, has-lookups, preprocessed-enough, rows-enough}
 use Rattle.logup.specs.Tuple.{tuple, combine, denominator, quotient4}
 use Rattle.logup.specs.Column.{Place, branches, multiplicity, flag, chosen, denom, used-denom, additive-fraction, additive-fault, exclusive-fraction, exclusive-fault, fraction, fault}
 use Rattle.logup.specs.Rows.{fault-refusal, place, fraction-at, row-sum, accumulator, row-words, fault-at, row-fault, trace, first-fault, used}
-use Rattle.logup.specs.Generation.{Answer, entry-refusal, rows-outcome, entry-outcome, generation, accepts, terminal-words}
+use Rattle.logup.specs.Generation.{Answer, Generation, entry-refusal, rows-outcome, entry-outcome, generation, generation-at, accepts, terminal-words}
+use Rattle.logup.specs.Constraints.{verdict-at}
 use Rattle.logup.specs.Ledger.{has-ledger, at-pair, count, lookup-entries, row-entries, entries, post, ledger, listed, met, tuples-met}
 use Rattle.logup.specs.laws.Cases.{additive, no-lookup}
 use Rattle.theorems_soundness.specs.Soundness.{Buffers, answer-at}
+use Rattle.theorems_soundness.specs.Constraints.{Verdict}
 use Rattle.theorems_soundness.specs.Lawful.{flag-at}
+use Rattle.theorems_soundness.specs.laws.Choices.{in-each-field}
 
 -- Two columns of main, and one lookup on the bus "m": the tuple of both columns, counted once.
 abbrev pub two-columns : List ℕ → Table
@@ -141,20 +146,35 @@ left-table = one (1 ∷ 0 ∷ 0 ∷ []) 1
 abbrev pub right-table : Table
 right-table = one (0 ∷ 0 ∷ 1 ∷ []) 1
 
+-- generation and constraints in a field, within the cabinet's limits and by rule 1
+abbrev pub generate-in : ℕ → Generation
+generate-in field = generation-at (choices-of field 1) 1
+
+abbrev pub constraints-in : ℕ → Verdict
+constraints-in field = verdict-at (choices-of field 1) 1
+
+abbrev pub limits : Limits
+limits = limits-of 1
+
 -- the flags of a row: each is 0 or 1, and not both are 1
-abbrev pub lawful-on : Table → ℕ → Bool
-lawful-on t r =
-    leb (flag-at babybear t r 0 0) 1 && leb (flag-at babybear t r 0 1) 1
-    && not (eqb (flag-at babybear t r 0 0) 1 && eqb (flag-at babybear t r 0 1) 1)
+abbrev pub lawful-on : ℕ → Table → ℕ → Bool
+lawful-on field t r =
+    leb (flag-at (prime-of field) t r 0 0) 1 && leb (flag-at (prime-of field) t r 0 1) 1
+    && not (eqb (flag-at (prime-of field) t r 0 0) 1 && eqb (flag-at (prime-of field) t r 0 1) 1)
 
 -- generation's answer to a table at a pair of words
-abbrev pub answer-to : Table → ℕ → ℕ → Answer
-answer-to t a b = answer-at cabinet babybear babybear-w t buffers (lift a) (lift b)
+abbrev pub answer-to : ℕ → Table → ℕ → ℕ → Answer
+answer-to field t a b = answer-at (generate-in field) t buffers (lift a) (lift b)
 
 -- generation accepts both tables at the pair, and the terminals agree there
-abbrev pub agree? : Table → Table → ℕ → ℕ → Bool
-agree? t₁ t₂ a b =
-    accepts (answer-to t₁ a b) && accepts (answer-to t₂ a b) && same-list (terminal-words (answer-to t₁ a b)) (terminal-words (answer-to t₂ a b))
+abbrev pub agree? : ℕ → Table → Table → ℕ → ℕ → Bool
+agree? field t₁ t₂ a b =
+    accepts (answer-to field t₁ a b) && accepts (answer-to field t₂ a b)
+    && same-list (terminal-words (answer-to field t₁ a b)) (terminal-words (answer-to field t₂ a b))
+
+-- 1 ÷ 2
+abbrev pub half : ℕ → ℕ
+half field = (prime-of field + 1) / 2
 
 -- the tuples (1, 2) and (3, 4) with alpha 5 and beta 7: 1 ÷ (5 - 9) + 1 ÷ (5 - 25)
 abbrev pub challenges : List ℕ
@@ -163,97 +183,99 @@ challenges = at-pair forwards (lift 5) (lift 7)
 abbrev pub buffer : List ℕ
 buffer = buffers (lift 5) (lift 7)
 
-abbrev pub answer : Answer
-answer = answer-to forwards 5 7
+abbrev pub answer : ℕ → Answer
+answer field = answer-to field forwards 5 7
 
-abbrev pub end : List ℕ
-end = lift 603979776
+-- -3 ÷ 10 in each field
+abbrev pub end : ℕ → List ℕ
+end field = lift (cond (eqb field 2) 213070643 603979776)
 
-abbrev pub words : List ℕ
-words = take (used (forwards .lookups .lookups) 2) (generation cabinet babybear babybear-w forwards challenges buffer .buffer)
+abbrev pub words : ℕ → List ℕ
+words field = take (used (forwards .lookups .lookups) 2) (generate-in field forwards challenges buffer .buffer)
 
-abbrev pub spot : ℕ → ℕ → Place
-spot = place babybear babybear-w (forwards .lookups) challenges (values-of babybear forwards)
+abbrev pub spot : ℕ → ℕ → ℕ → Place
+spot field = place (prime-of field) (w-of field) (forwards .lookups) challenges (values-of (prime-of field) forwards)
 
 -- on a row no fault, and a denominator that is not zero
-abbrev pub regular-on : ℕ → Bool
-regular-on r = eqb (fault babybear babybear-w (spot r 0)) 0 && not (is-zero (denom babybear babybear-w (spot r 0) 0))
+abbrev pub regular-on : ℕ → ℕ → Bool
+regular-on field r =
+    eqb (fault (prime-of field) (w-of field) (spot field r 0)) 0 && not (is-zero (denom (prime-of field) (w-of field) (spot field r 0) 0))
 
--- What is computed, table by table. Of two orders of two tuples: they have ledgers, two tuples are met, and at the four pairs of alphas 5, 6 and
--- betas 7, 8 generation accepts both and the terminals agree.
-abbrev pub order-tests : List Bool
-order-tests =
-    has-ledger cabinet babybear forwards
-    ∷ has-ledger cabinet babybear backwards
-    ∷ eqb (tuples-met babybear forwards backwards) 2
-    ∷ agree? forwards backwards 5 7
-    ∷ agree? forwards backwards 6 7
-    ∷ agree? forwards backwards 5 8
-    ∷ agree? forwards backwards 6 8
+-- What is computed in a field, table by table. Of two orders of two tuples: they have ledgers, two tuples are met, and at the four pairs of alphas
+-- 5, 6 and betas 7, 8 generation accepts both and the terminals agree.
+abbrev pub order-tests : ℕ → List Bool
+order-tests field =
+    has-ledger limits (prime-of field) forwards
+    ∷ has-ledger limits (prime-of field) backwards
+    ∷ eqb (tuples-met (prime-of field) forwards backwards) 2
+    ∷ agree? field forwards backwards 5 7
+    ∷ agree? field forwards backwards 6 7
+    ∷ agree? field forwards backwards 5 8
+    ∷ agree? field forwards backwards 6 8
     ∷ []
 
 -- of one entry and none: one tuple is met, and the terminals at alpha 5 and beta 7 are 1 ÷ 2 and 0
-abbrev pub single-tests : List Bool
-single-tests =
-    has-ledger cabinet babybear single
-    ∷ has-ledger cabinet babybear no-lookup
-    ∷ eqb (tuples-met babybear single no-lookup) 1
-    ∷ accepts (answer-to single 5 7)
-    ∷ accepts (answer-to no-lookup 5 7)
-    ∷ same-list (terminal-words (answer-to single 5 7)) (lift 1006632961)
-    ∷ same-list (terminal-words (answer-to no-lookup 5 7)) (lift 0)
+abbrev pub single-tests : ℕ → List Bool
+single-tests field =
+    has-ledger limits (prime-of field) single
+    ∷ has-ledger limits (prime-of field) no-lookup
+    ∷ eqb (tuples-met (prime-of field) single no-lookup) 1
+    ∷ accepts (answer-to field single 5 7)
+    ∷ accepts (answer-to field no-lookup 5 7)
+    ∷ same-list (terminal-words (answer-to field single 5 7)) (lift (half field))
+    ∷ same-list (terminal-words (answer-to field no-lookup 5 7)) (lift 0)
     ∷ []
 
 -- of two branches: they have ledgers, and lawful flags on every row
-abbrev pub branch-tests : List Bool
-branch-tests =
-    has-ledger cabinet babybear choosing
-    ∷ has-ledger cabinet babybear choosing-back
-    ∷ every (lawful-on choosing) 3
-    ∷ every (lawful-on choosing-back) 2
+abbrev pub branch-tests : ℕ → List Bool
+branch-tests field =
+    has-ledger limits (prime-of field) choosing
+    ∷ has-ledger limits (prime-of field) choosing-back
+    ∷ every (lawful-on field choosing) 3
+    ∷ every (lawful-on field choosing-back) 2
     ∷ []
 
 -- of the trace: generation answers that terminal, the table has lookups and words below p, and both rows are regular
-abbrev pub trace-tests : List Bool
-trace-tests =
-    accepts answer
-    ∷ same-list (terminal-words answer) end
+abbrev pub trace-tests : ℕ → List Bool
+trace-tests field =
+    accepts (answer field)
+    ∷ same-list (terminal-words (answer field)) (end field)
     ∷ has-lookups (forwards .lookups .lookups)
-    ∷ words-below babybear forwards
-    ∷ every regular-on 2
+    ∷ words-below (prime-of field) forwards
+    ∷ every (regular-on field) 2
     ∷ []
 
 -- of the words 3 and 4: two tuples are met, the ledgers differ at 3, and the terminals at alpha 2 and beta 7 agree
-abbrev pub word-tests : List Bool
-word-tests =
-    has-ledger cabinet babybear low
-    ∷ has-ledger cabinet babybear high
-    ∷ eqb (tuples-met babybear low high) 2
-    ∷ eqb (ledger babybear low (3 ∷ [])) 1
-    ∷ eqb (ledger babybear high (3 ∷ [])) 0
-    ∷ same-list (terminal-words (answer-to low 2 7)) (terminal-words (answer-to high 2 7))
+abbrev pub word-tests : ℕ → List Bool
+word-tests field =
+    has-ledger limits (prime-of field) low
+    ∷ has-ledger limits (prime-of field) high
+    ∷ eqb (tuples-met (prime-of field) low high) 2
+    ∷ eqb (ledger (prime-of field) low (3 ∷ [])) 1
+    ∷ eqb (ledger (prime-of field) high (3 ∷ [])) 0
+    ∷ same-list (terminal-words (answer-to field low 2 7)) (terminal-words (answer-to field high 2 7))
     ∷ []
 
 -- of (1, 0, 0) and (0, 0, 1): two tuples are met, the ledgers differ at (1, 0, 0), and both combine to 1 at beta 1 and at beta p - 1
-abbrev pub triple-tests : List Bool
-triple-tests =
-    has-ledger cabinet babybear left-table
-    ∷ has-ledger cabinet babybear right-table
-    ∷ eqb (tuples-met babybear left-table right-table) 2
-    ∷ eqb (ledger babybear left-table (1 ∷ 0 ∷ 0 ∷ [])) 1
-    ∷ eqb (ledger babybear right-table (1 ∷ 0 ∷ 0 ∷ [])) 0
-    ∷ same-list (combine babybear babybear-w (lift 1) (1 ∷ 0 ∷ 0 ∷ [])) (lift 1)
-    ∷ same-list (combine babybear babybear-w (lift 1) (0 ∷ 0 ∷ 1 ∷ [])) (lift 1)
-    ∷ same-list (combine babybear babybear-w (lift 2013265920) (1 ∷ 0 ∷ 0 ∷ [])) (lift 1)
-    ∷ same-list (combine babybear babybear-w (lift 2013265920) (0 ∷ 0 ∷ 1 ∷ [])) (lift 1)
+abbrev pub triple-tests : ℕ → List Bool
+triple-tests field =
+    has-ledger limits (prime-of field) left-table
+    ∷ has-ledger limits (prime-of field) right-table
+    ∷ eqb (tuples-met (prime-of field) left-table right-table) 2
+    ∷ eqb (ledger (prime-of field) left-table (1 ∷ 0 ∷ 0 ∷ [])) 1
+    ∷ eqb (ledger (prime-of field) right-table (1 ∷ 0 ∷ 0 ∷ [])) 0
+    ∷ same-list (combine (prime-of field) (w-of field) (lift 1) (1 ∷ 0 ∷ 0 ∷ [])) (lift 1)
+    ∷ same-list (combine (prime-of field) (w-of field) (lift 1) (0 ∷ 0 ∷ 1 ∷ [])) (lift 1)
+    ∷ same-list (combine (prime-of field) (w-of field) (lift (prime-of field - 1)) (1 ∷ 0 ∷ 0 ∷ [])) (lift 1)
+    ∷ same-list (combine (prime-of field) (w-of field) (lift (prime-of field - 1)) (0 ∷ 0 ∷ 1 ∷ [])) (lift 1)
     ∷ []
 
-abbrev tests : List Bool
-tests =
-    chain true order-tests ∷ chain true single-tests ∷ chain true branch-tests ∷ chain true trace-tests ∷ chain true word-tests
-    ∷ chain true triple-tests ∷ []
+abbrev tests : ℕ → List Bool
+tests field =
+    chain true (order-tests field) ∷ chain true (single-tests field) ∷ chain true (branch-tests field) ∷ chain true (trace-tests field)
+    ∷ chain true (word-tests field) ∷ chain true (triple-tests field) ∷ []
 
-computes : T (chain true tests)
+both-fields : T (chain true (tests 1) && chain true (tests 2))
 unfolding powM addM negM subM mulM inverse1 add4 sub4 mul4 scale4 power4 sum4 conjugate conjugate2 norm2 norm inverse4 is-zero element fold total
     every some-of first joined cabinet all-below all-within node decode row-of window node-value values row-values node-degree degrees traces-within
     nodes-within traces-fit nodes-fit traces-below constants-below nodes-known degrees-low name-start tuple-start multiplicity-start flag-start
@@ -261,30 +283,35 @@ unfolding powM addM negM subM mulM inverse1 add4 sub4 mul4 scale4 power4 sum4 co
     lists-agree in-position has-lookups preprocessed-enough rows-enough tuple combine denominator quotient4 branches multiplicity flag chosen denom
     used-denom additive-fraction additive-fault exclusive-fraction exclusive-fault fraction fault fault-refusal place fraction-at row-sum
     accumulator row-words fault-at row-fault trace first-fault used entry-refusal rows-outcome entry-outcome generation count lookup-entries
-    row-entries entries same-list post ledger listed met tuples-met has-ledger at-pair
-computes = tt
+    row-entries entries same-list post ledger listed met tuples-met has-ledger at-pair known-field prime-of w-of known-choices known-rule limits-of
+    generation-at
+both-fields = tt
 
 -- each list of tests, taken apart
 each : (l : List Bool) → chain true l ≡ true → Passed l
 each l e = passed true l e .1
 
-all : Passed tests
-all = each tests (true-of (chain true tests) computes)
+all : (field : ℕ) → T (known-field field) → Passed (tests field)
+all =
+    in-each-field (λ (field : ℕ). Passed (tests field))
+    (each (tests 1) (true-of (chain true (tests 1)) (and-left (chain true (tests 1)) (chain true (tests 2)) both-fields)))
+    (each (tests 2) (true-of (chain true (tests 2)) (and-right (chain true (tests 1)) (chain true (tests 2)) both-fields)))
 
-pub order-holds : Passed order-tests
-order-holds = each order-tests (all .0)
+module _ (field : ℕ) (ok : T (known-field field)) where
+  pub order-holds : Passed (order-tests field)
+  order-holds = each (order-tests field) (all field ok .0)
 
-pub single-holds : Passed single-tests
-single-holds = each single-tests (all .1 .0)
+  pub single-holds : Passed (single-tests field)
+  single-holds = each (single-tests field) (all field ok .1 .0)
 
-pub branch-holds : Passed branch-tests
-branch-holds = each branch-tests (all .1 .1 .0)
+  pub branch-holds : Passed (branch-tests field)
+  branch-holds = each (branch-tests field) (all field ok .1 .1 .0)
 
-pub trace-holds : Passed trace-tests
-trace-holds = each trace-tests (all .1 .1 .1 .0)
+  pub trace-holds : Passed (trace-tests field)
+  trace-holds = each (trace-tests field) (all field ok .1 .1 .1 .0)
 
-pub word-holds : Passed word-tests
-word-holds = each word-tests (all .1 .1 .1 .1 .0)
+  pub word-holds : Passed (word-tests field)
+  word-holds = each (word-tests field) (all field ok .1 .1 .1 .1 .0)
 
-pub triple-holds : Passed triple-tests
-triple-holds = each triple-tests (all .1 .1 .1 .1 .1 .0)
+  pub triple-holds : Passed (triple-tests field)
+  triple-holds = each (triple-tests field) (all field ok .1 .1 .1 .1 .1 .0)

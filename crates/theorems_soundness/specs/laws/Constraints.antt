@@ -1,6 +1,6 @@
 -- With every denominator nonzero and lawful flags, the constraints accept exactly the generated trace and terminal. SPECIFICATION, section
 -- 5.
-use mathlib.Core.Path.{_≡_, refl, sym, ap, ap₂, _∙_}
+use mathlib.Core.Path.{_≡_, refl, sym, ap, ap₂, _∙_, subst}
 use mathlib.Core.Logic.{_↔_, ⊎-elim}
 use mathlib.Core.Bool.{Bool, true, false, cond, _&&_, _||_, not}
 use mathlib.Core.Option.{none, some}
@@ -15,7 +15,10 @@ use Rattle.lists.specs.Count.{joined, or-else}
 use Rattle.lists.specs.laws.Count.{or-else-none, and-left, and-right, of-true, true-of, eqb-true, eq-of-eqb}
 use Rattle.lists.specs.laws.Tests.{both-left, both-right}
 use Rattle.field.specs.Modulus.{Modulus, Certificate}
+use Rattle.field.specs.Known.{prime-of, w-of}
 use Rattle.field.specs.laws.Extension.{h}
+use Rattle.field.specs.laws.Known.{modulus-of, certificate-of}
+use Rattle.expression.specs.Choices.{limits-of}
 use Rattle.expression.specs.Words.{all-below}
 use Rattle.expression.specs.Node.{node-count}
 use Rattle.expression.specs.Values.{row-values}
@@ -30,9 +33,10 @@ use Rattle.lookup.specs.Table.{Table}
 use Rattle.lookup.specs.Tests.{sizes, words-below, known, lists-agree, in-position, has-lookups, rows-enough}
 use Rattle.logup.specs.Rows.{place, fraction-at, row-sum, accumulator, row-words, trace, used, first-fault}
 use Rattle.logup.specs.Constraints.{trace-sizes, trace-words, constraints-refusal, verdict, Regular, IsGenerated}
-use Rattle.logup.specs.Generation.{Outcome, terminal, written, rows-outcome, entry-outcome, generation, accepts, terminal-words}
+use Rattle.logup.specs.Generation.{Outcome, Generation, terminal, written, rows-outcome, entry-outcome, generation, generation-at, accepts, terminal-words}
 use Rattle.logup.specs.Ledger.{Element}
-use Rattle.theorems_soundness.specs.Constraints.{GeneratedPasses, OnlyGeneratedPasses, ExactlyTheGeneratedPass}
+use Rattle.logup.specs.laws.Choices.{generation-known, verdict-known}
+use Rattle.theorems_soundness.specs.Constraints.{Verdict, GeneratedPasses, OnlyGeneratedPasses, ExactlyTheGeneratedPass, KnownConstraints}
 use Rattle.theorems_soundness.specs.laws.Words.{and-of, or-right, all-below-of, append-each, joined-each, element-each}
 use Rattle.theorems_soundness.specs.laws.Elements.{element-sum}
 use Rattle.theorems_soundness.specs.laws.Columns.{fraction-element}
@@ -244,11 +248,24 @@ module _ (m : Limits) (p w : ℕ) (M : Modulus p) (C : Certificate p w) (t : Tab
 
 -- for every prime and value of X⁴ that make a field
 module _ (m : Limits) (p w : ℕ) (M : Modulus p) (C : Certificate p w) where
-  pub generated-passes : GeneratedPasses m p w
+  pub generated-passes : GeneratedPasses m p w (verdict m p w)
   generated-passes t challenges width words e four regular = verdict-of-generated m p w M C t challenges width words e four regular
 
-  pub only-generated-passes : OnlyGeneratedPasses m p w
+  pub only-generated-passes : OnlyGeneratedPasses p w (verdict m p w)
   only-generated-passes t challenges width words e four regular = generated-of-verdict m p w M C t challenges width words e four regular
 
-  pub exactly-the-generated-pass : ExactlyTheGeneratedPass m p w
+  pub exactly-the-generated-pass : ExactlyTheGeneratedPass p w (generation m p w) (verdict m p w)
   exactly-the-generated-pass t challenges buffer accepted lookups regular = exactly m p w M C t challenges buffer accepted lookups regular
+
+-- and so in each field, at the entry points
+pub logup-constraints : KnownConstraints
+logup-constraints c rule k r =
+    let m = limits-of (c .profile) in
+    let p = prime-of (c .field) in
+    let w = w-of (c .field) in
+    let M = modulus-of (c .field) in
+    let C = certificate-of (c .field) in
+    subst (λ (v : Verdict). GeneratedPasses m p w v × OnlyGeneratedPasses p w v × ExactlyTheGeneratedPass p w (generation-at c rule) v)
+    (sym (verdict-known c rule k r))
+    (subst (λ (g : Generation). GeneratedPasses m p w (verdict m p w) × OnlyGeneratedPasses p w (verdict m p w) × ExactlyTheGeneratedPass p w g (verdict m p w))
+    (sym (generation-known c rule k r)) (generated-passes m p w M C, only-generated-passes m p w M C, exactly-the-generated-pass m p w M C))

@@ -1,13 +1,13 @@
--- The soundness error, over generation's own answers, for every field with a certificate and for the cabinet's.
+-- The soundness error, over generation's own answers, for every field with a certificate and so for each known one.
 use mathlib.Core.Path.{_≡_, sym, ap, ap₂, _∙_, subst}
 use mathlib.Core.List.{List, _++_, map, List·Memᴰ, Memᴰ·of-map}
 use Prim.Native.Nat.{ℕ, _*_, _^_, _<_, _≤_}
 use lib.Dec.{T}
 use lib.ListN.{length, length-map}
-use Rattle.field.specs.Modulus.{Modulus, Certificate, babybear, babybear-w}
+use Rattle.field.specs.Modulus.{Modulus, Certificate}
 use Rattle.field.specs.laws.Ring.{El, eq}
 use Rattle.field.specs.Extension.{K, KEl, el}
-use Rattle.field.specs.laws.Extension.{F1, h, babybear-certificate, babybear-modulus}
+use Rattle.field.specs.laws.Extension.{F1, h}
 use Rattle.theorems_logup.specs.Distinct.{Distinct, AtMost}
 use Rattle.theorems_logup.specs.Sets.{Pair}
 use Rattle.theorems_logup.specs.Error as AnyField
@@ -15,13 +15,14 @@ use Rattle.theorems_logup.specs.laws.Arithmetic.{equal?}
 use Rattle.theorems_logup.specs.laws.Support.{support, support-is}
 use Rattle.theorems_logup.specs.laws.Counting.{distinct-map, at-most-by, at-most-pairs, numbers-below}
 use Rattle.theorems_logup.specs.laws.Error.{few-agree}
-use Rattle.expression.specs.Limits.{cabinet}
 use Rattle.expression.specs.declared.sizes.Limits.{Limits}
 use Rattle.lookup.specs.Table.{Table}
+use Rattle.logup.specs.Generation.{generation}
 use Rattle.logup.specs.Ledger.{has-ledger, Entry, entries, tuples-met}
 use Rattle.theorems_soundness.specs.Soundness.{AllWide, Buffers, SameLedger}
-use Rattle.theorems_soundness.specs.Error.{Challenges, Passes, passing-pairs, SoundnessError, AllPairs}
+use Rattle.theorems_soundness.specs.Error.{Challenges, Passes, passing-pairs, SoundnessError, KnownSoundnessError, AllPairs}
 use Rattle.theorems_soundness.specs.Entries.{N}
+use Rattle.theorems_soundness.specs.laws.Choices.{of-every-field}
 use Rattle.theorems_soundness.specs.laws.Setting.{same-of-el}
 use Rattle.theorems_soundness.specs.laws.Points.{fourth-power, eighth-power, element-pairs, element-pairs-many, element-pairs-distinct, element-pairs-are}
 use Rattle.theorems_soundness.specs.laws.Ledgers.{ledger-is, table-of}
@@ -77,7 +78,7 @@ module _ (m : Limits) (p w : ℕ) (M : Modulus p) (C : Certificate p w) (t₁ t�
   abbrev E₂ : List Entry
   E₂ = entries p t₂
 
-  agrees : (c : Pair (List ℕ)) → Passes m p w t₁ t₂ buffers₁ buffers₂ c → AnyField.Agrees (K p w C) (N p w C) E₁ E₂ (in-field p w C c)
+  agrees : (c : Pair (List ℕ)) → Passes p (generation m p w) t₁ t₂ buffers₁ buffers₂ c → AnyField.Agrees (K p w C) (N p w C) E₁ E₂ (in-field p w C c)
   agrees c q =
       let ea = q .challenges .alpha-element in
       let eb = q .challenges .beta-element in
@@ -86,7 +87,7 @@ module _ (m : Limits) (p w : ℕ) (M : Modulus p) (C : Certificate p w) (t₁ t�
       record { accepted₁ = s₁ .accepted; accepted₂ = s₂ .accepted; agree = sym (s₁ .is) ∙ ap (el p w C) (q .agree) ∙ s₂ .is }
 
   bounded : AllWide width t₁ → AllWide width t₂ → ¬ SameLedger p width t₁ t₂ → (pairs : List (Pair (List ℕ))) → Distinct pairs
-      → ((c : Pair (List ℕ)) → List·Memᴰ c pairs → Passes m p w t₁ t₂ buffers₁ buffers₂ c) → length pairs ≤ passing-pairs p width (tuples-met p t₁ t₂)
+      → ((c : Pair (List ℕ)) → List·Memᴰ c pairs → Passes p (generation m p w) t₁ t₂ buffers₁ buffers₂ c) → length pairs ≤ passing-pairs p width (tuples-met p t₁ t₂)
   bounded wide₁ wide₂ differ pairs dist all =
       rw (met-count p w C t₁ t₂)
       (rw length-map at
@@ -102,10 +103,10 @@ module _ (m : Limits) (p w : ℕ) (M : Modulus p) (C : Certificate p w) (t₁ t�
       subst (AnyField.Agrees (K p w C) (N p w C) E₁ E₂) at (agrees c₀ (all c₀ k₀)))))
 
 -- for every prime and value of X⁴ that make a field
-pub soundness-error : (m : Limits) (p w : ℕ) → Modulus p → Certificate p w → SoundnessError m p w
+pub soundness-error : (m : Limits) (p w : ℕ) → Modulus p → Certificate p w → SoundnessError m p (generation m p w)
 soundness-error m p w M C t₁ t₂ bus width pairs buffers₁ buffers₂ c differ =
     bounded m p w M C t₁ t₂ width buffers₁ buffers₂ (c .ledger₁) (c .ledger₂) (c .wide₁) (c .wide₂) differ pairs
 
--- and for the cabinet and its field
-pub logup-soundness-error : SoundnessError cabinet babybear babybear-w
-logup-soundness-error = soundness-error cabinet babybear babybear-w babybear-modulus babybear-certificate
+-- and so in each field, at the entry point
+pub logup-soundness-error : KnownSoundnessError
+logup-soundness-error = of-every-field SoundnessError soundness-error

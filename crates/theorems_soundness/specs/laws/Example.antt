@@ -1,10 +1,11 @@
--- The theorem of SPECIFICATION, section 9.3, at work: small tables meet its hypotheses, and those under which full sets exist.
+-- The theorem of SPECIFICATION, section 9.3, at work in each field: small tables meet its hypotheses, and those under which full sets exist.
 use Prim.Native.Nat.{ℕ, zero, suc, _/_, _<_, _≤_}
 use mathlib.Core.Path.{_≡_, refl, sym, ap, _∙_, subst}
 use mathlib.Core.Logic.{_≢_, _↔_, ⊎-elim}
 use mathlib.Core.Bool.{Bool, true, _&&_, not}
 use mathlib.Core.List.{List, [], _∷_, List·Memᴰ, List·Memᴰ·head, List·Memᴰ·not-nil, List·Memᴰ·eq-of-singleton, List·Memᴰ·cases-cons}
 use native.Mathlib.Omega.{arith}
+use native.Mathlib.Nat.{lt-of-lt-of-le}
 use lib.Dec.{T, eqb, leb, leb→le, lit<, lit≤}
 use lib.ListN.{length}
 use Rattle.lists.specs.Same.{same-list}
@@ -12,24 +13,23 @@ use Rattle.lists.specs.laws.Same.{same-list-eq}
 use Rattle.lists.specs.Count.{total, every, joined}
 use Rattle.lists.specs.laws.Count.{and-left, and-right, every-at, of-true, true-of, eq-of-eqb, eqb-true}
 use Rattle.field.specs.Element.{at, lift}
-use Rattle.field.specs.Modulus.{babybear, babybear-w}
-use Rattle.field.specs.laws.Extension.{babybear-certificate}
+use Rattle.field.specs.Known.{babybear, known-field, prime-of}
 use Rattle.theorems_logup.specs.Distinct.{Distinct}
 use Rattle.theorems_logup.specs.Sets.{Pairing}
-use Rattle.expression.specs.Limits.{cabinet}
+use Rattle.expression.specs.Choices.{choices-of}
 use Rattle.lookup.specs.Lookups.{exclusive, tuple-count, lookup-at, name-start, tuple-start, tuple-width}
 use Rattle.lookup.specs.Table.{Table}
 use Rattle.logup.specs.Rows.{used}
 use Rattle.logup.specs.Generation.{accepts, terminal-words}
 use Rattle.logup.specs.Ledger.{Element, tuples-met}
 use Rattle.logup.specs.laws.Cases.{no-lookup}
-use Rattle.theorems_soundness.specs.Soundness.{FullSet, AllWide, OnBus, AcceptedAt, AgreeAt, AtEachPair, SameLedger}
+use Rattle.theorems_soundness.specs.Soundness.{FullSet, AllWide, OnBus, AcceptedAt, AgreeAt, AtEachPair, SameLedger, LogUpSoundness}
 use Rattle.theorems_soundness.specs.Lawful.{flag-at, LawfulFlags}
 use Rattle.theorems_soundness.specs.FullSets.{LongEnough}
-use Rattle.theorems_soundness.specs.laws.Elements.{element-lift}
+use Rattle.theorems_soundness.specs.laws.Choices.{prime-least, known-of, rule-1}
 use Rattle.theorems_soundness.specs.laws.Soundness.{logup-soundness}
-use Rattle.theorems_soundness.specs.laws.FullSets.{cabinet-full-set-exists}
-use Rattle.theorems_soundness.specs.laws.Cases.{two-columns, two-branches, m-bus, buffers, forwards, backwards, single, choosing, choosing-back, lawful-on, answer-to, agree?, order-holds, single-holds, branch-holds}
+use Rattle.theorems_soundness.specs.laws.FullSets.{logup-full-sets}
+use Rattle.theorems_soundness.specs.laws.Cases.{two-columns, two-branches, m-bus, buffers, forwards, backwards, single, choosing, choosing-back, generate-in, limits, lawful-on, half, answer-to, agree?, order-holds, single-holds, branch-holds}
 
 columns-on-bus : (main : List ℕ) → OnBus m-bus (two-columns main)
 unfolding lookup-at name-start total
@@ -54,9 +54,9 @@ branches-wide main zero (suc zero) l k = refl
 branches-wide main zero (suc (suc k)) l q = absurd (omega arith)
 branches-wide main (suc i) k l q = absurd (omega arith)
 
--- the word a as an element
-lifted : (a : ℕ) → a < babybear → Element babybear (lift a)
-lifted = element-lift babybear babybear-w babybear-certificate
+-- a word as an element, where the prime is no less than babybear
+lifted : (p : ℕ) → babybear ≤ p → (a : ℕ) → a < babybear → Element p (lift a)
+lifted p lp a l = record { four = refl; below = record { w0 = lt-of-lt-of-le l lp; w1 = omega arith; w2 = omega arith; w3 = omega arith } }
 
 -- lists of two
 module _ {A : Type 0} where
@@ -77,22 +77,22 @@ with-beta b = record { beta = lift b; alphas = lift 5 ∷ lift 6 ∷ [] }
 abbrev four-pairs : List (Pairing (List ℕ))
 four-pairs = with-beta 7 ∷ with-beta 8 ∷ []
 
-four-full : FullSet babybear 2 2 four-pairs
-four-full =
+four-full : (p : ℕ) → babybear ≤ p → FullSet p 2 2 four-pairs
+four-full p lp =
     record {
       betas = two-distinct (lift 7) (lift 8) (lift-apart 7 8 (λ e. omega arith));
       betas-many = refl;
-      beta-element = of-two (λ (r : Pairing (List ℕ)). Element babybear (r .beta)) (lifted 7 (lit< tt)) (lifted 8 (lit< tt));
+      beta-element = of-two (λ (r : Pairing (List ℕ)). Element p (r .beta)) (lifted p lp 7 (lit< tt)) (lifted p lp 8 (lit< tt));
       alphas = of-two (λ (r : Pairing (List ℕ)). Distinct (r .alphas)) alphas alphas;
       alphas-many = of-two (λ (r : Pairing (List ℕ)). length (r .alphas) ≡ 2) refl refl;
-      alpha-element = of-two (λ (r : Pairing (List ℕ)). (a : List ℕ) → List·Memᴰ a (r .alphas) → Element babybear a) elements elements;
+      alpha-element = of-two (λ (r : Pairing (List ℕ)). (a : List ℕ) → List·Memᴰ a (r .alphas) → Element p a) elements elements;
     }
   where
     alphas : Distinct (lift 5 ∷ lift 6 ∷ [])
     alphas = two-distinct (lift 5) (lift 6) (lift-apart 5 6 (λ e. omega arith))
 
-    elements : (a : List ℕ) → List·Memᴰ a (lift 5 ∷ lift 6 ∷ []) → Element babybear a
-    elements = of-two (Element babybear) (lifted 5 (lit< tt)) (lifted 6 (lit< tt))
+    elements : (a : List ℕ) → List·Memᴰ a (lift 5 ∷ lift 6 ∷ []) → Element p a
+    elements = of-two (Element p) (lifted p lp 5 (lit< tt)) (lifted p lp 6 (lit< tt))
 
 at-four : (P : List ℕ → List ℕ → Type 0) → P (lift 5) (lift 7) → P (lift 6) (lift 7) → P (lift 5) (lift 8) → P (lift 6) (lift 8) → AtEachPair four-pairs P
 at-four P a b c d =
@@ -100,52 +100,50 @@ at-four P a b c d =
     (of-two (λ (x : List ℕ). P x (lift 8)) c d)
 
 -- what the test of two tables at a pair says
-record AgreeSo (t₁ t₂ : Table) (a b : ℕ) : Type 0 where
-  accepted₁ : AcceptedAt cabinet babybear babybear-w t₁ buffers (lift a) (lift b)
-  accepted₂ : AcceptedAt cabinet babybear babybear-w t₂ buffers (lift a) (lift b)
-  agree : AgreeAt cabinet babybear babybear-w t₁ t₂ buffers buffers (lift a) (lift b)
+record AgreeSo (field : ℕ) (t₁ t₂ : Table) (a b : ℕ) : Type 0 where
+  accepted₁ : AcceptedAt (generate-in field) t₁ buffers (lift a) (lift b)
+  accepted₂ : AcceptedAt (generate-in field) t₂ buffers (lift a) (lift b)
+  agree : AgreeAt (generate-in field) t₁ t₂ buffers buffers (lift a) (lift b)
 
-agree-so : (t₁ t₂ : Table) (a b : ℕ) → agree? t₁ t₂ a b ≡ true → AgreeSo t₁ t₂ a b
-agree-so t₁ t₂ a b e =
-    let x₁ = accepts (answer-to t₁ a b) in
-    let x₂ = accepts (answer-to t₂ a b) in
-    let x₃ = same-list (terminal-words (answer-to t₁ a b)) (terminal-words (answer-to t₂ a b)) in
+agree-so : (field : ℕ) (t₁ t₂ : Table) (a b : ℕ) → agree? field t₁ t₂ a b ≡ true → AgreeSo field t₁ t₂ a b
+agree-so field t₁ t₂ a b e =
+    let x₁ = accepts (answer-to field t₁ a b) in
+    let x₂ = accepts (answer-to field t₂ a b) in
+    let x₃ = same-list (terminal-words (answer-to field t₁ a b)) (terminal-words (answer-to field t₂ a b)) in
     record {
       accepted₁ = and-left x₁ x₂ (and-left (x₁ && x₂) x₃ (of-true e));
       accepted₂ = and-right x₁ x₂ (and-left (x₁ && x₂) x₃ (of-true e));
       agree = same-list-eq _ _ (true-of x₃ (and-right (x₁ && x₂) x₃ (of-true e)));
     }
 
+-- the theorem in a known field, within the cabinet's limits and by rule 1
+soundness-in : (field : ℕ) → T (known-field field) → LogUpSoundness limits (prime-of field) (generate-in field)
+soundness-in field ok = logup-soundness (choices-of field 1) 1 (known-of field ok) rule-1
+
 -- The terminals agree at every pair of a full set, so the ledgers are equal: two tuples of two words, at four pairs.
-pub order-is-no-matter : SameLedger babybear 2 forwards backwards
-order-is-no-matter =
-    logup-soundness forwards backwards m-bus 2 four-pairs buffers buffers
+pub order-is-no-matter : (field : ℕ) → T (known-field field) → SameLedger (prime-of field) 2 forwards backwards
+order-is-no-matter field ok =
+    let k = order-holds field ok in
+    let a57 = agree-so field forwards backwards 5 7 (k .1 .1 .1 .0) in
+    let a67 = agree-so field forwards backwards 6 7 (k .1 .1 .1 .1 .0) in
+    let a58 = agree-so field forwards backwards 5 8 (k .1 .1 .1 .1 .1 .0) in
+    let a68 = agree-so field forwards backwards 6 8 (k .1 .1 .1 .1 .1 .1 .0) in
+    soundness-in field ok forwards backwards m-bus 2 four-pairs buffers buffers
     (record {
       some-words = lit≤ tt;
       on-bus₁ = columns-on-bus (1 ∷ 2 ∷ 3 ∷ 4 ∷ []);
       on-bus₂ = columns-on-bus (3 ∷ 4 ∷ 1 ∷ 2 ∷ []);
       wide₁ = columns-wide (1 ∷ 2 ∷ 3 ∷ 4 ∷ []);
       wide₂ = columns-wide (3 ∷ 4 ∷ 1 ∷ 2 ∷ []);
-      ledger₁ = of-true (order-holds .0);
-      ledger₂ = of-true (order-holds .1 .0);
+      ledger₁ = of-true (k .0);
+      ledger₂ = of-true (k .1 .0);
     })
-    (subst (λ (n : ℕ). FullSet babybear 2 n four-pairs) (sym (eq-of-eqb (tuples-met babybear forwards backwards) 2 (order-holds .1 .1 .0))) four-full)
-    (at-four (AcceptedAt cabinet babybear babybear-w forwards buffers) (a57 .accepted₁) (a67 .accepted₁) (a58 .accepted₁) (a68 .accepted₁))
-    (at-four (AcceptedAt cabinet babybear babybear-w backwards buffers) (a57 .accepted₂) (a67 .accepted₂) (a58 .accepted₂) (a68 .accepted₂))
+    (subst (λ (n : ℕ). FullSet (prime-of field) 2 n four-pairs) (sym (eq-of-eqb (tuples-met (prime-of field) forwards backwards) 2 (k .1 .1 .0)))
+    (four-full (prime-of field) (prime-least field)))
+    (at-four (AcceptedAt (generate-in field) forwards buffers) (a57 .accepted₁) (a67 .accepted₁) (a58 .accepted₁) (a68 .accepted₁))
+    (at-four (AcceptedAt (generate-in field) backwards buffers) (a57 .accepted₂) (a67 .accepted₂) (a58 .accepted₂) (a68 .accepted₂))
     .1
-    (at-four (AgreeAt cabinet babybear babybear-w forwards backwards buffers buffers) (a57 .agree) (a67 .agree) (a58 .agree) (a68 .agree))
-  where
-    a57 : AgreeSo forwards backwards 5 7
-    a57 = agree-so forwards backwards 5 7 (order-holds .1 .1 .1 .0)
-
-    a67 : AgreeSo forwards backwards 6 7
-    a67 = agree-so forwards backwards 6 7 (order-holds .1 .1 .1 .1 .0)
-
-    a58 : AgreeSo forwards backwards 5 8
-    a58 = agree-so forwards backwards 5 8 (order-holds .1 .1 .1 .1 .1 .0)
-
-    a68 : AgreeSo forwards backwards 6 8
-    a68 = agree-so forwards backwards 6 8 (order-holds .1 .1 .1 .1 .1 .1 .0)
+    (at-four (AgreeAt (generate-in field) forwards backwards buffers buffers) (a57 .agree) (a67 .agree) (a58 .agree) (a68 .agree))
 
 single-on-bus : OnBus m-bus single
 unfolding lookup-at name-start total joined
@@ -173,17 +171,17 @@ one-pair = record { beta = lift 7; alphas = lift 5 ∷ [] } ∷ []
 of-one : {A : Type 0} (P : A → Type 0) {a : A} → P a → (x : A) → List·Memᴰ x (a ∷ []) → P x
 of-one P pa x m = subst P (sym (List·Memᴰ·eq-of-singleton m)) pa
 
-pub one-full : FullSet babybear 1 1 one-pair
-one-full =
+pub one-full : (p : ℕ) → babybear ≤ p → FullSet p 1 1 one-pair
+one-full p lp =
     record {
       betas = (λ y k. absurd (List·Memᴰ·not-nil k), tt);
       betas-many = refl;
-      beta-element = of-one (λ (r : Pairing (List ℕ)). Element babybear (r .beta)) (lifted 7 (lit< tt));
+      beta-element = of-one (λ (r : Pairing (List ℕ)). Element p (r .beta)) (lifted p lp 7 (lit< tt));
       alphas = of-one (λ (r : Pairing (List ℕ)). Distinct (r .alphas)) (λ y k. absurd (List·Memᴰ·not-nil k), tt);
       alphas-many = of-one (λ (r : Pairing (List ℕ)). length (r .alphas) ≡ 1) refl;
       alpha-element =
-          of-one (λ (r : Pairing (List ℕ)). (a : List ℕ) → List·Memᴰ a (r .alphas) → Element babybear a)
-          (of-one (Element babybear) (lifted 5 (lit< tt)));
+          of-one (λ (r : Pairing (List ℕ)). (a : List ℕ) → List·Memᴰ a (r .alphas) → Element p a)
+          (of-one (Element p) (lifted p lp 5 (lit< tt)));
     }
 
 pub at-one : (P : List ℕ → List ℕ → Type 0) → P (lift 5) (lift 7) → AtEachPair one-pair P
@@ -191,11 +189,11 @@ at-one P x =
     of-one (λ (r : Pairing (List ℕ)). (a : List ℕ) → List·Memᴰ a (r .alphas) → P a (r .beta)) (of-one (λ (a : List ℕ). P a (lift 7)) x)
 
 -- "a table with one entry is told from a table with none at the one pair that n = 1 asks for"
-pub told-apart : SameLedger babybear 1 single no-lookup → ⊥
-told-apart same =
-    let k = single-holds in
+pub told-apart : (field : ℕ) → T (known-field field) → SameLedger (prime-of field) 1 single no-lookup → ⊥
+told-apart field ok same =
+    let k = single-holds field ok in
     let agree =
-    logup-soundness single no-lookup m-bus 1 one-pair buffers buffers
+    soundness-in field ok single no-lookup m-bus 1 one-pair buffers buffers
     (record {
       some-words = lit≤ tt;
       on-bus₁ = single-on-bus;
@@ -205,27 +203,37 @@ told-apart same =
       ledger₁ = of-true (k .0);
       ledger₂ = of-true (k .1 .0);
     })
-    (subst (λ (n : ℕ). FullSet babybear 1 n one-pair) (sym (eq-of-eqb (tuples-met babybear single no-lookup) 1 (k .1 .1 .0))) one-full)
-    (at-one (AcceptedAt cabinet babybear babybear-w single buffers) (of-true (k .1 .1 .1 .0)))
-    (at-one (AcceptedAt cabinet babybear babybear-w no-lookup buffers) (of-true (k .1 .1 .1 .1 .0)))
+    (subst (λ (n : ℕ). FullSet (prime-of field) 1 n one-pair) (sym (eq-of-eqb (tuples-met (prime-of field) single no-lookup) 1 (k .1 .1 .0)))
+    (one-full (prime-of field) (prime-least field)))
+    (at-one (AcceptedAt (generate-in field) single buffers) (of-true (k .1 .1 .1 .0)))
+    (at-one (AcceptedAt (generate-in field) no-lookup buffers) (of-true (k .1 .1 .1 .1 .0)))
     .0 same _ (List·Memᴰ·head refl) (lift 5) (List·Memᴰ·head refl) in
-    let z : _≡_ {A = ℕ} 1006632961 0 = ap (λ (l : List ℕ). at l 0)
+    let z : half field ≡ 0 = ap (λ (l : List ℕ). at l 0)
     (sym (same-list-eq _ _ (k .1 .1 .1 .1 .1 .0)) ∙ agree ∙ same-list-eq _ _ (k .1 .1 .1 .1 .1 .1 .0)) in
+    omega (arith, prime-least field)
+
+-- Both tables must be of one field: at that pair one and the same table has another terminal in the other field.
+pub not-across-fields : terminal-words (answer-to 1 single 5 7) ≢ terminal-words (answer-to 2 single 5 7)
+unfolding known-field prime-of
+not-across-fields e =
+    let one = same-list-eq _ _ (single-holds 1 tt .1 .1 .1 .1 .1 .0) in
+    let two = same-list-eq _ _ (single-holds 2 tt .1 .1 .1 .1 .1 .0) in
+    let z : _≡_ {A = ℕ} 1006632961 1065353217 = ap (λ (l : List ℕ). at l 0) (sym one ∙ e ∙ two) in
     omega arith
 
 -- the two flags of each row of such a table
-module _ (main : List ℕ) (tests : T (every (lawful-on (two-branches main)) (length main / 3))) where
+module _ (field : ℕ) (main : List ℕ) (tests : T (every (lawful-on field (two-branches main)) (length main / 3))) where
   abbrev here : Table
   here = two-branches main
 
   abbrev flag₀ : ℕ → ℕ
-  flag₀ r = flag-at babybear here r 0 0
+  flag₀ r = flag-at (prime-of field) here r 0 0
 
   abbrev flag₁ : ℕ → ℕ
-  flag₁ r = flag-at babybear here r 0 1
+  flag₁ r = flag-at (prime-of field) here r 0 1
 
-  row-test : (r : ℕ) → r < length main / 3 → T (lawful-on here r)
-  row-test r l = every-at (lawful-on here) (length main / 3) r tests l
+  row-test : (r : ℕ) → r < length main / 3 → T (lawful-on field here r)
+  row-test r l = every-at (lawful-on field here) (length main / 3) r tests l
 
   not-both : (r : ℕ) → r < length main / 3 → flag₀ r ≡ 1 → flag₁ r ≡ 1 → ⊥
   not-both r l e f =
@@ -244,18 +252,18 @@ module _ (main : List ℕ) (tests : T (every (lawful-on (two-branches main)) (le
       (and-right (leb (flag₀ r) 1) (leb (flag₁ r) 1)
       (and-left (leb (flag₀ r) 1 && leb (flag₁ r) 1) (not (eqb (flag₀ r) 1 && eqb (flag₁ r) 1)) (row-test r l)))
 
-  lawful : LawfulFlags babybear here
+  lawful : LawfulFlags (prime-of field) here
   lawful = record { binary = binary; one = one }
     where
       binary : (r i k : ℕ) → r < length main / 3 → i < 1 → exclusive (here .lookups .lookups) i ≡ true → k < tuple-count (here .lookups .lookups) i
-          → flag-at babybear here r i k ≤ 1
+          → flag-at (prime-of field) here r i k ≤ 1
       binary r zero zero lr li ex lk = low₀ r lr
       binary r zero (suc zero) lr li ex lk = low₁ r lr
       binary r zero (suc (suc k)) lr li ex lk = absurd (omega arith)
       binary r (suc i) k lr li ex lk = absurd (omega arith)
 
       one : (r i j k : ℕ) → r < length main / 3 → i < 1 → exclusive (here .lookups .lookups) i ≡ true → j < tuple-count (here .lookups .lookups) i
-          → k < tuple-count (here .lookups .lookups) i → flag-at babybear here r i j ≡ 1 → flag-at babybear here r i k ≡ 1 → j ≡ k
+          → k < tuple-count (here .lookups .lookups) i → flag-at (prime-of field) here r i j ≡ 1 → flag-at (prime-of field) here r i k ≡ 1 → j ≡ k
       one r zero zero zero lr li ex lj lk e f = refl
       one r zero zero (suc zero) lr li ex lj lk e f = absurd (not-both r lr e f)
       one r zero zero (suc (suc k)) lr li ex lj lk e f = absurd (omega arith)
@@ -274,16 +282,17 @@ unfolding used
 room-back a b = lit≤ tt
 
 -- A full set exists for two tables with lawful flags, and at its pairs the theorem says whether their ledgers are equal.
-pub branches-compared : (set : List (Pairing (List ℕ)))
-    × (SameLedger babybear 1 choosing choosing-back ↔ AtEachPair set (AgreeAt cabinet babybear babybear-w choosing choosing-back buffers buffers))
-branches-compared =
-    let k = branch-holds in
+pub branches-compared : (field : ℕ) → T (known-field field)
+    → (set : List (Pairing (List ℕ)))
+    × (SameLedger (prime-of field) 1 choosing choosing-back ↔ AtEachPair set (AgreeAt (generate-in field) choosing choosing-back buffers buffers))
+branches-compared field ok =
+    let k = branch-holds field ok in
     let (set, full, accepted₁, accepted₂) =
-    cabinet-full-set-exists choosing choosing-back 1 buffers buffers (lit≤ tt) (of-true (k .0)) (of-true (k .1 .0))
-    (lawful (3 ∷ 1 ∷ 0 ∷ 4 ∷ 0 ∷ 1 ∷ 5 ∷ 0 ∷ 0 ∷ []) (of-true (k .1 .1 .0))) (lawful (5 ∷ 0 ∷ 1 ∷ 3 ∷ 1 ∷ 0 ∷ []) (of-true (k .1 .1 .1 .0))) room
-    room-back in (
+    logup-full-sets (choices-of field 1) 1 (known-of field ok) rule-1 choosing choosing-back 1 buffers buffers (lit≤ tt) (of-true (k .0)) (of-true (k .1 .0))
+    (lawful field (3 ∷ 1 ∷ 0 ∷ 4 ∷ 0 ∷ 1 ∷ 5 ∷ 0 ∷ 0 ∷ []) (of-true (k .1 .1 .0))) (lawful field (5 ∷ 0 ∷ 1 ∷ 3 ∷ 1 ∷ 0 ∷ []) (of-true (k .1 .1 .1 .0)))
+    room room-back in (
       set,
-      logup-soundness choosing choosing-back m-bus 1 set buffers buffers
+      soundness-in field ok choosing choosing-back m-bus 1 set buffers buffers
           (record {
             some-words = lit≤ tt;
             on-bus₁ = branches-on-bus (3 ∷ 1 ∷ 0 ∷ 4 ∷ 0 ∷ 1 ∷ 5 ∷ 0 ∷ 0 ∷ []);

@@ -1,23 +1,26 @@
 -- The theorem of SPECIFICATION, section 9.3, is not empty: any two tables with ledgers and lawful flags have a full set at each pair of
--- which generation accepts both, if the field is large enough; the cabinet's is, for all tables within its limits.
+-- which generation accepts both, if the field is large enough; the known ones are, for all tables within the cabinet's limits.
 use mathlib.Core.Path.{_≡_, refl, sym, ap, _∙_, subst}
 use mathlib.Core.Bool.{Bool, true, false, cond, _||_}
 use mathlib.Core.List.{List, [], _∷_, _++_, map, List-discrete, List·Memᴰ, Memᴰ·append-left, Memᴰ·append-right, Memᴰ·map}
 use Prim.Native.Nat.{ℕ, suc, _+_, _*_, _-_, _/_, _<_, _≤_}
 use native.Mathlib.Omega.{arith}
 use native.Mathlib.Decide.{ℕ-discrete}
-use native.Mathlib.Nat.{le-refl, mul-le-mul}
+use native.Mathlib.Nat.{le-refl, le-trans, mul-le-mul}
 use lib.Dec.{T, eqb, eqb→eq, leb→le}
 use lib.ListN.{length, take, length-append, length-map}
 use lib.Seq.{length-take-le}
 use Rattle.lists.specs.Count.{total}
 use Rattle.lists.specs.laws.Count.{and-left, and-right}
 use Rattle.lists.specs.laws.Joined.{joined-length, joined-total}
-use Rattle.field.specs.Modulus.{Certificate, babybear, babybear-w}
-use Rattle.field.specs.laws.Extension.{h, babybear-certificate}
+use Rattle.field.specs.Modulus.{Certificate}
+use Rattle.field.specs.Known.{babybear, prime-of, w-of}
+use Rattle.field.specs.laws.Extension.{h}
+use Rattle.field.specs.laws.Known.{certificate-of}
 use Rattle.theorems_logup.specs.Distinct.{Distinct}
 use Rattle.theorems_logup.specs.Sets.{Pairing}
 use Rattle.theorems_logup.specs.laws.Exists.{pairings, take-member, take-distinct}
+use Rattle.expression.specs.Choices.{limits-of}
 use Rattle.expression.specs.Limits.{cabinet}
 use Rattle.expression.specs.Tests.{traces-within}
 use Rattle.expression.specs.Values.{row-values}
@@ -26,10 +29,12 @@ use Rattle.lookup.specs.Lookups.{lookup-count, tuple-count, tuple-start}
 use Rattle.lookup.specs.Table.{Table}
 use Rattle.lookup.specs.Tests.{lookups-within, lookups-fit, sizes}
 use Rattle.logup.specs.Tuple.{combine}
+use Rattle.logup.specs.Generation.{generation}
 use Rattle.logup.specs.Ledger.{has-ledger, Entry, Element, entry, lookup-entries, row-entries, entries, met, listed, tuples-met}
 use Rattle.theorems_soundness.specs.Soundness.{FullSet, Buffers, AcceptedAt, AtEachPair}
-use Rattle.theorems_soundness.specs.FullSets.{LongEnough, FullSetsExist}
+use Rattle.theorems_soundness.specs.FullSets.{LongEnough, FullSetsExist, KnownFullSets}
 use Rattle.theorems_soundness.specs.Lawful.{LawfulFlags}
+use Rattle.theorems_soundness.specs.laws.Choices.{prime-least, at-known}
 use Rattle.theorems_soundness.specs.laws.Points.{elements, elements-many, elements-distinct, elements-are}
 use Rattle.theorems_soundness.specs.laws.Entered.{ledgered}
 use Rattle.theorems_soundness.specs.laws.Accepts.{accepts-at}
@@ -55,7 +60,7 @@ module _ (m : Limits) (p w : ℕ) (C : Certificate p w) (t₁ t₂ : Table) (wid
 
   pub full-set-exists : n + (length (entries p t₁) + length (entries p t₂)) ≤ p * p * p * p → betas ≤ p * p * p * p
       → (set : List (Pairing (List ℕ))) × FullSet p width n set
-      × AtEachPair set (AcceptedAt m p w t₁ buffers₁) × AtEachPair set (AcceptedAt m p w t₂ buffers₂)
+      × AtEachPair set (AcceptedAt (generation m p w) t₁ buffers₁) × AtEachPair set (AcceptedAt (generation m p w) t₂ buffers₂)
   full-set-exists enough many =
       let pos : 0 < p = h p w C in
       let ps : List (List ℕ) = elements p pos in
@@ -104,6 +109,10 @@ met-length (e ∷ es) = go (eqb (e .count) 0 || listed (e .tuple) (met es)) (met
     go true l = omega arith
     go false l = omega arith
 
+-- how many elements the field has at least
+pub fourth-least : (p : ℕ) → babybear ≤ p → babybear * babybear * babybear * babybear ≤ p * p * p * p
+fourth-least p l = mul-le-mul (mul-le-mul (mul-le-mul l l) l) l
+
 -- 64 tuples, height 2^20
 cabinet-entries : (p : ℕ) (t : Table) → T (sizes cabinet t) → length (entries p t) ≤ 67108864
 unfolding cabinet sizes traces-within lookups-within lookups-fit
@@ -121,18 +130,26 @@ cabinet-met p t₁ t₂ ok₁ ok₂ =
     omega
     (arith, met-length (entries p t₁ ++ entries p t₂), length-append (entries p t₁) (entries p t₂), cabinet-entries p t₁ (ledgered cabinet p t₁ ok₁ .one), cabinet-entries p t₂ (ledgered cabinet p t₂ ok₂ .one))
 
-betas-few : (width n : ℕ) → width ≤ 8 → n ≤ 134217728 → 1 + (width - 1) * n * (n - 1) / 2 ≤ babybear * babybear * babybear * babybear
-betas-few width n lw ln =
+betas-few : (p width n : ℕ) → babybear ≤ p → width ≤ 8 → n ≤ 134217728 → 1 + (width - 1) * n * (n - 1) / 2 ≤ p * p * p * p
+betas-few p width n lp lw ln =
     let a : width - 1 ≤ 7 = omega arith in
     let b : n - 1 ≤ 134217728 = omega arith in
     let c : (width - 1) * n * (n - 1) ≤ 7 * 134217728 * 134217728 = mul-le-mul (mul-le-mul a ln) b in
-    omega arith
+    le-trans {m = babybear * babybear * babybear * babybear} (omega arith) (fourth-least p lp)
 
--- A full set exists in the cabinet's field for all tables within its limits, of tuples of at most 8 words
-pub cabinet-full-set-exists : FullSetsExist cabinet babybear babybear-w
-cabinet-full-set-exists t₁ t₂ width buffers₁ buffers₂ lw ok₁ ok₂ flags₁ flags₂ room₁ room₂ =
-    let few₁ : length (entries babybear t₁) ≤ 67108864 = cabinet-entries babybear t₁ (ledgered cabinet babybear t₁ ok₁ .one) in
-    let few₂ : length (entries babybear t₂) ≤ 67108864 = cabinet-entries babybear t₂ (ledgered cabinet babybear t₂ ok₂ .one) in
-    let few : tuples-met babybear t₁ t₂ ≤ 134217728 = cabinet-met babybear t₁ t₂ ok₁ ok₂ in
-    full-set-exists cabinet babybear babybear-w babybear-certificate t₁ t₂ width buffers₁ buffers₂ ok₁ ok₂ flags₁ flags₂ room₁ room₂
-    (omega arith) (betas-few width (tuples-met babybear t₁ t₂) lw few)
+-- A full set exists for all tables within the cabinet's limits, of tuples of at most 8 words, where the prime is no less than babybear
+pub cabinet-full-set-exists : (p w : ℕ) → Certificate p w → babybear ≤ p → FullSetsExist cabinet p (generation cabinet p w)
+cabinet-full-set-exists p w C lp t₁ t₂ width buffers₁ buffers₂ lw ok₁ ok₂ flags₁ flags₂ room₁ room₂ =
+    let few₁ : length (entries p t₁) ≤ 67108864 = cabinet-entries p t₁ (ledgered cabinet p t₁ ok₁ .one) in
+    let few₂ : length (entries p t₂) ≤ 67108864 = cabinet-entries p t₂ (ledgered cabinet p t₂ ok₂ .one) in
+    let few : tuples-met p t₁ t₂ ≤ 134217728 = cabinet-met p t₁ t₂ ok₁ ok₂ in
+    let many : babybear * babybear * babybear * babybear ≤ p * p * p * p = fourth-least p lp in
+    full-set-exists cabinet p w C t₁ t₂ width buffers₁ buffers₂ ok₁ ok₂ flags₁ flags₂ room₁ room₂
+    (omega arith) (betas-few p width (tuples-met p t₁ t₂) lp lw few)
+
+-- and so in each field, at the entry point
+pub logup-full-sets : KnownFullSets
+unfolding limits-of
+logup-full-sets =
+    at-known FullSetsExist
+    (λ c k. cabinet-full-set-exists (prime-of (c .field)) (w-of (c .field)) (certificate-of (c .field)) (prime-least (c .field)))

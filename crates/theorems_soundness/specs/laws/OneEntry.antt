@@ -19,7 +19,7 @@ use Rattle.expression.specs.declared.sizes.Limits.{Limits}
 use Rattle.lookup.specs.Lookups.{tuple-count, exclusive, lookup-at, name-start, tuple-start, tuple-width}
 use Rattle.logup.specs.Tuple.{tuple, combine}
 use Rattle.logup.specs.Rows.{used}
-use Rattle.logup.specs.Generation.{terminal-words}
+use Rattle.logup.specs.Generation.{generation, terminal-words}
 use Rattle.logup.specs.Ledger.{has-ledger, Entry, Element, count, entries}
 use Rattle.theorems_soundness.specs.Soundness.{AllWide, OnBus, Comparable, AcceptedAt, answer-at}
 use Rattle.theorems_soundness.specs.Error.{Passes}
@@ -108,15 +108,15 @@ module _ (m : Limits) (p w : ℕ) (M : Modulus p) (C : Certificate p w) where
   -- a table of one entry at a pair at which its denominator is not zero
   module _ (es : List ℕ) (c : ℕ) (ok : T (has-ledger m p (one es c))) (is : entries p (one es c) ≡ record { tuple = es; count = c } ∷ [])
       (a b : List ℕ) (ea : Element p a) (eb : Element p b) (off : a ≢ combine p w b es) where
-    accepted : AcceptedAt m p w (one es c) buffers a b
+    accepted : AcceptedAt (generation m p w) (one es c) buffers a b
     accepted =
         accepts-at m p w C (one es c) a b (buffers a b) ea eb ok (no-flags p es c) (room es c)
         (λ e k at. off (at ∙ ap (λ (e : Entry). combine p w b (e .tuple)) (List·Memᴰ·eq-of-singleton (subst (List·Memᴰ e) is k))))
 
-    words : Element p (terminal-words (answer-at m p w (one es c) buffers a b))
+    words : Element p (terminal-words (answer-at (generation m p w) (one es c) buffers a b))
     words = sums m p w M C (one es c) ok buffers a b ea eb accepted .words
 
-    pub terminal-is : el p w C (terminal-words (answer-at m p w (one es c) buffers a b)) ≡ term a b (record { tuple = es; count = c })
+    pub terminal-is : el p w C (terminal-words (answer-at (generation m p w) (one es c) buffers a b)) ≡ term a b (record { tuple = es; count = c })
     terminal-is =
         sums m p w M C (one es c) ok buffers a b ea eb accepted .is
         ∙ ap (Tables.terminal (K p w C) (N p w C) (el p w C a) (el p w C b)) is
@@ -126,7 +126,7 @@ module _ (m : Limits) (p w : ℕ) (M : Modulus p) (C : Certificate p w) where
       → entries p (one es₁ c₁) ≡ record { tuple = es₁; count = c₁ } ∷ [] → entries p (one es₂ c₂) ≡ record { tuple = es₂; count = c₂ } ∷ []
       → (a b : List ℕ) → Element p a → Element p b → a ≢ combine p w b es₁ → a ≢ combine p w b es₂
       → term a b (record { tuple = es₁; count = c₁ }) ≡ term a b (record { tuple = es₂; count = c₂ })
-      → Passes m p w (one es₁ c₁) (one es₂ c₂) buffers buffers (record { alpha = a; beta = b })
+      → Passes p (generation m p w) (one es₁ c₁) (one es₂ c₂) buffers buffers (record { alpha = a; beta = b })
   passes es₁ es₂ c₁ c₂ ok₁ ok₂ is₁ is₂ a b ea eb off₁ off₂ same =
       record {
         challenges = record { alpha-element = ea; beta-element = eb };

@@ -1,5 +1,5 @@
--- Terminals determine ledgers (SPECIFICATION, section 9.3), over generation's own answers, for every field with a certificate and for the
--- cabinet's.
+-- Terminals determine ledgers (SPECIFICATION, section 9.3), over generation's own answers, for every field with a certificate and so for each
+-- known one.
 use mathlib.Core.Path.{_≡_, refl, sym, ap, _∙_, subst}
 use mathlib.Core.Logic.{_≢_, _↔_, if-neg}
 use mathlib.Core.List.{List, [], _∷_, _++_, map, List-discrete, List·Memᴰ, List·Memᴰ·head, List·Memᴰ·tail, Memᴰ·map, Memᴰ·of-map, Memᴰ·cast}
@@ -8,22 +8,22 @@ use native.Mathlib.Decide.{ℕ-discrete}
 use lib.Dec.{T}
 use lib.ListN.{length}
 use Rattle.field.specs.Word.{addM}
-use Rattle.field.specs.Modulus.{Modulus, Certificate, babybear, babybear-w}
+use Rattle.field.specs.Modulus.{Modulus, Certificate}
 use Rattle.field.specs.Extension.{K, KEl, el}
-use Rattle.field.specs.laws.Extension.{babybear-certificate, babybear-modulus}
 use Rattle.theorems_logup.specs.Tables as Tables
 use Rattle.theorems_logup.specs.Sets as Sets
 use Rattle.theorems_logup.specs.Sets.{Pairing}
 use Rattle.theorems_logup.specs.laws.Support.{member?, support, support-is}
 use Rattle.theorems_logup.specs.laws.Balance.{balance}
-use Rattle.expression.specs.Limits.{cabinet}
 use Rattle.expression.specs.declared.sizes.Limits.{Limits}
 use Rattle.lookup.specs.Table.{Table}
 use Rattle.lookup.specs.Tests.{words-below}
 use Rattle.lookup.specs.Requires.{Fitting}
+use Rattle.logup.specs.Generation.{generation}
 use Rattle.logup.specs.Ledger.{has-ledger, Entry, entries, tuples-met, Element, Listed, at-pair}
-use Rattle.theorems_soundness.specs.Soundness.{FullSet, AllWide, Buffers, answer-at, AcceptedAt, AgreeAt, AtEachPair, TerminalsDetermineLedgers, LogUpSoundness}
+use Rattle.theorems_soundness.specs.Soundness.{FullSet, AllWide, Buffers, answer-at, AcceptedAt, AgreeAt, AtEachPair, TerminalsDetermineLedgers, LogUpSoundness, KnownSoundness}
 use Rattle.theorems_soundness.specs.Entries.{N}
+use Rattle.theorems_soundness.specs.laws.Choices.{of-every-field}
 use Rattle.theorems_soundness.specs.laws.Setting.{same-of-el}
 use Rattle.theorems_soundness.specs.laws.Pairs.{in-field, each-pair, full}
 use Rattle.theorems_soundness.specs.laws.Values.{fitting-of}
@@ -75,24 +75,24 @@ fits-of m p t ok = fitting-of m t (ledgered m p t ok .one)
 
 -- the sums of one table at a pair
 pub sums : (m : Limits) (p w : ℕ) (M : Modulus p) (C : Certificate p w) (t : Table) (ok : T (has-ledger m p t)) (buffers : Buffers)
-    (a b : List ℕ) (ea : Element p a) (eb : Element p b) → AcceptedAt m p w t buffers a b
-    → Sums m p w M C t a b (words-of m p t ok) ea eb (answer-at m p w t buffers a b)
+    (a b : List ℕ) (ea : Element p a) (eb : Element p b) → AcceptedAt (generation m p w) t buffers a b
+    → Sums m p w M C t a b (words-of m p t ok) ea eb (answer-at (generation m p w) t buffers a b)
 sums m p w M C t ok buffers a b ea eb acc =
-    sums-of m p w M C t a b (words-of m p t ok) ea eb (buffers a b) (answer-at m p w t buffers a b)
+    sums-of m p w M C t a b (words-of m p t ok) ea eb (buffers a b) (answer-at (generation m p w) t buffers a b)
     (accepted-of m p w t (at-pair t a b) (buffers a b) acc)
 
 -- and at each pair of a set
 sums-at : (m : Limits) (p w : ℕ) (M : Modulus p) (C : Certificate p w) (t : Table) (buffers : Buffers) (ok : T (has-ledger m p t))
-    (width n : ℕ) (set : List (Pairing (List ℕ))) (f : FullSet p width n set) → AtEachPair set (AcceptedAt m p w t buffers)
+    (width n : ℕ) (set : List (Pairing (List ℕ))) (f : FullSet p width n set) → AtEachPair set (AcceptedAt (generation m p w) t buffers)
     → (r : Pairing (List ℕ)) (k : List·Memᴰ r set) (a : List ℕ) (ma : List·Memᴰ a (r .alphas))
-    → Sums m p w M C t a (r .beta) (words-of m p t ok) (f .alpha-element r k a ma) (f .beta-element r k) (answer-at m p w t buffers a (r .beta))
+    → Sums m p w M C t a (r .beta) (words-of m p t ok) (f .alpha-element r k a ma) (f .beta-element r k) (answer-at (generation m p w) t buffers a (r .beta))
 sums-at m p w M C t buffers ok width n set f acc r k a ma =
     sums m p w M C t ok buffers a (r .beta) (f .alpha-element r k a ma) (f .beta-element r k) (acc r k a ma)
 
 -- tables on any buses and tuples of any width
 module _ (m : Limits) (p w : ℕ) (M : Modulus p) (C : Certificate p w) (t₁ t₂ : Table) (width : ℕ) (set : List (Pairing (List ℕ)))
     (buffers₁ buffers₂ : Buffers) where
-  balanced : AllWide width t₁ → AllWide width t₂ → T (has-ledger m p t₁) → T (has-ledger m p t₂) → TerminalsDetermineLedgers m p w t₁ t₂ width set buffers₁ buffers₂
+  balanced : AllWide width t₁ → AllWide width t₂ → T (has-ledger m p t₁) → T (has-ledger m p t₂) → TerminalsDetermineLedgers p (generation m p w) t₁ t₂ width set buffers₁ buffers₂
   balanced wide₁ wide₂ ok₁ ok₂ f acc₁ acc₂ = (
     λ same r k a ma.
         forth r k a ma
@@ -117,11 +117,11 @@ module _ (m : Limits) (p w : ℕ) (M : Modulus p) (C : Certificate p w) (t₁ t�
       T₂ = table-of p w M C t₂ (words-of m p t₂ ok₂) (fits-of m p t₂ ok₂) width wide₂
 
       at₁ : (r : Pairing (List ℕ)) (k : List·Memᴰ r set) (a : List ℕ) (ma : List·Memᴰ a (r .alphas))
-          → Sums m p w M C t₁ a (r .beta) (words-of m p t₁ ok₁) (f .alpha-element r k a ma) (f .beta-element r k) (answer-at m p w t₁ buffers₁ a (r .beta))
+          → Sums m p w M C t₁ a (r .beta) (words-of m p t₁ ok₁) (f .alpha-element r k a ma) (f .beta-element r k) (answer-at (generation m p w) t₁ buffers₁ a (r .beta))
       at₁ = sums-at m p w M C t₁ buffers₁ ok₁ width (tuples-met p t₁ t₂) set f acc₁
 
       at₂ : (r : Pairing (List ℕ)) (k : List·Memᴰ r set) (a : List ℕ) (ma : List·Memᴰ a (r .alphas))
-          → Sums m p w M C t₂ a (r .beta) (words-of m p t₂ ok₂) (f .alpha-element r k a ma) (f .beta-element r k) (answer-at m p w t₂ buffers₂ a (r .beta))
+          → Sums m p w M C t₂ a (r .beta) (words-of m p t₂ ok₂) (f .alpha-element r k a ma) (f .beta-element r k) (answer-at (generation m p w) t₂ buffers₂ a (r .beta))
       at₂ = sums-at m p w M C t₂ buffers₂ ok₂ width (tuples-met p t₁ t₂) set f acc₂
 
       n-is : tuples-met p t₁ t₂ ≡ length (support (K p w C) (N p w C) (E₁ ++ E₂))
@@ -137,19 +137,19 @@ module _ (m : Limits) (p w : ℕ) (M : Modulus p) (C : Certificate p w) (t₁ t�
 
       forth : (r : Pairing (List ℕ)) (k : List·Memᴰ r set) (a : List ℕ) (ma : List·Memᴰ a (r .alphas))
           → term (el p w C a) (el p w C (r .beta)) E₁ ≡ term (el p w C a) (el p w C (r .beta)) E₂
-          → AgreeAt m p w t₁ t₂ buffers₁ buffers₂ a (r .beta)
+          → AgreeAt (generation m p w) t₁ t₂ buffers₁ buffers₂ a (r .beta)
       forth r k a ma e = same-of-el p w C _ _ (at₁ r k a ma .words) (at₂ r k a ma .words) (at₁ r k a ma .is ∙ e ∙ sym (at₂ r k a ma .is))
 
-      back : AtEachPair set (AgreeAt m p w t₁ t₂ buffers₁ buffers₂)
+      back : AtEachPair set (AgreeAt (generation m p w) t₁ t₂ buffers₁ buffers₂)
           → (r : Pairing (List ℕ)) → List·Memᴰ r set → (a : List ℕ) → List·Memᴰ a (r .alphas)
           → term (el p w C a) (el p w C (r .beta)) E₁ ≡ term (el p w C a) (el p w C (r .beta)) E₂
       back agree r k a ma = sym (at₁ r k a ma .is) ∙ ap (el p w C) (agree r k a ma) ∙ at₂ r k a ma .is
 
 -- for every prime and value of X⁴ that make a field
-pub terminals-determine-ledgers : (m : Limits) (p w : ℕ) → Modulus p → Certificate p w → LogUpSoundness m p w
+pub terminals-determine-ledgers : (m : Limits) (p w : ℕ) → Modulus p → Certificate p w → LogUpSoundness m p (generation m p w)
 terminals-determine-ledgers m p w M C t₁ t₂ bus width set buffers₁ buffers₂ c =
     balanced m p w M C t₁ t₂ width set buffers₁ buffers₂ (c .wide₁) (c .wide₂) (c .ledger₁) (c .ledger₂)
 
--- and for the cabinet and its field
-pub logup-soundness : LogUpSoundness cabinet babybear babybear-w
-logup-soundness = terminals-determine-ledgers cabinet babybear babybear-w babybear-modulus babybear-certificate
+-- and so in each field, at the entry point
+pub logup-soundness : KnownSoundness
+logup-soundness = of-every-field LogUpSoundness terminals-determine-ledgers

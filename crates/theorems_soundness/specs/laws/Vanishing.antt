@@ -1,5 +1,5 @@
 -- The rows pass exactly where every constraint is zero on every row, and so does the entry point where its tests pass.
-use mathlib.Core.Path.{_≡_, refl, sym, ap, ap₂, _∙_}
+use mathlib.Core.Path.{_≡_, refl, sym, ap, ap₂, _∙_, subst}
 use mathlib.Core.Logic.{_↔_}
 use mathlib.Core.Bool.{Bool, true, false, cond}
 use mathlib.Core.Option.{Option, none, some, Option·some-ne-none}
@@ -10,13 +10,16 @@ use borrow.Author.Tests.{lt-ltb, le-ltb}
 use Rattle.lists.specs.Count.{or-else}
 use Rattle.lists.specs.laws.Count.{first-none, first-all, or-else-none, of-true, not-of-false, eqb-true, eq-of-eqb}
 use Rattle.field.specs.Element.{is-zero}
+use Rattle.field.specs.Known.{prime-of, w-of}
+use Rattle.expression.specs.Choices.{limits-of}
 use Rattle.expression.specs.Values.{row-values}
 use Rattle.expression.specs.declared.sizes.Limits.{Limits}
 use Rattle.expression.specs.declared.refusal.Refusal.{Refusal}
 use Rattle.expression.specs.declared.refusal.Refusal.the-variants.{ConstraintNotZero}
 use Rattle.lookup.specs.Lookups.{Lookups, lookup-count}
 use Rattle.logup.specs.Constraints.{must-vanish, cell, lookup-constraint, step, binding, row-verdict, rows-verdict, verdict}
-use Rattle.theorems_soundness.specs.Vanishing.{RowVanishes, Vanishes, PassesExactly, AcceptedExactly}
+use Rattle.logup.specs.laws.Choices.{verdict-known}
+use Rattle.theorems_soundness.specs.Vanishing.{RowVanishes, Vanishes, PassesExactly, AcceptedExactly, KnownVanishing}
 
 module _ {A : Type 0} where
   both-none : (a b : Option A) → a ≡ none → b ≡ none → or-else a b ≡ none
@@ -90,8 +93,14 @@ pub passes-exactly : (p w : ℕ) → PassesExactly p w
 passes-exactly p w l challenges values height width words e = vanish p w l challenges values height width words e
 
 -- the entry point: "none where all constraints hold"
-pub accepted-exactly : (m : Limits) (p w : ℕ) → AcceptedExactly m p w
+pub accepted-exactly : (m : Limits) (p w : ℕ) → AcceptedExactly m p w (verdict m p w)
 unfolding verdict
 accepted-exactly m p w t challenges width words e =
     let q = passes-exactly p w (t .lookups) challenges (row-values p (t .nodes) (t .traces)) (t .traces .shape .height) width words e in
     (λ v. let (a, b) = or-else-none v in (a, q .0 b), λ v. both-none _ _ (v .0) (q .1 (v .1)))
+
+-- and so in each field
+pub logup-vanishing : KnownVanishing
+logup-vanishing c rule k r =
+    subst (AcceptedExactly (limits-of (c .profile)) (prime-of (c .field)) (w-of (c .field))) (sym (verdict-known c rule k r))
+    (accepted-exactly (limits-of (c .profile)) (prime-of (c .field)) (w-of (c .field)))
