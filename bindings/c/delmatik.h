@@ -1,11 +1,14 @@
 /*
- * Delmatik for C: a verified LogUp lookup argument over the field of p = 2013265921 and its extension of degree 4 (X^4 = 11).
+ * Delmatik for C: a verified LogUp lookup argument over one of two prime fields and its extension of degree 4.
  *
  * Build the library with `rt staticlib delmatik` and link target/staticlib/libdelmatik.a. A first call is in first.c. The functions whose
  * names end in _bytes are in a library of their own: `rt staticlib delmatik_bytes`, target/staticlib/libdelmatik_bytes.a. A program may link
  * both.
  *
- * - Words are below p. An extension element is four words, c0 to c3.
+ * - Every function that can refuse takes the numbers of a field and of a profile first, generation and constraints that of a tuple rule
+ *   third, delmatik_power and delmatik_inverse the field's alone: DELMATIK_BABYBEAR and so on, below. An unknown number is refusal 1, before
+ *   anything else is read, and then nothing at all is written but the details.
+ * - Words are below the prime p of the field. An extension element is four words, c0 to c3: c0 + c1 X + c2 X^2 + c3 X^3.
  * - A list is a pointer and a length; the pointer of an empty list may be any that is not NULL. A function takes any words and lengths: it
  *   tests them itself, and reads and writes the lent lists alone.
  * - It returns the number of the refusal, 0 where nothing is refused, and writes three details, zero unless the table of refusals in
@@ -24,6 +27,20 @@
 extern "C" {
 #endif
 
+/* The field of a call, of which all its words are; any other number is refusal 1, before anything else is read.
+ * In field 1 the prime p is 2013265921 = 2^31 - 2^27 + 1, and X^4 is 11.
+ * In field 2 the prime p is 2130706433 = 2^31 - 2^24 + 1, and X^4 is 3. */
+#define DELMATIK_BABYBEAR 1
+#define DELMATIK_KOALABEAR 2
+
+/* The profile of a call; any other number is refusal 1, before anything else is read.
+ * In the cabinet a call keeps the limits of docs/SPECIFICATION.md, section 11, and what passes one is refusal 1. */
+#define DELMATIK_CABINET 1
+
+/* The tuple rule of generation and constraints; any other number is refusal 1, before anything else is read.
+ * By rule 1 the first word of a tuple goes with the highest power of beta, and the last with beta^0. */
+#define DELMATIK_RULE_1 1
+
 /*
  * A table's lists, in the order in which every function takes them:
  *   main, preprocessed   the traces, row by row
@@ -38,7 +55,8 @@ extern "C" {
 /* generate_permutation: two challenges for each lookup, alpha then beta, four words each. The trace takes height * (lookups + 1) * 4 words,
  * row by row: the accumulator, then the fractions; words past them are untouched. terminal: 1 and four words, or five zeros where there is
  * none. Refusals 1 to 12 leave trace and terminal as they were; after 13 to 15 these words of the trace and the terminal are zeros. */
-uint32_t delmatik_generate(size_t main_width, size_t height, size_t pre_width, size_t pre_height,
+uint32_t delmatik_generate(uint32_t field, uint32_t profile, uint32_t rule,
+    size_t main_width, size_t height, size_t pre_width, size_t pre_height,
     const uint32_t *main, size_t main_len, const uint32_t *preprocessed, size_t preprocessed_len,
     const uint32_t *public_values, size_t public_values_len, const uint32_t *nodes, size_t nodes_len,
     const uint32_t *lookups, size_t lookups_len, const uint8_t *names, size_t names_len,
@@ -48,7 +66,8 @@ uint32_t delmatik_generate(size_t main_width, size_t height, size_t pre_width, s
     uint32_t terminal[5], uint64_t details[3]);
 
 /* eval_all over every row of a trace of trace_width elements a row; terminal_present is 0 where there is none. */
-uint32_t delmatik_constraints(size_t main_width, size_t height, size_t pre_width, size_t pre_height,
+uint32_t delmatik_constraints(uint32_t field, uint32_t profile, uint32_t rule,
+    size_t main_width, size_t height, size_t pre_width, size_t pre_height,
     const uint32_t *main, size_t main_len, const uint32_t *preprocessed, size_t preprocessed_len,
     const uint32_t *public_values, size_t public_values_len, const uint32_t *nodes, size_t nodes_len,
     const uint32_t *lookups, size_t lookups_len, const uint8_t *names, size_t names_len,
@@ -62,7 +81,8 @@ uint32_t delmatik_constraints(size_t main_width, size_t height, size_t pre_width
 void delmatik_row(const uint32_t *trace, size_t trace_len, size_t lookups, size_t height, uint64_t row, uint64_t part[2]);
 
 /* constraint_degree_with_transition of one lookup; transition is 0 or 1. A refusal leaves degree as it was. */
-uint32_t delmatik_degree(size_t main_width, size_t pre_width, size_t public_values, const uint32_t *nodes, size_t nodes_len,
+uint32_t delmatik_degree(uint32_t field, uint32_t profile,
+    size_t main_width, size_t pre_width, size_t public_values, const uint32_t *nodes, size_t nodes_len,
     const uint32_t *lookups, size_t lookups_len, const uint8_t *names, size_t names_len,
     const uint32_t *tuples, size_t tuples_len, const uint32_t *multiplicities, size_t multiplicities_len,
     const uint32_t *flags, size_t flags_len, const uint32_t *elements, size_t elements_len,
@@ -71,7 +91,8 @@ uint32_t delmatik_degree(size_t main_width, size_t pre_width, size_t public_valu
 /* pack_same_bus: the packed lookups into the front of six lists; used says how much of each is used, and what lies past that is untouched.
  * Each list must be as long as the table's own at least (refusal 1), and what is written then finds room: packing writes no more than it
  * reads. A refusal leaves the lists and used as they were. */
-uint32_t delmatik_pack(uint64_t limit, size_t main_width, size_t pre_width, size_t public_values, const uint32_t *nodes, size_t nodes_len,
+uint32_t delmatik_pack(uint32_t field, uint32_t profile,
+    uint64_t limit, size_t main_width, size_t pre_width, size_t public_values, const uint32_t *nodes, size_t nodes_len,
     const uint32_t *lookups, size_t lookups_len, const uint8_t *names, size_t names_len,
     const uint32_t *tuples, size_t tuples_len, const uint32_t *multiplicities, size_t multiplicities_len,
     const uint32_t *flags, size_t flags_len, const uint32_t *elements, size_t elements_len,
@@ -84,7 +105,8 @@ uint32_t delmatik_pack(uint64_t limit, size_t main_width, size_t pre_width, size
  * what lies past them is untouched. A refusal leaves lookups_out and used as they were.
  * interactions has two words for each, locals first, then globals, then exclusives: the length of its name and the number of its tuples, one
  * for a global. weights has one for each tuple. The other lists are those that the lookups will have. */
-uint32_t delmatik_build(size_t main_width, size_t pre_width, size_t public_values, const uint32_t *nodes, size_t nodes_len,
+uint32_t delmatik_build(uint32_t field, uint32_t profile,
+    size_t main_width, size_t pre_width, size_t public_values, const uint32_t *nodes, size_t nodes_len,
     size_t locals, size_t globals, size_t exclusives, const uint32_t *interactions, size_t interactions_len,
     const uint32_t *weights, size_t weights_len, const uint8_t *names, size_t names_len,
     const uint32_t *tuples, size_t tuples_len, const uint32_t *multiplicities, size_t multiplicities_len,
@@ -94,28 +116,32 @@ uint32_t delmatik_build(size_t main_width, size_t pre_width, size_t public_value
 /* Counts (Count of count.rs): a count is a node and its weight, a bound on its magnitude. The table is the first `used` nodes of the list, which
  * must have room for one more; from_i32 adds a constant, negated a negation, as node `used`. A refusal leaves nodes and count as they were.
  * bounded is a count that the table's constraints keep within a bound, provided one that the height bound leaves out; they refuse nothing. */
-uint32_t delmatik_count_from_i32(uint32_t *nodes, size_t nodes_len, size_t used, int32_t x, uint32_t count[2], uint64_t details[3]);
-uint32_t delmatik_count_negated(uint32_t *nodes, size_t nodes_len, size_t used, uint32_t node, uint32_t weight, uint32_t count[2],
-    uint64_t details[3]);
+uint32_t delmatik_count_from_i32(uint32_t field, uint32_t profile,
+    uint32_t *nodes, size_t nodes_len, size_t used, int32_t x, uint32_t count[2], uint64_t details[3]);
+uint32_t delmatik_count_negated(uint32_t field, uint32_t profile,
+    uint32_t *nodes, size_t nodes_len, size_t used, uint32_t node, uint32_t weight, uint32_t count[2], uint64_t details[3]);
 void delmatik_count_bounded(uint32_t node, uint32_t weight, uint32_t count[2]);
 void delmatik_count_provided(uint32_t node, uint32_t count[2]);
 
 /* check_bus_widths over several tables, their lists one after the other; sizes has three for each table: lookups, bytes of names, tuples. Of
  * refusal 5 it tests what the lookups' words show: how many tuples, multiplicities and flags each has. A refusal leaves widest as it was. */
-uint32_t delmatik_widths(const uint32_t *lookups, size_t lookups_len, const uint8_t *names, size_t names_len,
+uint32_t delmatik_widths(uint32_t field, uint32_t profile,
+    const uint32_t *lookups, size_t lookups_len, const uint8_t *names, size_t names_len,
     const uint32_t *tuples, size_t tuples_len, const uint32_t *sizes, size_t sizes_len, uint64_t widest[1], uint64_t details[3]);
 
 /* The height bound: the lookups of all tables, and for each table how many it has, and its height. Of refusal 5 it tests what the lookups'
  * words show. */
-uint32_t delmatik_height_bound(const uint32_t *lookups, size_t lookups_len, const uint32_t *counts, size_t counts_len,
+uint32_t delmatik_height_bound(uint32_t field, uint32_t profile,
+    const uint32_t *lookups, size_t lookups_len, const uint32_t *counts, size_t counts_len,
     const uint32_t *heights, size_t heights_len, uint64_t details[3]);
 
 /* verify_terminal_sum: five words for each terminal, a mark (0 where it is absent) and four words. */
-uint32_t delmatik_terminals(const uint32_t *terminals, size_t terminals_len, uint64_t details[3]);
+uint32_t delmatik_terminals(uint32_t field, uint32_t profile, const uint32_t *terminals, size_t terminals_len, uint64_t details[3]);
 
 /* Challenges::new: prefix i is alpha + (i + 1) * beta^width, four words each; what lies past them is untouched. A refusal leaves out as it
  * was. */
-uint32_t delmatik_prefixes(const uint32_t *alpha, size_t alpha_len, const uint32_t *beta, size_t beta_len, size_t width, size_t count,
+uint32_t delmatik_prefixes(uint32_t field, uint32_t profile,
+    const uint32_t *alpha, size_t alpha_len, const uint32_t *beta, size_t beta_len, size_t width, size_t count,
     uint32_t *out, size_t out_len, uint64_t details[3]);
 
 /* check_lookups over several tables, their lists one after the other; sizes has fourteen for each table: main width, height, preprocessed
@@ -123,7 +149,8 @@ uint32_t delmatik_prefixes(const uint32_t *alpha, size_t alpha_len, const uint32
  * multiplicities, flags and elements it has. seed: any number; draw it where traces come from others; it changes the time and never the
  * answer. A slot of the workspace is ten words: tuple width, eight words, net. Refusals 1 to 12 leave the workspace as it was; after 16 it is
  * zero, after 18 it holds the slots of the group that is refused, and else those of the last group. */
-uint32_t delmatik_balance(const uint32_t *main, size_t main_len, const uint32_t *preprocessed, size_t preprocessed_len,
+uint32_t delmatik_balance(uint32_t field, uint32_t profile,
+    const uint32_t *main, size_t main_len, const uint32_t *preprocessed, size_t preprocessed_len,
     const uint32_t *public_values, size_t public_values_len, const uint32_t *nodes, size_t nodes_len,
     const uint32_t *lookups, size_t lookups_len, const uint8_t *names, size_t names_len,
     const uint32_t *tuples, size_t tuples_len, const uint32_t *multiplicities, size_t multiplicities_len,
@@ -134,13 +161,15 @@ uint32_t delmatik_balance(const uint32_t *main, size_t main_len, const uint32_t 
  * The same functions for a caller that holds bytes. Each list of words is a byte slice, four bytes a word, the least byte first; names are
  * bytes in any case. A function decodes the lists into two rooms of words: one for the lists that are read, and one for those that are
  * written. A room has exactly one word for each four bytes of its lists. A list whose length is no multiple of four, or a room of another
- * length, is refusal 1, and then nothing at all is written but the details. Otherwise the rooms, which are working memory, hold the words of
- * their lists afterwards, one list after the other, also after a refusal. What a function writes is encoded into the byte slice again; bytes
- * past it come back as they were, and so do all bytes after refusals 1 to 12. Lengths are in elements: bytes for lists, words for rooms.
+ * length, is refusal 1, and then, as with an unknown number, nothing at all is written but the details. Otherwise the rooms, which are
+ * working memory, hold the words of their lists afterwards, one list after the other, also after a refusal. What a function writes is
+ * encoded into the byte slice again; bytes past it come back as they were, and so do all bytes after refusals 1 to 12. Lengths are in
+ * elements: bytes for lists, words for rooms.
  */
 
 /* room: main, preprocessed, public values, nodes, challenges, lookups, tuples, multiplicities, flags, elements. trace_room: the trace. */
-uint32_t delmatik_generate_bytes(size_t main_width, size_t height, size_t pre_width, size_t pre_height,
+uint32_t delmatik_generate_bytes(uint32_t field, uint32_t profile, uint32_t rule,
+    size_t main_width, size_t height, size_t pre_width, size_t pre_height,
     const uint8_t *main, size_t main_len, const uint8_t *preprocessed, size_t preprocessed_len,
     const uint8_t *public_values, size_t public_values_len, const uint8_t *nodes, size_t nodes_len,
     const uint8_t *lookups, size_t lookups_len, const uint8_t *names, size_t names_len,
@@ -153,7 +182,8 @@ uint32_t delmatik_generate_bytes(size_t main_width, size_t height, size_t pre_wi
 
 /* used counts words, and bytes of names. room: nodes, lookups, tuples, multiplicities, flags, elements. out_room: the lists that are written,
  * lookups_out, tuples_out, multiplicities_out, flags_out, elements_out. */
-uint32_t delmatik_pack_bytes(uint64_t limit, size_t main_width, size_t pre_width, size_t public_values,
+uint32_t delmatik_pack_bytes(uint32_t field, uint32_t profile,
+    uint64_t limit, size_t main_width, size_t pre_width, size_t public_values,
     const uint8_t *nodes, size_t nodes_len, const uint8_t *lookups, size_t lookups_len,
     const uint8_t *names, size_t names_len, const uint8_t *tuples, size_t tuples_len,
     const uint8_t *multiplicities, size_t multiplicities_len, const uint8_t *flags, size_t flags_len,
@@ -165,7 +195,7 @@ uint32_t delmatik_pack_bytes(uint64_t limit, size_t main_width, size_t pre_width
     uint64_t used[6], uint64_t details[3]);
 
 /* room: main, preprocessed, public values, nodes, sizes, lookups, tuples, multiplicities, flags, elements. workspace_room: the workspace. */
-uint32_t delmatik_balance_bytes(
+uint32_t delmatik_balance_bytes(uint32_t field, uint32_t profile,
     const uint8_t *main, size_t main_len, const uint8_t *preprocessed, size_t preprocessed_len,
     const uint8_t *public_values, size_t public_values_len, const uint8_t *nodes, size_t nodes_len,
     const uint8_t *lookups, size_t lookups_len, const uint8_t *names, size_t names_len,
@@ -177,10 +207,10 @@ uint32_t delmatik_balance_bytes(
     uint32_t *room, size_t room_len, uint32_t *workspace_room, size_t workspace_room_len,
     uint64_t details[3]);
 
-/* One element: its power, and its inverse, 0 where it is 0. Refusal 1 where a or out is not four words, 2 where a word of a is not below p;
- * there are no details, and out is as it was then. */
-uint32_t delmatik_power(const uint32_t *a, size_t a_len, uint32_t n, uint32_t *out, size_t out_len);
-uint32_t delmatik_inverse(const uint32_t *a, size_t a_len, uint32_t *out, size_t out_len);
+/* One element: its power, and its inverse, 0 where it is 0. Refusal 1 where the field is unknown, or a or out is not four words; 2 where a
+ * word of a is not below p. There are no details, and out is as it was then. */
+uint32_t delmatik_power(uint32_t field, const uint32_t *a, size_t a_len, uint32_t n, uint32_t *out, size_t out_len);
+uint32_t delmatik_inverse(uint32_t field, const uint32_t *a, size_t a_len, uint32_t *out, size_t out_len);
 
 #ifdef __cplusplus
 }

@@ -1,4 +1,4 @@
-/* One row, 3; one lookup on the bus "mem" with the tuple (3), multiplicity 1; alpha 5, beta 0. Prints the trace and the terminal.
+/* One row, 3; one lookup on the bus "mem" with the tuple (3), multiplicity 1; alpha 5, beta 0; field 1. Prints the trace and the terminal.
  *
  *     rt staticlib delmatik && cc -Ibindings/c bindings/c/first.c target/staticlib/libdelmatik.a -o first && ./first
  */
@@ -16,8 +16,8 @@ int main(void) {
     uint32_t trace[8], terminal[5];
     uint64_t details[3];
 
-    uint32_t number = delmatik_generate(1, 1, 0, 0, rows, 1, none, 0, none, 0, nodes, 6, lookups, 8, names, 3, tuples, 1,
-        multiplicities, 1, none, 0, elements, 1, challenges, 8, trace, 8, terminal, details);
+    uint32_t number = delmatik_generate(DELMATIK_BABYBEAR, DELMATIK_CABINET, DELMATIK_RULE_1, 1, 1, 0, 0, rows, 1, none, 0, none, 0,
+        nodes, 6, lookups, 8, names, 3, tuples, 1, multiplicities, 1, none, 0, elements, 1, challenges, 8, trace, 8, terminal, details);
     if (number != 0) {
         printf("refusal=%u,%llu,%llu,%llu\n", number, (unsigned long long)details[0], (unsigned long long)details[1],
             (unsigned long long)details[2]);

@@ -1,6 +1,6 @@
 /*
- * Bytes from a coverage-guided fuzzer (libFuzzer) become the sizes and words of a call to one of the exported functions. Each list lies against a page
- * that may not be touched; known bytes stand before it. harness/fuzz/run builds and runs it.
+ * Bytes from a coverage-guided fuzzer (libFuzzer) become the choices, sizes and words of a call to one of the exported functions. Each list lies against
+ * a page that may not be touched; known bytes stand before it. harness/fuzz/run builds and runs it.
  */
 #include "../../bindings/c/delmatik.h"
 #include <stdlib.h>
@@ -26,13 +26,20 @@ static uint8_t byte(void) {
 
 /* A word in one byte, or in four more. */
 static uint32_t word(void) {
-    static const uint32_t extremes[8] = {2013265920, 2013265921, 2013265922, 0x7fffffff, 0x80000000, 0xfffffff8, 0xfffffffe, 0xffffffff};
+    static const uint32_t extremes[12] = {2013265920, 2013265921, 2013265922, 2130706432, 2130706433, 2130706434,
+        0x7fffffff, 0x80000000, 0xfffffff8, 0xfffffffd, 0xfffffffe, 0xffffffff};
     uint8_t b = byte();
     if (b < 240) return b;
-    if (b < 248) return extremes[b - 240];
+    if (b < 252) return extremes[b - 240];
     uint32_t w = 0;
     for (int i = 0; i < 4; i++) w |= (uint32_t)byte() << (8 * i);
     return w;
+}
+
+/* One of so many numbers that are known, from 1 on, or any. */
+static uint32_t choice(uint32_t known) {
+    uint8_t b = byte();
+    return b < 250 ? 1 + b % known : word();
 }
 
 static size_t size(void) {
@@ -120,51 +127,58 @@ int LLVMFuzzerTestOneInput(const uint8_t *data, size_t n) {
     uint64_t details[3] = {7, 7, 7}, *used = small(6 * sizeof(uint64_t)), *one = small(sizeof(uint64_t)), *part = small(2 * sizeof(uint64_t));
     uint32_t *terminal = small(5 * sizeof(uint32_t)), *count = small(2 * sizeof(uint32_t)), number = 0;
     uint8_t function = byte() % 17;
+    uint32_t field = choice(2), profile = choice(1), rule = choice(1);
+    int unknown = 2 < field || field == 0;
+    /* Powers and inverses take the field alone, generation and constraints the rule too; three functions take no choices. */
+    if (function < 12) unknown |= profile != 1;
+    if (function < 2) unknown |= rule != 1;
+    if (12 <= function && function <= 14) unknown = 0;
     size_t a = size(), b = size(), c = size(), d = size();
     words nodes = list(0), lookups = list(0), tuples = list(0), multiplicities = list(0), flags = list(0), elements = list(0);
     names name = name_list(0);
     words main = list(0), preprocessed = list(0), publics = list(0), more = list(0), out = list(1);
     switch (function) {
     case 0:
-        number = delmatik_generate(a, b, c, d, L(main), L(preprocessed), L(publics), L(nodes), LOOKUPS, L(more), L(out), terminal, details);
+        number = delmatik_generate(field, profile, rule, a, b, c, d, L(main), L(preprocessed), L(publics), L(nodes), LOOKUPS, L(more), L(out),
+            terminal, details);
         break;
     case 1:
-        number = delmatik_constraints(a, b, c, d, L(main), L(preprocessed), L(publics), L(nodes), LOOKUPS, L(more), a + 1, L(out), byte() % 2,
-            word(), word(), word(), word(), details);
+        number = delmatik_constraints(field, profile, rule, a, b, c, d, L(main), L(preprocessed), L(publics), L(nodes), LOOKUPS, L(more), a + 1,
+            L(out), byte() % 2, word(), word(), word(), word(), details);
         break;
     case 2:
-        number = delmatik_degree(a, b, c, L(nodes), LOOKUPS, d, byte(), one, details);
+        number = delmatik_degree(field, profile, a, b, c, L(nodes), LOOKUPS, d, byte(), one, details);
         break;
     case 3: {
         names o1 = name_list(1);
         words o2 = list(1), o3 = list(1), o4 = list(1), o5 = list(1);
-        number = delmatik_pack(d, a, b, c, L(nodes), LOOKUPS, L(out), L(o1), L(o2), L(o3), L(o4), L(o5), used, details);
+        number = delmatik_pack(field, profile, d, a, b, c, L(nodes), LOOKUPS, L(out), L(o1), L(o2), L(o3), L(o4), L(o5), used, details);
         break;
     }
     case 4:
-        number = delmatik_widths(L(lookups), L(name), L(tuples), L(more), one, details);
+        number = delmatik_widths(field, profile, L(lookups), L(name), L(tuples), L(more), one, details);
         break;
     case 5:
-        number = delmatik_height_bound(L(lookups), L(more), L(publics), details);
+        number = delmatik_height_bound(field, profile, L(lookups), L(more), L(publics), details);
         break;
     case 6:
-        number = delmatik_terminals(L(more), details);
+        number = delmatik_terminals(field, profile, L(more), details);
         break;
     case 7:
-        number = delmatik_prefixes(L(main), L(preprocessed), a, b, L(out), details);
+        number = delmatik_prefixes(field, profile, L(main), L(preprocessed), a, b, L(out), details);
         break;
     case 8:
-        number = delmatik_build(a, b, c, L(nodes), d, byte(), byte(), L(lookups), L(publics), L(name), L(tuples), L(multiplicities), L(flags),
-            L(elements), L(out), one, details);
+        number = delmatik_build(field, profile, a, b, c, L(nodes), d, byte(), byte(), L(lookups), L(publics), L(name), L(tuples),
+            L(multiplicities), L(flags), L(elements), L(out), one, details);
         break;
     case 9:
-        number = delmatik_balance(L(main), L(preprocessed), L(publics), L(nodes), LOOKUPS, L(more), d, L(out), details);
+        number = delmatik_balance(field, profile, L(main), L(preprocessed), L(publics), L(nodes), LOOKUPS, L(more), d, L(out), details);
         break;
     case 10:
-        number = delmatik_count_from_i32(L(out), a, (int32_t)word(), count, details);
+        number = delmatik_count_from_i32(field, profile, L(out), a, (int32_t)word(), count, details);
         break;
     case 11:
-        number = delmatik_count_negated(L(out), a, word(), word(), count, details);
+        number = delmatik_count_negated(field, profile, L(out), a, word(), word(), count, details);
         break;
     case 12:
         delmatik_count_bounded(word(), word(), count);
@@ -180,13 +194,14 @@ int LLVMFuzzerTestOneInput(const uint8_t *data, size_t n) {
         memset(details, 0, sizeof details);
         break;
     case 15:
-        number = delmatik_power(L(main), word() % 1024, L(out));
+        number = delmatik_power(field, L(main), word() % 1024, L(out));
         memset(details, 0, sizeof details);
         break;
     default:
-        number = delmatik_inverse(L(main), L(out));
+        number = delmatik_inverse(field, L(main), L(out));
         memset(details, 0, sizeof details);
     }
+    if (unknown && number != 1) abort();
     check(number, details);
     return 0;
 }

@@ -5,7 +5,7 @@ use std::fmt::Debug;
 use crate::exports::{Exports, Model, Rooms, built_words, marked};
 use crate::generator::{Case, List};
 use crate::model::{self, Answer};
-use crate::plain::{self, Ext, P};
+use crate::plain::{Ext, Field};
 use crate::port::Port;
 use crate::table::{Plan, Table, bytes_of, word};
 use crate::wrapper::Wrapper;
@@ -29,9 +29,11 @@ pub struct Disagreement {
     pub text: String,
 }
 
-/// How often each function gave each number.
+/// How many tables there were in each field, in how many cases a choice was unknown, and how often each function gave each number.
 #[derive(Default)]
 pub struct Tally {
+    pub fields: BTreeMap<Field, u64>,
+    pub unknown: u64,
     pub counts: BTreeMap<(&'static str, u32, Compared), u64>,
     pub ported: BTreeMap<&'static str, u64>,
 }
@@ -39,6 +41,8 @@ pub struct Tally {
 type Checked = Result<Compared, String>;
 
 pub fn check(case: &Case, port: Option<Port>, tally: &mut Tally) -> Result<(), Disagreement> {
+    *tally.fields.entry(case.field()).or_default() += case.tables.len() as u64;
+    tally.unknown += u64::from(case.choices.known_with_rule().is_none());
     let mut run = |function: &'static str, (answer, compared): (Answer, Checked)| match compared {
         Ok(compared) => {
             *tally.counts.entry((function, answer.number, compared)).or_default() += 1;
@@ -95,7 +99,7 @@ pub fn asked(case: &Case) -> (u64, Vec<u32>, Option<Ext>) {
         let place = place % (end + 4);
         let word = if place < end { trace.get_mut(place) } else { terminal.as_mut().map(|t| &mut t[place - end]) };
         if let Some(word) = word {
-            *word = if *addend == P { P } else { plain::add_word(*word, *addend) };
+            *word = if *addend < t.field.prime() { t.field.add_word(*word, *addend) } else { *addend };
         }
     }
     trace.truncate(trace.len() - case.missing_words.min(trace.len()));
@@ -151,8 +155,8 @@ mod against_crate {
         }
     }
 
-    fn below_p(words: &[u32]) -> bool {
-        words.iter().all(|w| *w < P)
+    fn below_p(field: Field, words: &[u32]) -> bool {
+        words.iter().all(|w| *w < field.prime())
     }
 
     fn takes_all(tables: &[Table]) -> bool {
@@ -164,7 +168,7 @@ mod against_crate {
         let n = t.lookup_count();
         let mut trace = vec![7; case.buffer];
         let (answer, terminal) = model::generate(t, &case.challenges, &mut trace);
-        if !oracle::takes(t) || !case.challenges.len().is_multiple_of(4) || !below_p(&case.challenges) {
+        if !oracle::takes(t) || !case.challenges.len().is_multiple_of(4) || !below_p(t.field, &case.challenges) {
             return (answer, Ok(Compared::Untaken));
         }
         let run = || oracle::generate(t, &case.challenges);
@@ -211,7 +215,7 @@ mod against_crate {
         let (width, trace, terminal) = asked(case);
         let answer = model::constraints(t, &case.challenges, width, &trace, terminal);
         let words = [&case.challenges[..], &trace, &terminal.unwrap_or_default()].concat();
-        if matches!(answer.number, 1 | 2) || !oracle::takes(t) || !below_p(&words) {
+        if matches!(answer.number, 1 | 2) || !oracle::takes(t) || !below_p(t.field, &words) {
             return (answer, Ok(Compared::Untaken));
         }
         let run = || oracle::constraints(t, &case.challenges, width, &trace, terminal);
@@ -285,8 +289,8 @@ mod against_crate {
     pub fn count(case: &Case) -> (Answer, Checked) {
         let t = &case.tables[0];
         let [node, weight] = case.negated;
-        let (word, magnitude) = model::count_of(case.count);
-        let mut checked = answers(oracle::count_from(case.count), ([0, word, 0], magnitude));
+        let (word, magnitude) = model::count_of(t.field, case.count);
+        let mut checked = answers(oracle::count_from(t.field, case.count), ([0, word, 0], magnitude));
         if oracle::takes(t) && (node as usize) < t.node_count() {
             let negated = answers(oracle::count_negated(t, node, weight), ([12, node, 0], weight));
             let bounded = answers(oracle::count_bounded(t, node, weight), (node, weight));
@@ -327,9 +331,9 @@ mod against_crate {
     }
 
     pub fn terminals(case: &Case) -> (Answer, Checked) {
-        let answer = model::terminals(&case.terminals);
+        let answer = model::terminals(case.field(), &case.terminals);
         let checked = match answer.number {
-            0 | 20 => answers(oracle::terminals(&case.terminals), answer.number == 0),
+            0 | 20 => answers(oracle::terminals(case.field(), &case.terminals), answer.number == 0),
             _ => Ok(Compared::Untaken),
         };
         (answer, checked)
@@ -337,8 +341,8 @@ mod against_crate {
 
     pub fn prefixes(case: &Case) -> (Answer, Checked) {
         let (alpha, beta) = (case.challenge(0), case.challenge(1));
-        let (answer, prefixes) = model::prefixes(alpha, beta, case.prefix_width, case.prefixes);
-        let run = || oracle::prefixes(alpha, beta, case.prefix_width, case.prefixes);
+        let (answer, prefixes) = model::prefixes(case.field(), alpha, beta, case.prefix_width, case.prefixes);
+        let run = || oracle::prefixes(case.field(), alpha, beta, case.prefix_width, case.prefixes);
         let checked = match answer.number {
             0 => answers(run(), prefixes),
             12 => panics(run(), "max_message_width must be non-zero"),
@@ -429,19 +433,19 @@ impl Beside<'_> {
         let (case, t) = (self.case, &self.case.tables[0]);
         self.exported("generation", |port| {
             let (mut trace, mut terminal) = (lent(case.buffer), lent_words());
-            let answer = port.generate(t, &case.challenges, &mut trace, &mut terminal);
+            let answer = port.generate(case.choices, t, &case.challenges, &mut trace, &mut terminal);
             (answer, terminal, trace)
         })?;
         for (width, trace, terminal) in [asked(case), asked_narrow(case)] {
             // An absent terminal's words are not read; any mark but 0 says that it is there.
-            let mut terminal = terminal.map_or([0, P, 1, 2, 3], |t| marked(Some(t)));
+            let mut terminal = terminal.map_or([0, u32::MAX, 1, 2, 3], |t| marked(Some(t)));
             terminal[0] *= case.seed as u32 | 1;
-            self.exported("constraints", |port| port.constraints(t, &case.challenges, width, &trace, terminal))?;
+            self.exported("constraints", |port| port.constraints(case.choices, t, &case.challenges, width, &trace, terminal))?;
         }
         for lookup in 0..t.lookup_count() as u64 + 1 {
             self.exported("degree", |port| {
                 let [mut degree] = lent_numbers();
-                (port.degree(t, lookup, word(case.transition), &mut degree), degree)
+                (port.degree(case.choices, t, lookup, word(case.transition), &mut degree), degree)
             })?;
         }
         let [lookups, names, tuples, multiplicities, flags, elements] = t.lengths();
@@ -457,7 +461,7 @@ impl Beside<'_> {
                 elements: packed(5, elements),
                 ..Table::default()
             };
-            (port.pack(t, case.limit, &mut out, &mut used), used, out)
+            (port.pack(case.choices, t, case.limit, &mut out, &mut used), used, out)
         })?;
         let mut plan = Plan::of(&case.interactions);
         let room = built_words(&plan);
@@ -465,7 +469,7 @@ impl Beside<'_> {
         plan.weights = case.edited(List::Weights, plan.weights);
         self.exported("building", |port| {
             let (mut lookups, [mut used]) = (case.edited(List::Built, lent(room)), lent_numbers());
-            (port.build(t, &plan, &mut lookups, &mut used), used, lookups)
+            (port.build(case.choices, t, &plan, &mut lookups, &mut used), used, lookups)
         })
     }
 
@@ -476,15 +480,15 @@ impl Beside<'_> {
         let sizes = case.edited(List::BusSizes, tables.iter().flat_map(three).collect());
         self.exported("widths", |port| {
             let [mut widest] = lent_numbers();
-            (port.widths(&all, &sizes, &mut widest), widest)
+            (port.widths(case.choices, &all, &sizes, &mut widest), widest)
         })?;
         let counts = case.edited(List::Counts, tables.iter().map(|t| t.lookup_count() as u32).collect());
         let heights = case.edited(List::Heights, case.heights.iter().map(|h| word(*h)).collect());
-        self.exported("height bound", |port| port.height_bound(&all.lookups, &counts, &heights))?;
+        self.exported("height bound", |port| port.height_bound(case.choices, &all.lookups, &counts, &heights))?;
         let sizes = case.edited(List::Sizes, tables.iter().flat_map(Table::sizes).collect());
         self.exported("balance", |port| {
             let mut workspace = lent(case.workspace);
-            (port.balance(&all, &sizes, case.seed, &mut workspace), workspace)
+            (port.balance(case.choices, &all, &sizes, case.seed, &mut workspace), workspace)
         })
     }
 
@@ -493,32 +497,32 @@ impl Beside<'_> {
         let mut given = case.edited(List::Terminals, case.terminals.iter().flat_map(|t| marked(*t)).collect());
         // Any mark but 0 says that a terminal is there.
         given.iter_mut().step_by(5).for_each(|mark| *mark = mark.wrapping_mul(case.seed as u32 | 1));
-        self.exported("terminals", |port| port.terminals(&given))?;
+        self.exported("terminals", |port| port.terminals(case.choices, &given))?;
 
         let (alpha, beta) = (case.edited(List::Alpha, case.challenge(0).into()), case.edited(List::Beta, case.challenge(1).into()));
         let room = 4 * case.prefixes.min(model::PREFIXES + 1) as usize;
         self.exported("prefixes", |port| {
             let mut out = case.edited(List::Prefixes, lent(room));
-            (port.prefixes(&alpha, &beta, case.prefix_width, case.prefixes, &mut out), out)
+            (port.prefixes(case.choices, &alpha, &beta, case.prefix_width, case.prefixes, &mut out), out)
         })?;
         let element = case.edited(List::Element, case.challenge(0).into());
         self.exported("power", |port| {
             let mut out = case.edited(List::ElementOut, lent(4));
-            (port.power(&element, case.exponent, &mut out), out)
+            (port.power(case.choices.field, &element, case.exponent, &mut out), out)
         })?;
         self.exported("inverse", |port| {
             let mut out = case.edited(List::ElementOut, lent(4));
-            (port.inverse(&element, &mut out), out)
+            (port.inverse(case.choices.field, &element, &mut out), out)
         })?;
 
         let nodes = case.edited(List::Nodes, [&case.tables[0].nodes[..], &lent(3)].concat());
         self.exported("count from a number", |port| {
             let (mut nodes, mut count) = (nodes.clone(), lent_words());
-            (port.count_from_i32(&mut nodes, case.counted, case.count, &mut count), count, nodes)
+            (port.count_from_i32(case.choices, &mut nodes, case.counted, case.count, &mut count), count, nodes)
         })?;
         self.exported("negated count", |port| {
             let (mut nodes, mut count) = (nodes.clone(), lent_words());
-            (port.count_negated(&mut nodes, case.counted, case.negated, &mut count), count, nodes)
+            (port.count_negated(case.choices, &mut nodes, case.counted, case.negated, &mut count), count, nodes)
         })?;
         let [node, weight] = case.negated;
         self.exported("bounded and provided counts", |port| {
@@ -546,7 +550,7 @@ impl Beside<'_> {
         self.exported("generation on bytes", |port| {
             let (mut trace, mut terminal) = (edited(10, &lent(case.buffer)), lent_words());
             let mut rooms = rooms(trace_words(&t) + t.nodes.len() / 4 + challenges.len() / 4 + lookup_words(&t), trace.len() / 4);
-            (port.generate_bytes(&t, &challenges, &mut trace, &mut rooms, &mut terminal), terminal, trace, rooms)
+            (port.generate_bytes(case.choices, &t, &challenges, &mut trace, &mut rooms, &mut terminal), terminal, trace, rooms)
         })?;
         let lengths = case.tables[0].lengths();
         self.exported("packing on bytes", |port| {
@@ -561,7 +565,7 @@ impl Beside<'_> {
                 ..Table::default()
             };
             let mut rooms = rooms(t.nodes.len() / 4 + lookup_words(&t), lookup_words(&out));
-            (port.pack_bytes(&t, case.limit, &mut out, &mut rooms, &mut used), used, out, rooms)
+            (port.pack_bytes(case.choices, &t, case.limit, &mut out, &mut rooms, &mut used), used, out, rooms)
         })?;
         let all = table_bytes(case, &Table::joined(&case.tables));
         let sizes = edited(9, case.tables.iter().map(Table::sizes).collect::<Vec<_>>().as_flattened());
@@ -569,13 +573,13 @@ impl Beside<'_> {
             let mut workspace = edited(10, &lent(case.workspace));
             let read = trace_words(&all) + all.nodes.len() / 4 + sizes.len() / 4 + lookup_words(&all);
             let mut rooms = rooms(read, workspace.len() / 4);
-            (port.balance_bytes(&all, &sizes, case.seed, &mut workspace, &mut rooms), workspace, rooms)
+            (port.balance_bytes(case.choices, &all, &sizes, case.seed, &mut workspace, &mut rooms), workspace, rooms)
         })
     }
 
     /// Every function of the safe wrapper: the value or the refusal, and what is lent to be written.
     fn wrapper(&mut self) -> Result<(), Disagreement> {
-        let (case, t) = (self.case, &self.case.tables[0]);
+        let (case, t, field) = (self.case, &self.case.tables[0], self.case.field());
         let plan = Plan::of(&case.interactions);
         let built = model::build(t, &plan, built_words(&plan)).1.records();
         let records = if t.fits() { t.records() } else { built.clone() };
@@ -597,11 +601,11 @@ impl Beside<'_> {
         self.wrapped("wrapper: build", |w| w.build(t, &case.interactions))?;
         self.wrapped("wrapper: widths", |w| w.widths(&case.tables))?;
         self.wrapped("wrapper: height_bound", |w| w.height_bound(&case.tables, &case.heights))?;
-        self.wrapped("wrapper: terminals", |w| w.terminals(&case.terminals))?;
+        self.wrapped("wrapper: terminals", |w| w.terminals(field, &case.terminals))?;
         let (alpha, beta) = (case.challenge(0), case.challenge(1));
-        self.wrapped("wrapper: prefixes", |w| w.prefixes(alpha, beta, case.prefix_width, case.prefixes))?;
-        self.wrapped("wrapper: power", |w| w.power(alpha, case.exponent))?;
-        self.wrapped("wrapper: inverse", |w| (w.inverse(alpha), w.inverse([0; 4])))?;
+        self.wrapped("wrapper: prefixes", |w| w.prefixes(field, alpha, beta, case.prefix_width, case.prefixes))?;
+        self.wrapped("wrapper: power", |w| w.power(field, alpha, case.exponent))?;
+        self.wrapped("wrapper: inverse", |w| (w.inverse(field, alpha), w.inverse(field, [0; 4])))?;
         self.wrapped("wrapper: balance", |w| {
             let mut workspace = lent(case.workspace);
             (w.balance(&case.tables, &mut workspace), workspace)
@@ -616,11 +620,11 @@ impl Beside<'_> {
         self.wrapped("wrapper: Count::provided", |w| w.count_provided(node))?;
         self.wrapped("wrapper: Count::from_i32", |w| {
             let mut nodes = t.nodes.clone();
-            (w.count_from_i32(&mut nodes, case.count), nodes)
+            (w.count_from_i32(field, &mut nodes, case.count), nodes)
         })?;
         self.wrapped("wrapper: Count::negated", |w| {
             let mut nodes = t.nodes.clone();
-            (w.count_negated(&mut nodes, case.negated), nodes)
+            (w.count_negated(field, &mut nodes, case.negated), nodes)
         })?;
         let (trace, [lookups, height, row]) = (lent(case.buffer), case.reader);
         self.wrapped("wrapper: row", |w| w.row(&trace, lookups, height, row))?;

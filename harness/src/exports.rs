@@ -1,7 +1,7 @@
 //! The exported functions over lent words: what a call reads is borrowed, and every word that it may write is lent to be written. The port
 //! has them, the model as a reference, and the wrong ports of the tests.
-use crate::model::{self, ACCEPTED, Answer, refused};
-use crate::plain::{Ext, P};
+use crate::model::{self, ACCEPTED, Answer, Choices, refused};
+use crate::plain::{Ext, Field};
 use crate::table::{LOOKUP_WORDS, NODE_WORDS, Plan, Table, bytes_of, words_of};
 
 /// The two rooms of a function on bytes: for the lists that are read, and for those that are written.
@@ -11,35 +11,53 @@ pub struct Rooms {
     pub written: Vec<u32>,
 }
 
-/// Each gives the number and details of its answer. A terminal is five words, a mark and four words. The lists of several tables are one table,
-/// whose own sizes are not looked at. `power` and `inverse` have no details.
+/// Each gives the number and details of its answer, and computes in the field of its choices: a table's own is not looked at. The rule is for
+/// `generate`, `constraints` and `generate_bytes` alone. A terminal is five words, a mark and four words. The lists of several tables are one
+/// table, whose own sizes are not looked at. `power` and `inverse` have no details and take the field's number alone.
 pub trait Exports {
-    fn generate(&self, t: &Table, challenges: &[u32], trace: &mut [u32], terminal: &mut [u32; 5]) -> Answer;
-    fn constraints(&self, t: &Table, challenges: &[u32], width: u64, trace: &[u32], terminal: [u32; 5]) -> Answer;
-    fn degree(&self, t: &Table, lookup: u64, transition: u32, degree: &mut u64) -> Answer;
-    fn pack(&self, t: &Table, limit: u64, out: &mut Table, used: &mut [u64; 6]) -> Answer;
-    fn build(&self, t: &Table, plan: &Plan, lookups: &mut [u32], used: &mut u64) -> Answer;
-    fn widths(&self, all: &Table, sizes: &[u32], widest: &mut u64) -> Answer;
-    fn height_bound(&self, lookups: &[u32], counts: &[u32], heights: &[u32]) -> Answer;
-    fn terminals(&self, terminals: &[u32]) -> Answer;
-    fn prefixes(&self, alpha: &[u32], beta: &[u32], width: u64, count: u64, out: &mut [u32]) -> Answer;
-    fn balance(&self, all: &Table, sizes: &[u32], seed: u64, workspace: &mut [u32]) -> Answer;
+    fn generate(&self, choices: Choices, t: &Table, challenges: &[u32], trace: &mut [u32], terminal: &mut [u32; 5]) -> Answer;
+    fn constraints(&self, choices: Choices, t: &Table, challenges: &[u32], width: u64, trace: &[u32], terminal: [u32; 5]) -> Answer;
+    fn degree(&self, choices: Choices, t: &Table, lookup: u64, transition: u32, degree: &mut u64) -> Answer;
+    fn pack(&self, choices: Choices, t: &Table, limit: u64, out: &mut Table, used: &mut [u64; 6]) -> Answer;
+    fn build(&self, choices: Choices, t: &Table, plan: &Plan, lookups: &mut [u32], used: &mut u64) -> Answer;
+    fn widths(&self, choices: Choices, all: &Table, sizes: &[u32], widest: &mut u64) -> Answer;
+    fn height_bound(&self, choices: Choices, lookups: &[u32], counts: &[u32], heights: &[u32]) -> Answer;
+    fn terminals(&self, choices: Choices, terminals: &[u32]) -> Answer;
+    fn prefixes(&self, choices: Choices, alpha: &[u32], beta: &[u32], width: u64, count: u64, out: &mut [u32]) -> Answer;
+    fn balance(&self, choices: Choices, all: &Table, sizes: &[u32], seed: u64, workspace: &mut [u32]) -> Answer;
 
-    fn generate_bytes(&self, t: &Table<u8>, challenges: &[u8], trace: &mut [u8], rooms: &mut Rooms, terminal: &mut [u32; 5]) -> Answer;
-    fn pack_bytes(&self, t: &Table<u8>, limit: u64, out: &mut Table<u8>, rooms: &mut Rooms, used: &mut [u64; 6]) -> Answer;
-    fn balance_bytes(&self, all: &Table<u8>, sizes: &[u8], seed: u64, workspace: &mut [u8], rooms: &mut Rooms) -> Answer;
+    fn generate_bytes(
+        &self,
+        choices: Choices,
+        t: &Table<u8>,
+        challenges: &[u8],
+        trace: &mut [u8],
+        rooms: &mut Rooms,
+        terminal: &mut [u32; 5],
+    ) -> Answer;
+    fn pack_bytes(
+        &self,
+        choices: Choices,
+        t: &Table<u8>,
+        limit: u64,
+        out: &mut Table<u8>,
+        rooms: &mut Rooms,
+        used: &mut [u64; 6],
+    ) -> Answer;
+    fn balance_bytes(&self, choices: Choices, all: &Table<u8>, sizes: &[u8], seed: u64, workspace: &mut [u8], rooms: &mut Rooms) -> Answer;
 
-    fn count_from_i32(&self, nodes: &mut [u32], used: u64, x: i32, count: &mut [u32; 2]) -> Answer;
-    fn count_negated(&self, nodes: &mut [u32], used: u64, of: [u32; 2], count: &mut [u32; 2]) -> Answer;
+    fn count_from_i32(&self, choices: Choices, nodes: &mut [u32], used: u64, x: i32, count: &mut [u32; 2]) -> Answer;
+    fn count_negated(&self, choices: Choices, nodes: &mut [u32], used: u64, of: [u32; 2], count: &mut [u32; 2]) -> Answer;
     fn count_bounded(&self, node: u32, weight: u32, count: &mut [u32; 2]);
     fn count_provided(&self, node: u32, count: &mut [u32; 2]);
     fn row(&self, trace: &[u32], lookups: u64, height: u64, row: u64, part: &mut [u64; 2]);
 
-    fn power(&self, a: &[u32], n: u32, out: &mut [u32]) -> u32;
-    fn inverse(&self, a: &[u32], out: &mut [u32]) -> u32;
+    fn power(&self, field: u32, a: &[u32], n: u32, out: &mut [u32]) -> u32;
+    fn inverse(&self, field: u32, a: &[u32], out: &mut [u32]) -> u32;
 }
 
-/// The functions as the specification has them. Refusals 1 to 12 leave every lent output as it was; after 13 to 15 the terminal is five zeros.
+/// The functions as the specification has them. An unknown number is refusal 1 before anything else is read. Refusals 1 to 12 leave every lent
+/// output as it was; after 13 to 15 the terminal is five zeros.
 pub struct Model;
 
 /// A terminal as five words.
@@ -53,9 +71,9 @@ fn put<W: Copy>(words: &[W], lent: &mut [W]) {
 }
 
 /// One element, of four words below p.
-fn element(words: &[u32]) -> Result<Ext, u32> {
+fn element(field: Field, words: &[u32]) -> Result<Ext, u32> {
     let element: Ext = words.try_into().map_err(|_| 1u32)?;
-    if element.iter().all(|w| *w < P) { Ok(element) } else { Err(2) }
+    if element.iter().all(|w| *w < field.prime()) { Ok(element) } else { Err(2) }
 }
 
 /// The words of these lists of bytes, one list after the other; none where one is not whole words or the room is of another length.
@@ -70,20 +88,31 @@ fn lookup_lists(t: &Table<u8>) -> [&[u8]; 5] {
 }
 
 impl Exports for Model {
-    fn generate(&self, t: &Table, challenges: &[u32], trace: &mut [u32], terminal: &mut [u32; 5]) -> Answer {
-        let (answer, given) = model::generate(t, challenges, trace);
+    fn generate(&self, choices: Choices, t: &Table, challenges: &[u32], trace: &mut [u32], terminal: &mut [u32; 5]) -> Answer {
+        let Some(field) = choices.known_with_rule() else { return refused(1) };
+        let (answer, given) = model::generate(&t.over(field), challenges, trace);
         if !(1..=12).contains(&answer.number) {
             *terminal = marked(given);
         }
         answer
     }
 
-    fn constraints(&self, t: &Table, challenges: &[u32], width: u64, trace: &[u32], [mark, words @ ..]: [u32; 5]) -> Answer {
-        model::constraints(t, challenges, width, trace, (mark != 0).then_some(words))
+    fn constraints(
+        &self,
+        choices: Choices,
+        t: &Table,
+        challenges: &[u32],
+        width: u64,
+        trace: &[u32],
+        [mark, words @ ..]: [u32; 5],
+    ) -> Answer {
+        let Some(field) = choices.known_with_rule() else { return refused(1) };
+        model::constraints(&t.over(field), challenges, width, trace, (mark != 0).then_some(words))
     }
 
-    fn degree(&self, t: &Table, lookup: u64, transition: u32, degree: &mut u64) -> Answer {
-        let (answer, found) = model::degree(t, lookup, transition.into());
+    fn degree(&self, choices: Choices, t: &Table, lookup: u64, transition: u32, degree: &mut u64) -> Answer {
+        let Some(field) = choices.known() else { return refused(1) };
+        let (answer, found) = model::degree(&t.over(field), lookup, transition.into());
         if answer == ACCEPTED {
             *degree = found;
         }
@@ -91,11 +120,12 @@ impl Exports for Model {
     }
 
     /// A lent list that is shorter than the table's own is 1, as any size at odds.
-    fn pack(&self, t: &Table, limit: u64, out: &mut Table, used: &mut [u64; 6]) -> Answer {
+    fn pack(&self, choices: Choices, t: &Table, limit: u64, out: &mut Table, used: &mut [u64; 6]) -> Answer {
+        let Some(field) = choices.known() else { return refused(1) };
         if out.lengths().iter().zip(t.lengths()).any(|(lent, own)| *lent < own) {
             return refused(1);
         }
-        let (answer, packed) = model::pack(t, limit);
+        let (answer, packed) = model::pack(&t.over(field), limit);
         if answer == ACCEPTED {
             let mut lists = Table::default();
             lists.set_records(&packed);
@@ -110,8 +140,9 @@ impl Exports for Model {
         answer
     }
 
-    fn build(&self, t: &Table, plan: &Plan, lookups: &mut [u32], used: &mut u64) -> Answer {
-        let (answer, built) = model::build(t, plan, lookups.len());
+    fn build(&self, choices: Choices, t: &Table, plan: &Plan, lookups: &mut [u32], used: &mut u64) -> Answer {
+        let Some(field) = choices.known() else { return refused(1) };
+        let (answer, built) = model::build(&t.over(field), plan, lookups.len());
         if answer == ACCEPTED {
             put(&built.lookups, lookups);
             *used = built.lookups.len() as u64;
@@ -119,8 +150,8 @@ impl Exports for Model {
         answer
     }
 
-    fn widths(&self, all: &Table, sizes: &[u32], widest: &mut u64) -> Answer {
-        let Some(tables) = model::bus_tables(all, sizes) else { return refused(1) };
+    fn widths(&self, choices: Choices, all: &Table, sizes: &[u32], widest: &mut u64) -> Answer {
+        let Some(tables) = choices.known().and_then(|field| model::bus_tables(&all.over(field), sizes)) else { return refused(1) };
         let (answer, width) = model::widths(&tables);
         if answer == ACCEPTED {
             *widest = width;
@@ -128,76 +159,89 @@ impl Exports for Model {
         answer
     }
 
-    fn height_bound(&self, lookups: &[u32], counts: &[u32], heights: &[u32]) -> Answer {
-        let Some(tables) = model::weighed_tables(lookups, counts) else { return refused(1) };
+    fn height_bound(&self, choices: Choices, lookups: &[u32], counts: &[u32], heights: &[u32]) -> Answer {
+        let Some(tables) = choices.known().and_then(|field| model::weighed_tables(field, lookups, counts)) else { return refused(1) };
         model::height_bound(&tables, &heights.iter().map(|h| u64::from(*h)).collect::<Vec<u64>>())
     }
 
-    fn terminals(&self, terminals: &[u32]) -> Answer {
-        let (each, rest) = terminals.as_chunks::<5>();
-        if !rest.is_empty() {
-            return refused(1);
-        }
-        model::terminals(&each.iter().map(|[mark, words @ ..]| (*mark != 0).then_some(*words)).collect::<Vec<Option<Ext>>>())
+    fn terminals(&self, choices: Choices, terminals: &[u32]) -> Answer {
+        let (Some(field), (each, [])) = (choices.known(), terminals.as_chunks::<5>()) else { return refused(1) };
+        model::terminals(field, &each.iter().map(|[mark, words @ ..]| (*mark != 0).then_some(*words)).collect::<Vec<Option<Ext>>>())
     }
 
-    fn prefixes(&self, alpha: &[u32], beta: &[u32], width: u64, count: u64, out: &mut [u32]) -> Answer {
-        let (Ok(alpha), Ok(beta)) = (alpha.try_into(), beta.try_into()) else { return refused(1) };
+    fn prefixes(&self, choices: Choices, alpha: &[u32], beta: &[u32], width: u64, count: u64, out: &mut [u32]) -> Answer {
+        let (Some(field), Ok(alpha), Ok(beta)) = (choices.known(), alpha.try_into(), beta.try_into()) else { return refused(1) };
         if (out.len() as u128) < 4 * u128::from(count) {
             return refused(1);
         }
-        let (answer, prefixes) = model::prefixes(alpha, beta, width, count);
+        let (answer, prefixes) = model::prefixes(field, alpha, beta, width, count);
         put(prefixes.as_flattened(), out);
         answer
     }
 
-    fn balance(&self, all: &Table, sizes: &[u32], _seed: u64, workspace: &mut [u32]) -> Answer {
-        model::whole_tables(all, sizes).map_or(refused(1), |tables| model::balance(&tables, workspace))
+    fn balance(&self, choices: Choices, all: &Table, sizes: &[u32], _seed: u64, workspace: &mut [u32]) -> Answer {
+        let tables = choices.known().and_then(|field| model::whole_tables(&all.over(field), sizes));
+        tables.map_or(refused(1), |tables| model::balance(&tables, workspace))
     }
 
-    fn generate_bytes(&self, t: &Table<u8>, challenges: &[u8], trace: &mut [u8], rooms: &mut Rooms, terminal: &mut [u32; 5]) -> Answer {
+    fn generate_bytes(
+        &self,
+        choices: Choices,
+        t: &Table<u8>,
+        challenges: &[u8],
+        trace: &mut [u8],
+        rooms: &mut Rooms,
+        terminal: &mut [u32; 5],
+    ) -> Answer {
         let lists = [&[&t.main, &t.preprocessed, &t.public_values, &t.nodes, challenges][..], &lookup_lists(t)].concat();
-        let (Some(read), Some(mut written)) = (decoded(&lists, &rooms.read), decoded(&[trace], &rooms.written)) else { return refused(1) };
-        let answer = self.generate(&t.words(), &words_of(challenges), &mut written, terminal);
+        let decoded = (choices.known_with_rule(), decoded(&lists, &rooms.read), decoded(&[trace], &rooms.written));
+        let (Some(_), Some(read), Some(mut written)) = decoded else { return refused(1) };
+        let answer = self.generate(choices, &t.words(), &words_of(challenges), &mut written, terminal);
         trace.copy_from_slice(&bytes_of(&written));
         *rooms = Rooms { read, written };
         answer
     }
 
-    fn pack_bytes(&self, t: &Table<u8>, limit: u64, out: &mut Table<u8>, rooms: &mut Rooms, used: &mut [u64; 6]) -> Answer {
+    fn pack_bytes(
+        &self,
+        choices: Choices,
+        t: &Table<u8>,
+        limit: u64,
+        out: &mut Table<u8>,
+        rooms: &mut Rooms,
+        used: &mut [u64; 6],
+    ) -> Answer {
         let lists = [&[&t.nodes[..]][..], &lookup_lists(t)].concat();
-        let (Some(read), Some(_)) = (decoded(&lists, &rooms.read), decoded(&lookup_lists(out), &rooms.written)) else { return refused(1) };
+        let decoded = (choices.known(), decoded(&lists, &rooms.read), decoded(&lookup_lists(out), &rooms.written));
+        let (Some(_), Some(read), Some(_)) = decoded else { return refused(1) };
         let mut lent = out.words();
-        let answer = self.pack(&t.words(), limit, &mut lent, used);
+        let answer = self.pack(choices, &t.words(), limit, &mut lent, used);
         *out = lent.bytes();
         rooms.read = read;
         rooms.written = [lent.lookups, lent.tuples, lent.multiplicities, lent.flags, lent.elements].concat();
         answer
     }
 
-    fn balance_bytes(&self, all: &Table<u8>, sizes: &[u8], seed: u64, workspace: &mut [u8], rooms: &mut Rooms) -> Answer {
+    fn balance_bytes(&self, choices: Choices, all: &Table<u8>, sizes: &[u8], seed: u64, workspace: &mut [u8], rooms: &mut Rooms) -> Answer {
         let lists = [&[&all.main, &all.preprocessed, &all.public_values, &all.nodes, sizes][..], &lookup_lists(all)].concat();
-        let (Some(read), Some(mut written)) = (decoded(&lists, &rooms.read), decoded(&[workspace], &rooms.written)) else {
-            return refused(1);
-        };
-        let answer = self.balance(&all.words(), &words_of(sizes), seed, &mut written);
+        let decoded = (choices.known(), decoded(&lists, &rooms.read), decoded(&[workspace], &rooms.written));
+        let (Some(_), Some(read), Some(mut written)) = decoded else { return refused(1) };
+        let answer = self.balance(choices, &all.words(), &words_of(sizes), seed, &mut written);
         workspace.copy_from_slice(&bytes_of(&written));
         *rooms = Rooms { read, written };
         answer
     }
 
-    fn count_from_i32(&self, nodes: &mut [u32], used: u64, x: i32, count: &mut [u32; 2]) -> Answer {
-        if !model::room_for_node(nodes.len(), used) {
-            return refused(1);
-        }
-        let (word, weight) = model::count_of(x);
+    fn count_from_i32(&self, choices: Choices, nodes: &mut [u32], used: u64, x: i32, count: &mut [u32; 2]) -> Answer {
+        let Some(field) = choices.known().filter(|_| model::room_for_node(nodes.len(), used)) else { return refused(1) };
+        let (word, weight) = model::count_of(field, x);
         put(&[0, word, 0], &mut nodes[NODE_WORDS * used as usize..]);
         *count = [used as u32, weight];
         ACCEPTED
     }
 
-    fn count_negated(&self, nodes: &mut [u32], used: u64, [node, weight]: [u32; 2], count: &mut [u32; 2]) -> Answer {
-        if !model::room_for_node(nodes.len(), used) {
+    fn count_negated(&self, choices: Choices, nodes: &mut [u32], used: u64, [node, weight]: [u32; 2], count: &mut [u32; 2]) -> Answer {
+        if choices.known().is_none() || !model::room_for_node(nodes.len(), used) {
             return refused(1);
         }
         if used <= u64::from(node) {
@@ -220,20 +264,20 @@ impl Exports for Model {
         *part = model::row(trace.len(), lookups, height, row);
     }
 
-    fn power(&self, a: &[u32], n: u32, out: &mut [u32]) -> u32 {
-        on_element(a, out, |a| model::power(a, n.into()))
+    fn power(&self, field: u32, a: &[u32], n: u32, out: &mut [u32]) -> u32 {
+        on_element(field, a, out, |field, a| model::power(field, a, n.into()))
     }
 
-    fn inverse(&self, a: &[u32], out: &mut [u32]) -> u32 {
-        on_element(a, out, model::inverse)
+    fn inverse(&self, field: u32, a: &[u32], out: &mut [u32]) -> u32 {
+        on_element(field, a, out, model::inverse)
     }
 }
 
-fn on_element(a: &[u32], out: &mut [u32], function: impl Fn(Ext) -> Ext) -> u32 {
-    match element(a) {
-        _ if out.len() != 4 => 1,
+fn on_element(field: u32, a: &[u32], out: &mut [u32], function: impl Fn(Field, Ext) -> Ext) -> u32 {
+    let Some(field) = Field::numbered(field).filter(|_| out.len() == 4) else { return 1 };
+    match element(field, a) {
         Ok(a) => {
-            put(&function(a), out);
+            put(&function(field, a), out);
             0
         }
         Err(number) => number,

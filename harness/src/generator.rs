@@ -1,20 +1,24 @@
-//! Random tables with what each function needs besides, damaged copies of them, and a fixed list of tables at the limits.
+//! Random tables in either field with what each function needs besides, damaged copies of them, and a fixed list of tables at the limits.
 use std::fmt;
 
-use crate::model;
-use crate::plain::{self, Ext, P, Random};
+use crate::model::{self, Choices};
+use crate::plain::{self, Ext, Field, Random};
 use crate::table::{Interaction, LOOKUP_WORDS, Lookup, Part, Table, line};
 
 /// One input for each function. Those of one table take the first.
-#[derive(Clone, Debug, Default, PartialEq)]
+#[derive(Clone, Debug, PartialEq)]
 pub struct Case {
+    /// The numbers of the exported functions. They name the tables' field, or one of them is unknown.
+    pub choices: Choices,
+    /// All of one field.
     pub tables: Vec<Table>,
     pub challenges: Vec<u32>,
     /// The words of generation's trace buffer.
     pub buffer: usize,
     /// How many more columns the constraints' trace has than it needs.
     pub extra_columns: u64,
-    /// What is added to words of the constraints' trace and terminal: place (modulo the length) and addend.
+    /// What is added to words of the constraints' trace and terminal: place (modulo the length) and addend. One that is no word of the field
+    /// takes the word's place.
     pub changes: Vec<(usize, u32)>,
     /// How many words the constraints' trace lacks.
     pub missing_words: usize,
@@ -79,6 +83,12 @@ pub enum Edit {
     Set(usize, u32),
 }
 
+const BABYBEAR: u32 = Field::BabyBear.prime();
+const KOALABEAR: u32 = Field::KoalaBear.prime();
+
+/// Words at the primes. Those at the first are inside the second field.
+pub const AT_PRIMES: [u32; 6] = [BABYBEAR - 1, BABYBEAR, BABYBEAR + 1, KOALABEAR - 1, KOALABEAR, KOALABEAR + 1];
+
 /// How many lists of bytes a function has at most.
 pub const BYTE_LISTS: usize = 12;
 
@@ -97,7 +107,8 @@ impl List {
 
 impl Edit {
     fn any(random: &mut Random) -> Edit {
-        let word = random.pick(&[0, 1, 2, 3, 5, 16, 64, 65, P - 1, P, u32::MAX]);
+        let at_prime = random.at_prime();
+        let word = random.pick(&[0, 1, 2, 3, 5, 16, 64, 65, at_prime, at_prime, u32::MAX]);
         match random.below(4) {
             0 => Edit::Push(word),
             1 => Edit::Pop,
@@ -124,6 +135,10 @@ impl OfWord for u8 {
 }
 
 impl Case {
+    pub fn field(&self) -> Field {
+        self.tables[0].field
+    }
+
     /// A list with this case's edits of it.
     pub fn edited<W: OfWord>(&self, list: List, mut words: Vec<W>) -> Vec<W> {
         for (_, edit) in self.edits.iter().filter(|(edited, _)| *edited == list) {
@@ -149,6 +164,7 @@ impl Case {
 /// The tables and challenges in lines, then what else there is.
 impl fmt::Display for Case {
     fn fmt(&self, f: &mut fmt::Formatter<'_>) -> fmt::Result {
+        writeln!(f, "{:?}", self.choices)?;
         self.tables.iter().try_for_each(|t| t.fmt(f))?;
         f.write_str(&line("challenges", &self.challenges))?;
         f.write_str(&line("heights", &self.heights))?;
@@ -175,20 +191,31 @@ impl Random {
         list[self.below(list.len() as u64) as usize].clone()
     }
 
+    fn at_prime(&mut self) -> u32 {
+        self.pick(&AT_PRIMES)
+    }
+
+    /// A word of the field at either prime.
+    fn high(&mut self, field: Field) -> u32 {
+        let word = self.at_prime();
+        if word < field.prime() { word } else { field.prime() - 1 - self.below(2) as u32 }
+    }
+
     /// Mostly small, so that tuples meet and denominators vanish.
-    fn word(&mut self) -> u32 {
+    fn word(&mut self, field: Field) -> u32 {
         match self.below(12) {
             0..=7 => self.below(3) as u32,
-            8 => P - 1 - self.below(2) as u32,
+            8 => self.high(field),
             9 => self.below(120) as u32,
-            _ => self.below(P.into()) as u32,
+            _ => self.below(field.prime().into()) as u32,
         }
     }
 
-    fn challenge(&mut self) -> Ext {
+    fn challenge(&mut self, field: Field) -> Ext {
         match self.below(12) {
-            0..=8 => self.element(),
-            9 | 10 => plain::lift(self.word()),
+            0..=7 => self.element(field),
+            8 => std::array::from_fn(|_| self.high(field)),
+            9 | 10 => plain::lift(self.word(field)),
             _ => std::array::from_fn(|_| self.below(2) as u32),
         }
     }
@@ -197,7 +224,7 @@ impl Random {
         match self.below(8) {
             0..=4 => self.below(3) as u32,
             5 => u32::MAX - self.below(2) as u32,
-            6 => P - self.below(2) as u32,
+            6 => self.at_prime(),
             _ => self.draw() as u32,
         }
     }
@@ -268,9 +295,9 @@ impl Maker<'_> {
         t.main_width = 1 + r.below(3);
         t.pre_width = r.below(5).saturating_sub(2);
         t.pre_height = if t.pre_width == 0 { r.below(3) } else { height + r.below(6).saturating_sub(3) };
-        t.main = (0..t.main_width * height).map(|_| r.word()).collect();
-        t.preprocessed = (0..t.pre_width * t.pre_height).map(|_| r.word()).collect();
-        t.public_values = (0..r.below(3)).map(|_| r.word()).collect();
+        t.main = (0..t.main_width * height).map(|_| r.word(t.field)).collect();
+        t.preprocessed = (0..t.pre_width * t.pre_height).map(|_| r.word(t.field)).collect();
+        t.public_values = (0..r.below(3)).map(|_| r.word(t.field)).collect();
     }
 
     /// Leaves of each kind, then some larger expressions.
@@ -336,10 +363,10 @@ impl Maker<'_> {
     fn multiplicity(&mut self) -> u32 {
         match self.random.below(10) {
             0..=3 => self.constant(1),
-            4 => self.constant(P - 1),
+            4 => self.constant(self.table.field.prime() - 1),
             5 => self.constant(0),
             6 => {
-                let word = self.random.word();
+                let word = self.random.word(self.table.field);
                 self.constant(word)
             }
             _ => self.any_node(),
@@ -415,9 +442,9 @@ fn number_columns(lookups: &mut [Lookup]) {
 }
 
 /// A table that none of refusals 1 to 5 meets, unless it has more lookups or tuples than the limits.
-pub fn table(random: &mut Random) -> Table {
+pub fn table(random: &mut Random, field: Field) -> Table {
     let loose = random.one_in(15);
-    let mut maker = Maker { random, table: Table::default(), sizes: vec![], loose };
+    let mut maker = Maker { random, table: Table { field, ..Table::default() }, sizes: vec![], loose };
     maker.traces();
     maker.nodes();
     let mut lookups = maker.lookups();
@@ -472,11 +499,11 @@ fn interactions(random: &mut Random, nodes: usize) -> Vec<Interaction> {
     (0..random.below(6)).map(|_| interaction(random)).collect()
 }
 
-fn terminals(random: &mut Random) -> Vec<Option<Ext>> {
-    let mut terminals: Vec<Option<Ext>> = (0..random.below(4)).map(|_| (!random.one_in(3)).then(|| random.challenge())).collect();
+fn terminals(random: &mut Random, field: Field) -> Vec<Option<Ext>> {
+    let mut terminals: Vec<Option<Ext>> = (0..random.below(4)).map(|_| (!random.one_in(3)).then(|| random.challenge(field))).collect();
     if random.one_in(2) {
-        let sum = terminals.iter().flatten().copied().fold([0; 4], plain::add);
-        terminals.push(Some(plain::sub([0; 4], sum)));
+        let sum = terminals.iter().flatten().fold([0; 4], |sum, t| field.add(sum, *t));
+        terminals.push(Some(field.sub([0; 4], sum)));
     }
     terminals
 }
@@ -494,7 +521,7 @@ fn meet_tuple(random: &mut Random, t: &Table, challenges: &mut [u32]) {
         let values = model::node_values(t, random.below(t.height) as usize);
         let tuple: Vec<u32> = random.pick(tuples).iter().map(|n| values[*n as usize]).collect();
         let pair = &mut challenges[8 * lookup..8 * lookup + 8];
-        let alpha = model::combined(&tuple, pair[4..].try_into().unwrap());
+        let alpha = model::combined(t.field, &tuple, pair[4..].try_into().unwrap());
         pair[..4].copy_from_slice(&alpha);
     }
 }
@@ -515,11 +542,26 @@ fn longer(random: &mut Random) -> (List, Edit) {
     (random.pick(&[packed, packed, List::Built, List::Prefixes, List::Nodes]), Edit::Push(random.draw() as u32))
 }
 
-/// The tables with inputs for each function that none of refusals 1 to 12 meets.
+/// The choices of a call in this field; now and then one of them is unknown, or all.
+fn choices(random: &mut Random, field: Field) -> Choices {
+    let mut choices = Choices::of(field);
+    if random.one_in(16) {
+        let (other, unknown) = (random.pick(&[0, 3, 257, 1 << 31, u32::MAX]), random.pick(&[0, 2, 3, 257, u32::MAX]));
+        match random.below(4) {
+            0 => choices.field = other,
+            1 => choices.profile = unknown,
+            2 => choices.rule = unknown,
+            _ => choices = Choices { field: other, profile: unknown, rule: unknown },
+        }
+    }
+    choices
+}
+
+/// The tables with inputs for each function that none of refusals 1 to 12 meets, unknown choices aside.
 fn case_of(random: &mut Random, tables: Vec<Table>) -> Case {
-    let n = tables[0].lookup_count();
-    let shared = random.one_in(2).then(|| [random.challenge(), random.challenge()].concat());
-    let pair = |random: &mut Random| shared.clone().unwrap_or_else(|| [random.challenge(), random.challenge()].concat());
+    let (field, n) = (tables[0].field, tables[0].lookup_count());
+    let shared = random.one_in(2).then(|| [random.challenge(field), random.challenge(field)].concat());
+    let pair = |random: &mut Random| shared.clone().unwrap_or_else(|| [random.challenge(field), random.challenge(field)].concat());
     let mut challenges: Vec<u32> = (0..n).flat_map(|_| pair(random)).collect();
     if 0 < n && 0 < tables[0].height && random.one_in(10) {
         meet_tuple(random, &tables[0], &mut challenges);
@@ -528,17 +570,20 @@ fn case_of(random: &mut Random, tables: Vec<Table>) -> Case {
     // Numbers of its own, so that the tables that are drawn do not depend on these.
     let apart = &mut Random(random.0 ^ 0x9E3779B97F4A7C15 | 1);
     Case {
+        choices: choices(apart, field),
         buffer: used(&tables[0]) + random.below(8).saturating_sub(5) as usize,
         challenges,
         extra_columns: random.below(8).saturating_sub(5),
-        changes: (0..random.below(6).saturating_sub(3)).map(|_| (random.draw() as usize, 1 + random.word() % (P - 1))).collect(),
+        changes: (0..random.below(6).saturating_sub(3))
+            .map(|_| (random.draw() as usize, 1 + random.word(field) % (field.prime() - 1)))
+            .collect(),
         missing_words: 0,
         terminal_misplaced: false,
         limit: random.below(9),
         transition: random.below(2),
         workspace: if tables[0].height > 100 { 100_000 } else { workspace as usize },
         heights: tables.iter().map(|t| if random.one_in(3) { random.below(1 << 20) } else { t.height }).collect(),
-        terminals: terminals(random),
+        terminals: terminals(random, field),
         prefix_width: 1 + random.below(9),
         prefixes: random.below(6),
         interactions: interactions(random, tables[0].node_count()),
@@ -546,7 +591,7 @@ fn case_of(random: &mut Random, tables: Vec<Table>) -> Case {
             0 => i32::MIN,
             1 => i32::MAX,
             2 => -(random.below(4) as i32),
-            3 => random.pick(&[P as i32, -(P as i32), P as i32 - 1, 1 - P as i32, P as i32 + 1]),
+            3 => random.at_prime() as i32 * random.pick(&[1, -1]),
             _ => random.draw() as i32,
         },
         negated: [apart.below(tables[0].node_count() as u64 + 1) as u32, apart.weight()],
@@ -559,11 +604,17 @@ fn case_of(random: &mut Random, tables: Vec<Table>) -> Case {
     }
 }
 
+/// A case in either field.
 pub fn case(random: &mut Random) -> Case {
-    let mut tables = vec![table(random)];
+    let field = random.pick(&Field::ALL);
+    case_in(random, field)
+}
+
+pub fn case_in(random: &mut Random, field: Field) -> Case {
+    let mut tables = vec![table(random, field)];
     for _ in 0..random.pick(&[0, 0, 1, 1, 2]) {
         let last = tables.last().unwrap().clone();
-        let next = if random.one_in(3) { table(random) } else { mirror(random, &last) };
+        let next = if random.one_in(3) { table(random, field) } else { mirror(random, &last) };
         tables.push(next);
     }
     case_of(random, tables)
@@ -604,7 +655,7 @@ pub fn damage(random: &mut Random, case: &mut Case) {
             }
             14 => match random.below(3) {
                 0 => case.missing_words = 1 + random.below(4) as usize,
-                1 => case.terminals.push(Some([1, 2, random.pick(&[3, P]), 4])),
+                1 => case.terminals.push(Some([1, 2, random.at_prime(), 4])),
                 _ => case.terminals.resize(16 + random.below(2) as usize, None),
             },
             _ => {
@@ -614,7 +665,7 @@ pub fn damage(random: &mut Random, case: &mut Case) {
                     1 => shorten(&mut case.heights),
                     _ => case.heights.fill(height),
                 }
-                case.changes.push((random.draw() as usize, P));
+                case.changes.push((random.draw() as usize, random.at_prime()));
             }
         }
     }
@@ -651,8 +702,8 @@ fn damage_table(random: &mut Random, t: &mut Table) {
 }
 
 fn damage_list(random: &mut Random, list: &mut Vec<u32>) {
-    let special = random.below(20) as u32;
-    let word = random.pick(&[0, 1, 2, 3, 13, P - 1, P, P + 1, u32::MAX, special]);
+    let (special, at_prime) = (random.below(20) as u32, random.at_prime());
+    let word = random.pick(&[0, 1, 2, 3, 13, at_prime, at_prime, at_prime, u32::MAX, special]);
     match random.below(8) {
         0 => list.push(word),
         1 => shorten(list),
@@ -665,8 +716,8 @@ fn damage_list(random: &mut Random, list: &mut Vec<u32>) {
 }
 
 /// One lookup ("mem", one tuple of one column, multiplicity 1) over a main column.
-fn plain_table(height: u64) -> Table {
-    let mut t = Table { main_width: 1, height, ..Table::default() };
+fn plain_table(field: Field, height: u64) -> Table {
+    let mut t = Table { field, main_width: 1, height, ..Table::default() };
     t.main = (0..height as u32).map(|row| row % 5).collect();
     t.nodes = vec![1, 0, 0, 0, 1, 0, 12, 1, 0];
     t.set_records(&[on_bus(0, vec![0], 1)]);
@@ -695,14 +746,22 @@ fn to_build(over: usize) -> Vec<(String, Vec<Interaction>)> {
     ]
 }
 
-/// The limits of docs/SPECIFICATION.md, each met and passed by one, with a name.
+/// Adds a case of these tables, with a change.
+type Add<'a> = dyn FnMut(String, Vec<Table>, &dyn Fn(&mut Case)) + 'a;
+
+/// The limits of docs/SPECIFICATION.md in each field, each met and passed by one, words at the primes and unknown choices, with a name.
 pub fn boundaries() -> Vec<(String, Case)> {
+    Field::ALL.into_iter().flat_map(boundaries_in).map(|(name, case)| (format!("{name}, field {}", case.field().number()), case)).collect()
+}
+
+fn boundaries_in(field: Field) -> Vec<(String, Case)> {
     let mut random = Random(7);
     let mut cases = vec![];
     let mut add = |name: String, tables: Vec<Table>, change: &dyn Fn(&mut Case)| {
         let mut case = case_of(&mut random, tables);
+        case.choices = Choices::of(field);
         case.workspace = 640;
-        case.challenges = (0..2 * case.tables[0].lookup_count()).flat_map(|_| random.element()).collect();
+        case.challenges = (0..2 * case.tables[0].lookup_count()).flat_map(|_| random.element(field)).collect();
         case.heights = case.tables.iter().map(|t| t.height).collect();
         change(&mut case);
         cases.push((name, case));
@@ -710,12 +769,12 @@ pub fn boundaries() -> Vec<(String, Case)> {
     let same = |_: &mut Case| ();
     for over in 0..2 {
         let table = |change: &dyn Fn(&mut Table)| {
-            let mut t = plain_table(3);
+            let mut t = plain_table(field, 3);
             change(&mut t);
             vec![t]
         };
         let n = model::TABLES + over;
-        add(format!("{n} tables"), vec![plain_table(2); n], &same);
+        add(format!("{n} tables"), vec![plain_table(field, 2); n], &same);
         let n = model::LOOKUPS + over;
         add(
             format!("{n} lookups"),
@@ -771,7 +830,7 @@ pub fn boundaries() -> Vec<(String, Case)> {
             &same,
         );
         let n = model::HEIGHT + over as u64;
-        add(format!("height {n}"), vec![plain_table(n)], &same);
+        add(format!("height {n}"), vec![plain_table(field, n)], &same);
         add(
             format!("preprocessed height {n}"),
             table(&|t| {
@@ -834,21 +893,11 @@ pub fn boundaries() -> Vec<(String, Case)> {
             let name = format!("packed list {i} short by {over}, flag {}", 1 + absent);
             add(name, table(&|t| t.set_records(&[on_bus(0, vec![0], 1), flagged.clone()])), &short);
         }
-        let sum = P - 1 + over as u32;
-        add(
-            format!("height sum {sum}"),
-            vec![{
-                let mut t = plain_table(1);
-                t.set_records(&[Lookup { weight: sum, ..on_bus(0, vec![0], 1) }]);
-                t
-            }],
-            &same,
-        );
         add(format!("{} words for 3 slots", 30 - over), table(&|t| t.set_records(&[on_bus(0, vec![0], 1), on_bus(1, vec![0], 2)])), &|c| {
             c.workspace = 30 - over
         });
         add(format!("trace buffer of {} words", 24 - over), table(&|_| ()), &|c| c.buffer = 24 - over);
-        add(format!("height {over}"), vec![plain_table(n)], &same);
+        add(format!("height {over}"), vec![plain_table(field, n)], &same);
         add(
             format!("preprocessed height {}", 3 - over),
             table(&|t| {
@@ -859,7 +908,71 @@ pub fn boundaries() -> Vec<(String, Case)> {
         );
     }
     for height in [1023, 1024, 1025, 2048, 2049] {
-        add(format!("height {height}"), vec![plain_table(height)], &same);
+        add(format!("height {height}"), vec![plain_table(field, height)], &same);
+    }
+    for word in AT_PRIMES {
+        at_prime(&mut add, field, word);
+    }
+    for choices in unknown(field) {
+        // Accepted but for the choices; without lookups; and such as 1, 2 or 5 refuses by itself.
+        let mut add = |name: &str, change: fn(&mut Table)| {
+            add(format!("{choices:?}, {name}"), vec![plain_table(field, 3)], &|c| {
+                c.choices = choices;
+                change(&mut c.tables[0]);
+            });
+        };
+        add("a table", |_| ());
+        add("no lookups", |t| t.set_records(&[]));
+        add("a word too few", |t| shorten(&mut t.main));
+        add("high words", |t| (t.main[0], t.nodes[4]) = (u32::MAX, u32::MAX));
+        add("two multiplicities", |t| t.set_records(&[Lookup { multiplicities: vec![1, 1], ..on_bus(0, vec![0], 1) }]));
     }
     cases
+}
+
+/// Choices that are known but for a number.
+fn unknown(field: Field) -> Vec<Choices> {
+    let known = Choices::of(field);
+    let fields = [0, 3, u32::MAX].map(|field| Choices { field, ..known });
+    let profiles = [0, 2, u32::MAX].map(|profile| Choices { profile, ..known });
+    let rules = [0, 2, u32::MAX].map(|rule| Choices { rule, ..known });
+    [fields, profiles, rules].concat()
+}
+
+/// A word, wherever the prime decides.
+fn at_prime(add: &mut Add, field: Field, word: u32) {
+    let same = |_: &mut Case| ();
+    let table = |change: &dyn Fn(&mut Table)| {
+        let mut t = plain_table(field, 3);
+        change(&mut t);
+        vec![t]
+    };
+    add(format!("{word} in main"), table(&|t| t.main[1] = word), &same);
+    add(
+        format!("{word} in a preprocessed row that is not read"),
+        table(&|t| (t.pre_width, t.pre_height, t.preprocessed) = (1, 4, vec![0, 0, 0, word])),
+        &same,
+    );
+    add(format!("a public value {word}"), table(&|t| t.public_values = vec![word]), &same);
+    add(format!("a constant {word}"), table(&|t| t.nodes[4] = word), &same);
+    add(
+        format!("an unused constant {word}"),
+        table(&|t| {
+            t.add_node(0, word, 0);
+        }),
+        &same,
+    );
+    add(format!("a challenge word {word}"), table(&|_| ()), &|c| c.challenges[7] = word);
+    add(format!("the challenges' first words {word}"), table(&|_| ()), &|c| (c.challenges[0], c.challenges[4]) = (word, word));
+    add(format!("a trace word {word}"), table(&|_| ()), &|c| c.changes = vec![(2, word)]);
+    add(format!("a terminal word {word}"), table(&|_| ()), &|c| c.terminals = vec![Some([1, 2, 3, word]), None]);
+    add(format!("count {word}"), table(&|_| ()), &|c| c.count = word as i32);
+    add(format!("count -{word}"), table(&|_| ()), &|c| c.count = -(word as i32));
+    let heavy = |weight: u32| {
+        let mut t = plain_table(field, 1);
+        t.set_records(&[Lookup { weight, ..on_bus(0, vec![0], 1) }]);
+        t
+    };
+    add(format!("height sum {word}"), vec![heavy(word)], &same);
+    add(format!("height sum {word} of two tables"), vec![heavy(word - 7), heavy(7)], &same);
 }

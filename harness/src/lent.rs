@@ -32,8 +32,18 @@ enum Kind {
     Input,
     /// Write to it, but not where it refuses by 1 to 12.
     Output,
+    /// Write to it as working memory, but not where a choice is unknown.
+    Room,
     /// Write to it in any case.
     Answer,
+}
+
+/// What a call must have left as it was, beside what it may only read.
+#[derive(Clone, Copy, PartialEq, PartialOrd)]
+pub enum Kept {
+    Nothing,
+    Outputs,
+    OutputsAndRooms,
 }
 
 /// Places for lists, taken one after the other for each call.
@@ -119,9 +129,9 @@ impl Lender {
         self.place(list, Kind::Output)
     }
 
-    /// A list that the function may write to in any case.
+    /// A list that the function may write to, unless a choice is unknown.
     pub fn room<T: Word>(&mut self, list: &[T]) -> (*mut T, usize) {
-        self.place(list, Kind::Answer)
+        self.place(list, Kind::Room)
     }
 
     /// Numbers that the function writes in any case.
@@ -134,14 +144,19 @@ impl Lender {
         self.places[i].bytes()
     }
 
-    /// Nothing was written beside a list or to an input, and nothing to an output that must be untouched.
-    pub fn check(&self, untouched: bool) -> Result<(), String> {
+    /// Nothing was written beside a list or to an input, and nothing to what must be kept.
+    pub fn check(&self, kept: Kept) -> Result<(), String> {
         for (i, place) in self.places[..self.taken].iter().enumerate() {
             if !place.kept_beside(self.high) {
                 return Err(format!("bytes beside list {i} were written"));
             }
-            let kept = place.kind == Kind::Input || untouched && place.kind == Kind::Output;
-            if kept && place.bytes() != place.lent {
+            let untouched = match place.kind {
+                Kind::Input => true,
+                Kind::Output => Kept::Outputs <= kept,
+                Kind::Room => Kept::OutputsAndRooms <= kept,
+                Kind::Answer => false,
+            };
+            if untouched && place.bytes() != place.lent {
                 return Err(format!("list {i} was written"));
             }
         }
@@ -157,22 +172,26 @@ mod tests {
     #[test]
     fn notices() {
         for high in [false, true] {
-            let mut lender = Lender::new(2);
+            let mut lender = Lender::new(3);
             lender.start(high);
             let input = lender.read(&[1u32, 2, 3]).0.cast_mut();
             let output = lender.write(&[4u32, 5]).0;
-            assert!(lender.check(true).is_ok());
+            let room = lender.room(&[6u32]).0;
+            assert!(lender.check(Kept::OutputsAndRooms).is_ok());
+            unsafe { *room = 7 };
+            assert!(lender.check(Kept::Outputs).is_ok());
+            assert!(lender.check(Kept::OutputsAndRooms).is_err());
             unsafe { *output = 6 };
-            assert!(lender.check(false).is_ok());
-            assert!(lender.check(true).is_err());
+            assert!(lender.check(Kept::Nothing).is_ok());
+            assert!(lender.check(Kept::Outputs).is_err());
             unsafe { *input = 6 };
-            assert!(lender.check(false).is_err());
+            assert!(lender.check(Kept::Nothing).is_err());
             let beside = if high { output.wrapping_sub(1) } else { output.wrapping_add(2) };
             unsafe {
                 *input = 1;
                 *beside = 6;
             }
-            assert!(lender.check(false).is_err());
+            assert!(lender.check(Kept::Nothing).is_err());
         }
     }
 }

@@ -2,7 +2,7 @@
 //! reading, not for speed.
 use std::ops::Range;
 
-use crate::plain::{self, Ext, P};
+use crate::plain::{self, Ext, Field};
 use crate::table::{Entry, LOOKUP_WORDS, Lookup, NODE_WORDS, Plan, SIZES, Table, Widths, front};
 
 /// A refusal's number and three details; number 0 where the call is accepted.
@@ -20,6 +20,36 @@ pub fn refused(number: u32) -> Answer {
 
 fn with_details(number: u32, details: [usize; 3]) -> Answer {
     Answer { number, details: details.map(|d| d as u64) }
+}
+
+/// The numbers that choose how a call is read: field, profile and, for generation and constraints, the tuple rule. An unknown one is refusal
+/// 1, before anything else is read.
+#[derive(Clone, Copy, Debug, PartialEq, Eq)]
+pub struct Choices {
+    pub field: u32,
+    pub profile: u32,
+    pub rule: u32,
+}
+
+/// The cabinet, whose limits follow.
+pub const PROFILE: u32 = 1;
+pub const RULE: u32 = 1;
+
+impl Choices {
+    /// Those of a call in this field.
+    pub fn of(field: Field) -> Choices {
+        Choices { field: field.number(), profile: PROFILE, rule: RULE }
+    }
+
+    /// The field, where it and the profile are known.
+    pub fn known(self) -> Option<Field> {
+        Field::numbered(self.field).filter(|_| self.profile == PROFILE)
+    }
+
+    /// The same for a function that takes the rule.
+    pub fn known_with_rule(self) -> Option<Field> {
+        self.known().filter(|_| self.rule == RULE)
+    }
 }
 
 pub const TABLES: usize = 16;
@@ -92,16 +122,16 @@ fn sizes_fit(t: &Table) -> bool {
 
 // Refusals 2 to 5 and 9.
 
-fn words_below(words: &[u32]) -> bool {
-    words.iter().all(|w| *w < P)
+fn words_below(field: Field, words: &[u32]) -> bool {
+    words.iter().all(|w| *w < field.prime())
 }
 
 pub fn constants_below(t: &Table) -> bool {
-    (0..t.node_count()).all(|i| t.node(i)[0] != 0 || t.node(i)[1] < P)
+    (0..t.node_count()).all(|i| t.node(i)[0] != 0 || t.node(i)[1] < t.field.prime())
 }
 
 pub fn traces_below(t: &Table) -> bool {
-    words_below(&t.main) && words_below(&t.preprocessed) && words_below(&t.public_values)
+    [&t.main, &t.preprocessed, &t.public_values].iter().all(|words| words_below(t.field, words))
 }
 
 pub fn nodes_known(t: &Table) -> bool {
@@ -190,10 +220,10 @@ pub fn node_values(t: &Table, row: usize) -> Vec<u32> {
             6 => (row == 0).into(),
             7 => (row + 1 == height).into(),
             8 => (row + 1 < height).into(),
-            9 => plain::add_word(of(a), of(b)),
-            10 => plain::sub_word(of(a), of(b)),
-            11 => plain::mul_word(of(a), of(b)),
-            _ => plain::neg_word(of(a)),
+            9 => t.field.add_word(of(a), of(b)),
+            10 => t.field.sub_word(of(a), of(b)),
+            11 => t.field.mul_word(of(a), of(b)),
+            _ => t.field.neg_word(of(a)),
         };
         values.push(value);
     }
@@ -201,14 +231,19 @@ pub fn node_values(t: &Table, row: usize) -> Vec<u32> {
 }
 
 /// The sum of element j × beta^(k - 1 - j).
-pub fn combined(tuple: &[u32], beta: Ext) -> Ext {
+pub fn combined(field: Field, tuple: &[u32], beta: Ext) -> Ext {
     let k = tuple.len();
-    let term = |j: usize| plain::scale(tuple[j], plain::power(beta, (k - 1 - j) as u32));
-    (0..k).map(term).fold([0; 4], plain::add)
+    let term = |j: usize| field.scale(tuple[j], field.power(beta, (k - 1 - j) as u32));
+    sum(field, (0..k).map(term))
+}
+
+fn sum(field: Field, elements: impl Iterator<Item = Ext>) -> Ext {
+    elements.fold([0; 4], |a, b| field.add(a, b))
 }
 
 /// A lookup with the values of its nodes on one row, and its challenges.
 struct Place<'a> {
+    field: Field,
     lookup: &'a Lookup,
     values: &'a [u32],
     alpha: Ext,
@@ -233,7 +268,7 @@ impl Place<'_> {
     }
 
     fn denominator(&self, k: usize) -> Ext {
-        plain::sub(self.alpha, combined(&self.tuple(k), self.beta))
+        self.field.sub(self.alpha, combined(self.field, &self.tuple(k), self.beta))
     }
 
     fn branches(&self) -> std::ops::Range<usize> {
@@ -260,30 +295,36 @@ impl Place<'_> {
     }
 
     fn fraction(&self) -> Ext {
-        let quotient = |k: usize| plain::scale(self.multiplicity(k), plain::inverse(self.denominator(k)));
-        self.used().into_iter().map(quotient).fold([0; 4], plain::add)
+        let quotient = |k: usize| self.field.scale(self.multiplicity(k), self.field.inverse(self.denominator(k)));
+        sum(self.field, self.used().into_iter().map(quotient))
     }
 
     /// Numerator and denominator as the constraints have them.
     fn terms(&self) -> (Ext, Ext) {
-        let one = plain::lift(1);
+        let (field, one) = (self.field, plain::lift(1));
+        let product = |branches: &mut dyn Iterator<Item = usize>| branches.fold(one, |a, k| field.mul(a, self.denominator(k)));
         if self.lookup.exclusive {
             let mut numerator = 0;
             let mut denominator = one;
             for k in self.branches() {
                 let flag = self.flag(k);
-                numerator = plain::add_word(numerator, plain::mul_word(flag, self.multiplicity(k)));
-                denominator = plain::add(denominator, plain::scale(flag, plain::sub(self.denominator(k), one)));
+                numerator = field.add_word(numerator, field.mul_word(flag, self.multiplicity(k)));
+                denominator = field.add(denominator, field.scale(flag, field.sub(self.denominator(k), one)));
             }
             return (plain::lift(numerator), denominator);
         }
         let mut numerator = [0; 4];
         for k in self.branches() {
-            let others = self.branches().filter(|j| *j != k).map(|j| self.denominator(j)).fold(one, plain::mul);
-            numerator = plain::add(numerator, plain::scale(self.multiplicity(k), others));
+            let others = product(&mut self.branches().filter(|j| *j != k));
+            numerator = field.add(numerator, field.scale(self.multiplicity(k), others));
         }
-        (numerator, self.branches().map(|k| self.denominator(k)).fold(one, plain::mul))
+        (numerator, product(&mut self.branches()))
     }
+}
+
+/// Lookup i with its own pair of the challenges.
+fn placed<'a>(field: Field, lookup: &'a Lookup, values: &'a [u32], challenges: &[u32], i: usize) -> Place<'a> {
+    Place { field, lookup, values, alpha: element(challenges, 2 * i), beta: element(challenges, 2 * i + 1) }
 }
 
 fn element(words: &[u32], i: usize) -> Ext {
@@ -297,7 +338,7 @@ pub fn faults(t: &Table, challenges: &[u32]) -> Vec<(u32, usize, usize)> {
     for row in 0..t.height as usize {
         let values = node_values(t, row);
         for (i, lookup) in records.iter().enumerate() {
-            let place = Place { lookup, values: &values, alpha: element(challenges, 2 * i), beta: element(challenges, 2 * i + 1) };
+            let place = placed(t.field, lookup, &values, challenges, i);
             let fault = place.fault();
             if fault != 0 {
                 faults.push((fault, row, i));
@@ -315,11 +356,11 @@ pub fn satisfying(t: &Table, challenges: &[u32]) -> (Vec<u32>, Ext) {
         let values = node_values(t, row);
         trace.extend(accumulator);
         for (i, lookup) in records.iter().enumerate() {
-            let place = Place { lookup, values: &values, alpha: element(challenges, 2 * i), beta: element(challenges, 2 * i + 1) };
+            let place = placed(t.field, lookup, &values, challenges, i);
             let (numerator, denominator) = place.terms();
-            let fraction = plain::mul(numerator, plain::inverse(denominator));
+            let fraction = t.field.mul(numerator, t.field.inverse(denominator));
             trace.extend(fraction);
-            accumulator = plain::add(accumulator, fraction);
+            accumulator = t.field.add(accumulator, fraction);
         }
     }
     (trace, accumulator)
@@ -333,7 +374,7 @@ pub fn generate(t: &Table, challenges: &[u32], trace: &mut [u32]) -> (Answer, Op
     let used = || t.height * (n as u64 + 1) * 4;
     let number = first_refused(&[
         (1, &|| sizes_fit(t) && challenges.len().is_multiple_of(4)),
-        (2, &|| traces_below(t) && constants_below(t) && words_below(challenges)),
+        (2, &|| traces_below(t) && constants_below(t) && words_below(t.field, challenges)),
         (3, &|| nodes_known(t)),
         (4, &|| degrees_low(t)),
         (5, &|| lookups_agree(t) && columns_in_position(t)),
@@ -354,7 +395,7 @@ pub fn generate(t: &Table, challenges: &[u32], trace: &mut [u32]) -> (Answer, Op
         let values = node_values(t, row);
         words[..4].copy_from_slice(&accumulator);
         for (i, lookup) in records.iter().enumerate() {
-            let place = Place { lookup, values: &values, alpha: element(challenges, 2 * i), beta: element(challenges, 2 * i + 1) };
+            let place = placed(t.field, lookup, &values, challenges, i);
             let fault = place.fault();
             if fault != 0 {
                 trace.fill(0);
@@ -362,7 +403,7 @@ pub fn generate(t: &Table, challenges: &[u32], trace: &mut [u32]) -> (Answer, Op
             }
             let fraction = place.fraction();
             words[4 * (i + 1)..4 * (i + 2)].copy_from_slice(&fraction);
-            accumulator = plain::add(accumulator, fraction);
+            accumulator = t.field.add(accumulator, fraction);
         }
     }
     (ACCEPTED, Some(accumulator))
@@ -373,8 +414,8 @@ pub fn constraints(t: &Table, challenges: &[u32], width: u64, trace: &[u32], ter
     let number = first_refused(&[
         (1, &|| sizes_fit(t) && challenges.len().is_multiple_of(4) && trace.len() as u128 == u128::from(width) * u128::from(t.height) * 4),
         (2, &|| {
-            let terminal = terminal.unwrap_or_default();
-            traces_below(t) && constants_below(t) && words_below(challenges) && words_below(trace) && words_below(&terminal)
+            let words = [challenges, trace, &terminal.unwrap_or_default()];
+            traces_below(t) && constants_below(t) && words.iter().all(|words| words_below(t.field, words))
         }),
         (3, &|| nodes_known(t)),
         (4, &|| degrees_low(t)),
@@ -398,18 +439,18 @@ pub fn constraints(t: &Table, challenges: &[u32], width: u64, trace: &[u32], ter
         let mut sum = cell(row, 0);
         let mut must_vanish = vec![];
         for (i, lookup) in records.iter().enumerate() {
-            let place = Place { lookup, values: &values, alpha: element(challenges, 2 * i), beta: element(challenges, 2 * i + 1) };
+            let place = placed(t.field, lookup, &values, challenges, i);
             let (numerator, denominator) = place.terms();
-            must_vanish.push((i, plain::sub(plain::mul(denominator, cell(row, i + 1)), numerator)));
-            sum = plain::add(sum, cell(row, i + 1));
+            must_vanish.push((i, t.field.sub(t.field.mul(denominator, cell(row, i + 1)), numerator)));
+            sum = t.field.add(sum, cell(row, i + 1));
         }
         if row == 0 {
             must_vanish.push((n, cell(0, 0)));
         }
         if row < last {
-            must_vanish.push((n + 1, plain::sub(cell(row + 1, 0), sum)));
+            must_vanish.push((n + 1, t.field.sub(cell(row + 1, 0), sum)));
         } else {
-            must_vanish.push((n + 2, plain::sub(terminal, sum)));
+            must_vanish.push((n + 2, t.field.sub(terminal, sum)));
         }
         if let Some((place, _)) = must_vanish.iter().find(|(_, value)| *value != [0; 4]) {
             return with_details(17, [row, *place, 0]);
@@ -533,7 +574,7 @@ pub fn build(t: &Table, plan: &Plan, room: usize) -> (Answer, Table) {
     if !fits {
         return (refused(1), Table::default());
     }
-    let mut built = Table { main_width: t.main_width, pre_width: t.pre_width, nodes: t.nodes.clone(), ..lists.clone() };
+    let mut built = Table { field: t.field, main_width: t.main_width, pre_width: t.pre_width, nodes: t.nodes.clone(), ..lists.clone() };
     built.public_values = t.public_values.clone();
     built.lookups = vec![];
     let mut weights = &weights[..];
@@ -564,8 +605,8 @@ fn kinds_sum(plan: &Plan) -> u128 {
 }
 
 /// The word of a count's constant node, and its weight.
-pub fn count_of(n: i32) -> (u32, u32) {
-    let p = i64::from(P);
+pub fn count_of(field: Field, n: i32) -> (u32, u32) {
+    let p = i64::from(field.prime());
     (((i64::from(n) % p + p) % p) as u32, n.unsigned_abs())
 }
 
@@ -583,18 +624,18 @@ pub fn row(trace: usize, lookups: u64, height: u64, row: u64) -> [u64; 2] {
 }
 
 /// a to the power n, by squares.
-pub fn power(a: Ext, n: u128) -> Ext {
-    let square = |e: Ext| plain::mul(e, e);
+pub fn power(field: Field, a: Ext, n: u128) -> Ext {
+    let square = |e: Ext| field.mul(e, e);
     match n {
         0 => plain::lift(1),
-        _ if n.is_multiple_of(2) => square(power(a, n / 2)),
-        _ => plain::mul(a, square(power(a, n / 2))),
+        _ if n.is_multiple_of(2) => square(power(field, a, n / 2)),
+        _ => field.mul(a, square(power(field, a, n / 2))),
     }
 }
 
 /// The inverse, after Fermat; 0 where a is 0.
-pub fn inverse(a: Ext) -> Ext {
-    power(a, u128::from(P).pow(4) - 2)
+pub fn inverse(field: Field, a: Ext) -> Ext {
+    power(field, a, u128::from(field.prime()).pow(4) - 2)
 }
 
 /// The widest bus tuple. The function has the lookups' words, names and widths only: of 5 it tests what these words show.
@@ -627,31 +668,32 @@ pub fn height_bound(tables: &[Table], heights: &[u64]) -> Answer {
     }
     let weight = |t: &Table| t.entries().iter().map(|e| u64::from(e.weight)).sum::<u64>();
     let sum: u64 = tables.iter().zip(heights).map(|(t, h)| weight(t) * h).sum();
-    if sum < u64::from(P) { ACCEPTED } else { Answer { number: 19, details: [sum, 0, 0] } }
+    let below = tables.iter().all(|t| sum < t.field.prime().into());
+    if below { ACCEPTED } else { Answer { number: 19, details: [sum, 0, 0] } }
 }
 
-pub fn terminals(terminals: &[Option<Ext>]) -> Answer {
+pub fn terminals(field: Field, terminals: &[Option<Ext>]) -> Answer {
     if TABLES < terminals.len() {
         return refused(1);
     }
     let present = || terminals.iter().flatten();
-    if !present().all(|t| words_below(t)) {
+    if !present().all(|t| words_below(field, t)) {
         return refused(2);
     }
-    if present().copied().fold([0; 4], plain::add) == [0; 4] { ACCEPTED } else { refused(20) }
+    if sum(field, present().copied()) == [0; 4] { ACCEPTED } else { refused(20) }
 }
 
-pub fn prefixes(alpha: Ext, beta: Ext, width: u64, count: u64) -> (Answer, Vec<Ext>) {
+pub fn prefixes(field: Field, alpha: Ext, beta: Ext, width: u64, count: u64) -> (Answer, Vec<Ext>) {
     let number = first_refused(&[
         (1, &|| width <= PREFIX_WIDTH && count <= PREFIXES),
-        (2, &|| words_below(&alpha) && words_below(&beta)),
+        (2, &|| words_below(field, &alpha) && words_below(field, &beta)),
         (12, &|| width != 0),
     ]);
     if number != 0 {
         return (refused(number), vec![]);
     }
-    let gamma = plain::power(beta, width as u32);
-    (ACCEPTED, (1..=count).map(|i| plain::add(alpha, plain::scale(i as u32, gamma))).collect())
+    let gamma = field.power(beta, width as u32);
+    (ACCEPTED, (1..=count).map(|i| field.add(alpha, field.scale(i as u32, gamma))).collect())
 }
 
 // Balance.
@@ -691,6 +733,7 @@ fn split<const LISTS: usize>(sizes: &[u32], shape: usize, lists: [(usize, usize)
 pub fn bus_tables(all: &Table, sizes: &[u32]) -> Option<Vec<Table>> {
     let own = split(sizes, 0, [(LOOKUP_WORDS, all.lookups.len()), (1, all.names.len()), (1, all.tuples.len())])?;
     let table = |Own { parts: [lookups, names, tuples], .. }| Table {
+        field: all.field,
         lookups: all.lookups[lookups].to_vec(),
         names: all.names[names].to_vec(),
         tuples: all.tuples[tuples].to_vec(),
@@ -700,9 +743,9 @@ pub fn bus_tables(all: &Table, sizes: &[u32]) -> Option<Vec<Table>> {
 }
 
 /// The tables of the height bound, of which there are lookups.
-pub fn weighed_tables(lookups: &[u32], counts: &[u32]) -> Option<Vec<Table>> {
+pub fn weighed_tables(field: Field, lookups: &[u32], counts: &[u32]) -> Option<Vec<Table>> {
     let own = split(counts, 0, [(LOOKUP_WORDS, lookups.len())])?;
-    let table = |Own { parts: [part], .. }| Table { lookups: lookups[part].to_vec(), ..Table::default() };
+    let table = |Own { parts: [part], .. }| Table { field, lookups: lookups[part].to_vec(), ..Table::default() };
     Some(own.into_iter().map(table).collect())
 }
 
@@ -725,6 +768,7 @@ pub fn whole_tables(all: &Table, sizes: &[u32]) -> Option<Vec<Table>> {
     let table = |Own { shape, parts }: Own<LISTS>| {
         let [main, preprocessed, public_values, nodes, lookups, names, tuples, multiplicities, flags, elements] = parts;
         Table {
+            field: all.field,
             main_width: shape[0].into(),
             height: shape[1].into(),
             pre_width: shape[2].into(),
@@ -779,16 +823,17 @@ pub fn balance(tables: &[Table], workspace: &mut [u32]) -> Answer {
         for (t, i) in places {
             for row in 0..tables[t].height as usize {
                 let values = node_values(&tables[t], row);
-                let place = Place { lookup: &records[t][i], values: &values, alpha: [0; 4], beta: [0; 4] };
+                let field = tables[t].field;
+                let place = Place { field, lookup: &records[t][i], values: &values, alpha: [0; 4], beta: [0; 4] };
                 for k in place.branches() {
                     let flag = if place.lookup.exclusive { place.flag(k) } else { 1 };
-                    let count = plain::mul_word(place.multiplicity(k), flag);
+                    let count = field.mul_word(place.multiplicity(k), flag);
                     let tuple = place.tuple(k);
                     if count == 0 {
                         continue;
                     }
                     match nets.iter_mut().find(|(seen, _)| *seen == tuple) {
-                        Some((_, net)) => *net = plain::add_word(*net, count),
+                        Some((_, net)) => *net = field.add_word(*net, count),
                         None => nets.push((tuple, count)),
                     }
                 }

@@ -1,10 +1,10 @@
-//! The oracle: p3-lookup's own source, run on a table. A panic comes back as its message.
+//! The oracle: p3-lookup's own source, run on a table in the field of its words. A panic comes back as its message.
 use std::cell::Cell;
+use std::marker::PhantomData;
 use std::panic::{self, AssertUnwindSafe};
 use std::sync::Once;
 
 use p3_air::{Air, AirBuilder, ExtensionBuilder, PermutationAirBuilder, RowWindow, SymbolicExpression};
-use p3_baby_bear::{BabyBear, Quartic};
 use p3_field::PrimeCharacteristicRing;
 use p3_lookup::builder::InteractionBuilder;
 use p3_lookup::challenges::Challenges;
@@ -15,13 +15,14 @@ use p3_lookup::protocol::LookupProtocol;
 use p3_lookup::symbolic::InteractionSymbolicBuilder;
 use p3_lookup::types::{self, Kind, LookupError, LookupTerminal, Lookups};
 use p3_matrix::dense::RowMajorMatrix;
+use p3_monty_31::{MontyField31, Quartic};
 use serde::Transparent;
 
 use crate::model;
-use crate::plain::Ext;
-use crate::table::{Interaction, Lookup, Part, Table};
+use crate::plain::{Ext, Field};
+use crate::table::{Interaction, Lookup, Part, Table, field_of};
 
-type Expression = SymbolicExpression<BabyBear>;
+type Expression<const P: u32> = SymbolicExpression<MontyField31<P>>;
 
 /// What the crate answers, or the message of its panic.
 pub type Run<T> = Result<T, String>;
@@ -71,47 +72,90 @@ fn trees_small(t: &Table) -> bool {
     sizes.iter().all(|size| *size <= 5_000)
 }
 
-// Translation.
+// The crate's functions, each in the field of its table, or in the one that is given.
 
-fn element(words: &[u32]) -> Quartic {
-    Quartic(std::array::from_fn(|i| BabyBear::new(words[i])))
+/// Calls a function of `Over` for a field.
+macro_rules! in_field {
+    ($field:expr, $function:ident($($argument:expr),*)) => {
+        match $field {
+            Field::BabyBear => Over::<p3_baby_bear::Quartic>::$function($($argument),*),
+            Field::KoalaBear => Over::<p3_koala_bear::Quartic>::$function($($argument),*),
+        }
+    };
 }
 
-fn elements(words: &[u32]) -> Vec<Quartic> {
-    words.chunks_exact(4).map(element).collect()
+/// `generate_permutation`: the trace's words and the terminal.
+pub fn generate(t: &Table, challenges: &[u32]) -> Run<(Vec<u32>, Option<Ext>)> {
+    in_field!(t.field, generate(t, challenges))
 }
 
-fn words(element: Quartic) -> Ext {
-    element.0.map(BabyBear::word)
+/// `eval_all` on every row: the first row and place whose value is not zero. Without rows it runs once, on empty ones.
+pub fn constraints(t: &Table, challenges: &[u32], width: u64, trace: &[u32], terminal: Option<Ext>) -> Run<Option<(usize, usize)>> {
+    in_field!(t.field, constraints(t, challenges, width, trace, terminal))
 }
 
-fn field(words: &[u32]) -> Vec<BabyBear> {
-    words.iter().map(|w| BabyBear::new(*w)).collect()
+pub fn degree(t: &Table, lookup: usize, transition: usize) -> Run<u64> {
+    in_field!(t.field, degree(t, lookup, transition))
 }
 
-/// The expression of each node.
-fn expressions(t: &Table) -> Vec<Expression> {
-    let mut made: Vec<Expression> = vec![];
-    for i in 0..t.node_count() {
-        let [kind, a, b] = t.node(i);
-        let of = |n: u32| made[n as usize].clone();
-        let column = a as usize;
-        let expression = match kind {
-            0 => Expression::constant(BabyBear::new(a)),
-            1 | 2 => Expression::main(kind == 2, column),
-            3 | 4 => Expression::preprocessed(kind == 4, column),
-            5 => Expression::public_value(column),
-            6 => Expression::first_row(),
-            7 => Expression::last_row(),
-            8 => Expression::transition(),
-            9 => of(a) + of(b),
-            10 => of(a) - of(b),
-            11 => of(a) * of(b),
-            _ => -of(a),
-        };
-        made.push(expression);
+pub fn pack(t: &Table, limit: u64) -> Run<Vec<Lookup>> {
+    in_field!(t.field, pack(t, limit))
+}
+
+/// `from_interactions`, reached through `from_air`.
+pub fn build(t: &Table, interactions: &[Interaction]) -> Run<Vec<Lookup>> {
+    in_field!(t.field, build(t, interactions))
+}
+
+/// The widest bus tuple, or the two widths that differ.
+pub fn widths(tables: &[Table]) -> Run<Result<u64, (u64, u64)>> {
+    in_field!(field_of(tables), widths(tables))
+}
+
+/// Accepted, or the sum that is too large.
+pub fn height_bound(tables: &[Table], heights: &[u64]) -> Run<Result<(), u128>> {
+    in_field!(field_of(tables), height_bound(tables, heights))
+}
+
+/// Whether the sum of the terminals is zero.
+pub fn terminals(field: Field, terminals: &[Option<Ext>]) -> Run<bool> {
+    in_field!(field, terminals(terminals))
+}
+
+pub fn prefixes(field: Field, alpha: Ext, beta: Ext, width: u64, count: u64) -> Run<Vec<Ext>> {
+    in_field!(field, prefixes(alpha, beta, width, count))
+}
+
+/// `Count` from a number: the words of its constant's node, and its weight.
+pub fn count_from(field: Field, n: i32) -> Run<([u32; 3], u32)> {
+    in_field!(field, count_from(n))
+}
+
+/// The negation of a count: the words of its node, and its weight.
+pub fn count_negated(t: &Table, node: u32, weight: u32) -> Run<([u32; 3], u32)> {
+    in_field!(t.field, count_negated(t, node, weight))
+}
+
+pub fn count_bounded(t: &Table, node: u32, weight: u32) -> Run<(u32, u32)> {
+    in_field!(t.field, count_bounded(t, node, weight))
+}
+
+pub fn count_provided(t: &Table, node: u32) -> Run<(u32, u32)> {
+    in_field!(t.field, count_provided(t, node))
+}
+
+/// `check_lookups`: its panic's message where something is not balanced.
+pub fn balance(tables: &[Table]) -> Run<()> {
+    in_field!(field_of(tables), balance(tables))
+}
+
+/// How the crate names a group in the message of a panic.
+pub fn group_label(tables: &[Table], group: &[(usize, usize)]) -> String {
+    let (table, lookup) = group[0];
+    match &tables[table].records()[lookup].bus {
+        None => format!("instance {table} local lookup {lookup}"),
+        Some(name) => format!("global lookup '{}'", bus_name(name)),
     }
-    made
 }
 
 /// A bus name need not be a text: each byte becomes the character of its number.
@@ -119,94 +163,134 @@ fn bus_name(bytes: &[u8]) -> String {
     bytes.iter().map(|b| char::from(*b)).collect()
 }
 
-fn lookups(t: &Table, nodes: &[Expression]) -> Vec<types::Lookup<BabyBear>> {
-    let listed = |numbers: &[u32]| -> Vec<Expression> { numbers.iter().map(|n| nodes[*n as usize].clone()).collect() };
-    let lookup = |r: &Lookup| types::Lookup {
-        kind: r.bus.as_deref().map_or(Kind::Local, |name| Kind::Global(bus_name(name))),
-        elements: r.tuples.iter().map(|tuple| listed(tuple)).collect(),
-        multiplicities: listed(&r.multiplicities),
-        count_weight: r.weight,
-        column: r.column as usize,
-        flags: r.exclusive.then(|| listed(&r.flags)),
-    };
-    t.records().iter().map(lookup).collect()
-}
-
-/// Back again: an expression is the node that it was made from.
-fn records(lookups: &[types::Lookup<BabyBear>], nodes: &[Expression]) -> Vec<Lookup> {
-    let numbers = |list: &[Expression]| -> Vec<u32> { list.iter().map(|e| node_of(nodes, e)).collect() };
-    let record = |l: &types::Lookup<BabyBear>| Lookup {
-        bus: match &l.kind {
-            Kind::Local => None,
-            Kind::Global(name) => Some(name.chars().map(|c| c as u8).collect()),
-        },
-        weight: l.count_weight,
-        column: l.column as u32,
-        exclusive: l.flags.is_some(),
-        tuples: l.elements.iter().map(|tuple| numbers(tuple)).collect(),
-        multiplicities: numbers(&l.multiplicities),
-        flags: l.flags.as_deref().map(numbers).unwrap_or_default(),
-    };
-    lookups.iter().map(record).collect()
-}
-
-fn wrapped(t: &Table, nodes: &[Expression]) -> Lookups<BabyBear> {
-    Lookups::wrap(lookups(t, nodes))
-}
-
-fn all_wrapped(tables: &[Table]) -> Vec<Lookups<BabyBear>> {
-    tables.iter().map(|t| wrapped(t, &expressions(t))).collect()
-}
+/// The crate over one field, which is known by its extension. It is generic itself: so are all functions here.
+struct Over<Q>(PhantomData<Q>);
 
 /// A table's traces and public values in the crate's types.
-struct Traces {
-    main: RowMajorMatrix<BabyBear>,
-    preprocessed: Option<RowMajorMatrix<BabyBear>>,
-    public_values: Vec<BabyBear>,
+struct Traces<const P: u32> {
+    main: RowMajorMatrix<MontyField31<P>>,
+    preprocessed: Option<RowMajorMatrix<MontyField31<P>>>,
+    public_values: Vec<MontyField31<P>>,
 }
 
-fn traces(t: &Table) -> Traces {
-    let matrix = |words: &[u32], width: u64| RowMajorMatrix::new(field(words), width as usize);
-    Traces {
-        main: matrix(&t.main, t.main_width),
-        preprocessed: (0 < t.pre_width).then(|| matrix(&t.preprocessed, t.pre_width)),
-        public_values: field(&t.public_values),
+/// Translation.
+impl<const P: u32, const W: u32> Over<Quartic<P, W>> {
+    fn element(words: &[u32]) -> Quartic<P, W> {
+        Quartic(std::array::from_fn(|i| MontyField31::new(words[i])))
+    }
+
+    fn elements(words: &[u32]) -> Vec<Quartic<P, W>> {
+        words.chunks_exact(4).map(Self::element).collect()
+    }
+
+    fn words(element: Quartic<P, W>) -> Ext {
+        element.0.map(MontyField31::word)
+    }
+
+    fn of_words(words: &[u32]) -> Vec<MontyField31<P>> {
+        words.iter().map(|w| MontyField31::new(*w)).collect()
+    }
+
+    /// The expression of each node.
+    fn expressions(t: &Table) -> Vec<Expression<P>> {
+        let mut made: Vec<Expression<P>> = vec![];
+        for i in 0..t.node_count() {
+            let [kind, a, b] = t.node(i);
+            let of = |n: u32| made[n as usize].clone();
+            let column = a as usize;
+            let expression = match kind {
+                0 => Expression::constant(MontyField31::new(a)),
+                1 | 2 => Expression::main(kind == 2, column),
+                3 | 4 => Expression::preprocessed(kind == 4, column),
+                5 => Expression::public_value(column),
+                6 => Expression::first_row(),
+                7 => Expression::last_row(),
+                8 => Expression::transition(),
+                9 => of(a) + of(b),
+                10 => of(a) - of(b),
+                11 => of(a) * of(b),
+                _ => -of(a),
+            };
+            made.push(expression);
+        }
+        made
+    }
+
+    /// The number of the node that an expression is.
+    fn node_of(nodes: &[Expression<P>], expression: &Expression<P>) -> u32 {
+        nodes.iter().position(|node| node.is(expression)).expect("an expression of the table") as u32
+    }
+
+    fn lookups(t: &Table, nodes: &[Expression<P>]) -> Vec<types::Lookup<MontyField31<P>>> {
+        let listed = |numbers: &[u32]| -> Vec<Expression<P>> { numbers.iter().map(|n| nodes[*n as usize].clone()).collect() };
+        let lookup = |r: &Lookup| types::Lookup {
+            kind: r.bus.as_deref().map_or(Kind::Local, |name| Kind::Global(bus_name(name))),
+            elements: r.tuples.iter().map(|tuple| listed(tuple)).collect(),
+            multiplicities: listed(&r.multiplicities),
+            count_weight: r.weight,
+            column: r.column as usize,
+            flags: r.exclusive.then(|| listed(&r.flags)),
+        };
+        t.records().iter().map(lookup).collect()
+    }
+
+    /// Back again: an expression is the node that it was made from.
+    fn records(lookups: &[types::Lookup<MontyField31<P>>], nodes: &[Expression<P>]) -> Vec<Lookup> {
+        let numbers = |list: &[Expression<P>]| -> Vec<u32> { list.iter().map(|e| Self::node_of(nodes, e)).collect() };
+        let record = |l: &types::Lookup<MontyField31<P>>| Lookup {
+            bus: match &l.kind {
+                Kind::Local => None,
+                Kind::Global(name) => Some(name.chars().map(|c| c as u8).collect()),
+            },
+            weight: l.count_weight,
+            column: l.column as u32,
+            exclusive: l.flags.is_some(),
+            tuples: l.elements.iter().map(|tuple| numbers(tuple)).collect(),
+            multiplicities: numbers(&l.multiplicities),
+            flags: l.flags.as_deref().map(numbers).unwrap_or_default(),
+        };
+        lookups.iter().map(record).collect()
+    }
+
+    fn wrapped(t: &Table, nodes: &[Expression<P>]) -> Lookups<MontyField31<P>> {
+        Lookups::wrap(Self::lookups(t, nodes))
+    }
+
+    fn all_wrapped(tables: &[Table]) -> Vec<Lookups<MontyField31<P>>> {
+        tables.iter().map(|t| Self::wrapped(t, &Self::expressions(t))).collect()
+    }
+
+    fn traces(t: &Table) -> Traces<P> {
+        let matrix = |words: &[u32], width: u64| RowMajorMatrix::new(Self::of_words(words), width as usize);
+        Traces {
+            main: matrix(&t.main, t.main_width),
+            preprocessed: (0 < t.pre_width).then(|| matrix(&t.preprocessed, t.pre_width)),
+            public_values: Self::of_words(&t.public_values),
+        }
     }
 }
 
-// The crate's functions.
-
-/// `generate_permutation`: the trace's words and the terminal.
-pub fn generate(t: &Table, challenges: &[u32]) -> Run<(Vec<u32>, Option<Ext>)> {
-    let (traces, lookups, challenges) = (traces(t), lookups(t, &expressions(t)), elements(challenges));
-    caught(|| {
-        let Traces { main, preprocessed, public_values } = &traces;
-        let (trace, terminal) = LogUpGadget::new().generate_permutation(main, preprocessed, public_values, &lookups, &challenges);
-        (trace.values.into_iter().flat_map(words).collect(), terminal.map(|LookupTerminal(e)| words(e)))
-    })
-}
-
 /// A concrete row: each asserted value is kept.
-struct RowBuilder<'a> {
-    main: RowWindow<'a, BabyBear>,
-    preprocessed: RowWindow<'a, BabyBear>,
-    permutation: RowWindow<'a, Quartic>,
-    public_values: &'a [BabyBear],
-    challenges: &'a [Quartic],
-    terminal: &'a [Quartic],
+struct RowBuilder<'a, const P: u32, const W: u32> {
+    main: RowWindow<'a, MontyField31<P>>,
+    preprocessed: RowWindow<'a, MontyField31<P>>,
+    permutation: RowWindow<'a, Quartic<P, W>>,
+    public_values: &'a [MontyField31<P>],
+    challenges: &'a [Quartic<P, W>],
+    terminal: &'a [Quartic<P, W>],
     row: usize,
     height: usize,
-    asserted: Vec<Quartic>,
+    asserted: Vec<Quartic<P, W>>,
 }
 
-impl<'a> AirBuilder for RowBuilder<'a> {
-    type F = BabyBear;
-    type Expr = BabyBear;
-    type Var = BabyBear;
-    type PreprocessedWindow = RowWindow<'a, BabyBear>;
-    type MainWindow = RowWindow<'a, BabyBear>;
-    type PublicVar = BabyBear;
-    type PeriodicVar = BabyBear;
+impl<'a, const P: u32, const W: u32> AirBuilder for RowBuilder<'a, P, W> {
+    type F = MontyField31<P>;
+    type Expr = MontyField31<P>;
+    type Var = MontyField31<P>;
+    type PreprocessedWindow = RowWindow<'a, MontyField31<P>>;
+    type MainWindow = RowWindow<'a, MontyField31<P>>;
+    type PublicVar = MontyField31<P>;
+    type PeriodicVar = MontyField31<P>;
 
     fn main(&self) -> Self::MainWindow {
         self.main
@@ -216,82 +300,53 @@ impl<'a> AirBuilder for RowBuilder<'a> {
         &self.preprocessed
     }
 
-    fn is_first_row(&self) -> BabyBear {
-        BabyBear::from_bool(self.row == 0)
+    fn is_first_row(&self) -> Self::Expr {
+        Self::Expr::from_bool(self.row == 0)
     }
 
-    fn is_last_row(&self) -> BabyBear {
-        BabyBear::from_bool(self.row + 1 == self.height)
+    fn is_last_row(&self) -> Self::Expr {
+        Self::Expr::from_bool(self.row + 1 == self.height)
     }
 
-    fn is_transition(&self) -> BabyBear {
-        BabyBear::from_bool(self.row + 1 < self.height)
+    fn is_transition(&self) -> Self::Expr {
+        Self::Expr::from_bool(self.row + 1 < self.height)
     }
 
-    fn assert_zero<I: Into<BabyBear>>(&mut self, x: I) {
+    fn assert_zero<I: Into<Self::Expr>>(&mut self, x: I) {
         self.asserted.push(x.into().into());
     }
 
-    fn public_values(&self) -> &[BabyBear] {
+    fn public_values(&self) -> &[Self::PublicVar] {
         self.public_values
     }
 }
 
-impl ExtensionBuilder for RowBuilder<'_> {
-    type EF = Quartic;
-    type ExprEF = Quartic;
-    type VarEF = Quartic;
+impl<const P: u32, const W: u32> ExtensionBuilder for RowBuilder<'_, P, W> {
+    type EF = Quartic<P, W>;
+    type ExprEF = Quartic<P, W>;
+    type VarEF = Quartic<P, W>;
 
-    fn assert_zero_ext<I: Into<Quartic>>(&mut self, x: I) {
+    fn assert_zero_ext<I: Into<Self::ExprEF>>(&mut self, x: I) {
         self.asserted.push(x.into());
     }
 }
 
-impl<'a> PermutationAirBuilder for RowBuilder<'a> {
-    type MP = RowWindow<'a, Quartic>;
-    type RandomVar = Quartic;
-    type PermutationVar = Quartic;
+impl<'a, const P: u32, const W: u32> PermutationAirBuilder for RowBuilder<'a, P, W> {
+    type MP = RowWindow<'a, Quartic<P, W>>;
+    type RandomVar = Quartic<P, W>;
+    type PermutationVar = Quartic<P, W>;
 
     fn permutation(&self) -> Self::MP {
         self.permutation
     }
 
-    fn permutation_randomness(&self) -> &[Quartic] {
+    fn permutation_randomness(&self) -> &[Self::RandomVar] {
         self.challenges
     }
 
-    fn permutation_values(&self) -> &[Quartic] {
+    fn permutation_values(&self) -> &[Self::PermutationVar] {
         self.terminal
     }
-}
-
-/// `eval_all` on every row: the first row and place whose value is not zero. Without rows it runs once, on empty ones.
-pub fn constraints(t: &Table, challenges: &[u32], width: u64, trace: &[u32], terminal: Option<Ext>) -> Run<Option<(usize, usize)>> {
-    let (traces, lookups, challenges) = (traces(t), lookups(t, &expressions(t)), elements(challenges));
-    let (trace, terminal): (Vec<Quartic>, Vec<Quartic>) = (elements(trace), terminal.iter().map(|e| element(e)).collect());
-    let height = t.height as usize;
-    let preprocessed = traces.preprocessed.as_ref().map_or(&[][..], |m| &m.values);
-    caught(|| {
-        for row in 0..height.max(1) {
-            let next = (row + 1) % height.max(1);
-            let mut builder = RowBuilder {
-                main: window(&traces.main.values, t.main_width, row, next),
-                preprocessed: window(preprocessed, t.pre_width, row, next),
-                permutation: window(&trace, width, row, next),
-                public_values: &traces.public_values,
-                challenges: &challenges,
-                terminal: &terminal,
-                row,
-                height,
-                asserted: vec![],
-            };
-            LogUpGadget::new().eval_all(&mut builder, &lookups);
-            if let Some(place) = builder.asserted.iter().position(|value| *value != Quartic::ZERO) {
-                return Some((row, place));
-            }
-        }
-        None
-    })
 }
 
 /// Two rows of a matrix; a row that is not there is empty.
@@ -301,71 +356,28 @@ fn window<T>(values: &[T], width: u64, row: usize, next: usize) -> RowWindow<'_,
     RowWindow::from_two_rows(part(row), part(next))
 }
 
-pub fn degree(t: &Table, lookup: usize, transition: usize) -> Run<u64> {
-    let lookups = lookups(t, &expressions(t));
-    caught(|| LogUpGadget::new().constraint_degree_with_transition(&lookups[lookup], transition) as u64)
-}
-
-pub fn pack(t: &Table, limit: u64) -> Run<Vec<Lookup>> {
-    let nodes = expressions(t);
-    let lookups = wrapped(t, &nodes);
-    caught(|| records(&lookups.pack_same_bus(&LogUpGadget::new(), usize::try_from(limit).unwrap_or(usize::MAX)), &nodes))
-}
-
-/// The widest bus tuple, or the two widths that differ.
-pub fn widths(tables: &[Table]) -> Run<Result<u64, (u64, u64)>> {
-    let lookups = all_wrapped(tables);
-    caught(|| match types::check_bus_widths(&lookups) {
-        Ok(widest) => Ok(widest as u64),
-        Err(LookupError::BusWidthMismatch { expected, actual, .. }) => Err((expected as u64, actual as u64)),
-        Err(other) => panic!("{other}"),
-    })
-}
-
-/// Accepted, or the sum that is too large.
-pub fn height_bound(tables: &[Table], heights: &[u64]) -> Run<Result<(), u128>> {
-    let lookups = all_wrapped(tables);
-    let heights: Vec<usize> = heights.iter().map(|h| *h as usize).collect();
-    caught(|| match types::check_multiplicity_height_bound(&lookups, &heights) {
-        Ok(()) => Ok(()),
-        Err(LookupError::MultiplicityHeightBoundExceeded { weighted_height_sum, .. }) => Err(weighted_height_sum.0),
-        Err(other) => panic!("{other}"),
-    })
-}
-
-/// Whether the sum of the terminals is zero.
-pub fn terminals(terminals: &[Option<Ext>]) -> Run<bool> {
-    let terminals: Vec<_> = terminals.iter().map(|t| t.map(|e| LookupTerminal(element(&e)))).collect();
-    caught(|| LogUpGadget::new().verify_terminal_sum(&terminals).is_ok())
-}
-
-pub fn prefixes(alpha: Ext, beta: Ext, width: u64, count: u64) -> Run<Vec<Ext>> {
-    let (alpha, beta) = (element(&alpha), element(&beta));
-    caught(|| Challenges::new(alpha, beta, width as usize, count as usize).bus_prefix.iter().map(|e| words(*e)).collect())
-}
-
 /// An AIR that says just these interactions.
-struct Spoken<'a> {
+struct Spoken<'a, const P: u32> {
     interactions: &'a [Interaction],
-    nodes: &'a [Expression],
+    nodes: &'a [Expression<P>],
 }
 
-impl Spoken<'_> {
-    fn node(&self, n: u32) -> Expression {
+impl<const P: u32> Spoken<'_, P> {
+    fn node(&self, n: u32) -> Expression<P> {
         self.nodes[n as usize].clone()
     }
 
-    fn fields(&self, part: &Part) -> Vec<Expression> {
+    fn fields(&self, part: &Part) -> Vec<Expression<P>> {
         part.elements.iter().map(|n| self.node(*n)).collect()
     }
 
-    fn count(&self, part: &Part) -> Count<Expression> {
+    fn count(&self, part: &Part) -> Count<Expression<P>> {
         Count::bounded(self.node(part.multiplicity), part.weight)
     }
 }
 
-impl Air<InteractionSymbolicBuilder<BabyBear, Quartic>> for Spoken<'_> {
-    fn eval(&self, builder: &mut InteractionSymbolicBuilder<BabyBear, Quartic>) {
+impl<const P: u32, const W: u32> Air<InteractionSymbolicBuilder<MontyField31<P>, Quartic<P, W>>> for Spoken<'_, P> {
+    fn eval(&self, builder: &mut InteractionSymbolicBuilder<MontyField31<P>, Quartic<P, W>>) {
         for interaction in self.interactions {
             match interaction {
                 Interaction::Local(parts) => builder.push_local_interaction(parts.iter().map(|p| (self.fields(p), self.count(p)))),
@@ -379,75 +391,140 @@ impl Air<InteractionSymbolicBuilder<BabyBear, Quartic>> for Spoken<'_> {
     }
 }
 
-/// `from_interactions`, reached through `from_air`.
-pub fn build(t: &Table, interactions: &[Interaction]) -> Run<Vec<Lookup>> {
-    let nodes = expressions(t);
-    let air = Spoken { interactions, nodes: &nodes };
-    caught(|| records(&Lookups::from_air::<Quartic, _>(&air), &nodes))
-}
+/// The functions.
+impl<const P: u32, const W: u32> Over<Quartic<P, W>> {
+    fn generate(t: &Table, challenges: &[u32]) -> Run<(Vec<u32>, Option<Ext>)> {
+        let (traces, challenges) = (Self::traces(t), Self::elements(challenges));
+        let lookups = Self::lookups(t, &Self::expressions(t));
+        caught(|| {
+            let Traces { main, preprocessed, public_values } = &traces;
+            let (trace, terminal) = LogUpGadget::new().generate_permutation(main, preprocessed, public_values, &lookups, &challenges);
+            (trace.values.into_iter().flat_map(Self::words).collect(), terminal.map(|LookupTerminal(e)| Self::words(e)))
+        })
+    }
 
-/// `Count` from a number: the words of its constant's node, and its weight.
-pub fn count_from(n: i32) -> Run<([u32; 3], u32)> {
-    caught(|| {
-        let (expression, weight) = Count::<Expression>::from(n).into_parts();
-        ([0, expression.as_constant().expect("a constant").word(), 0], weight)
-    })
-}
+    fn constraints(t: &Table, challenges: &[u32], width: u64, trace: &[u32], terminal: Option<Ext>) -> Run<Option<(usize, usize)>> {
+        let (traces, challenges) = (Self::traces(t), Self::elements(challenges));
+        let lookups = Self::lookups(t, &Self::expressions(t));
+        let (trace, terminal): (_, Vec<_>) = (Self::elements(trace), terminal.iter().map(|e| Self::element(e)).collect());
+        let height = t.height as usize;
+        let preprocessed = traces.preprocessed.as_ref().map_or(&[][..], |m| &m.values);
+        caught(|| {
+            for row in 0..height.max(1) {
+                let next = (row + 1) % height.max(1);
+                let mut builder = RowBuilder {
+                    main: window(&traces.main.values, t.main_width, row, next),
+                    preprocessed: window(preprocessed, t.pre_width, row, next),
+                    permutation: window(&trace, width, row, next),
+                    public_values: &traces.public_values,
+                    challenges: &challenges,
+                    terminal: &terminal,
+                    row,
+                    height,
+                    asserted: vec![],
+                };
+                LogUpGadget::new().eval_all(&mut builder, &lookups);
+                if let Some(place) = builder.asserted.iter().position(|value| *value != Quartic::ZERO) {
+                    return Some((row, place));
+                }
+            }
+            None
+        })
+    }
 
-/// The number of the node that an expression is.
-fn node_of(nodes: &[Expression], expression: &Expression) -> u32 {
-    nodes.iter().position(|node| node.is(expression)).expect("an expression of the table") as u32
-}
+    fn degree(t: &Table, lookup: usize, transition: usize) -> Run<u64> {
+        let lookups = Self::lookups(t, &Self::expressions(t));
+        caught(|| LogUpGadget::new().constraint_degree_with_transition(&lookups[lookup], transition) as u64)
+    }
 
-/// The negation of a count: the words of its node, and its weight.
-pub fn count_negated(t: &Table, node: u32, weight: u32) -> Run<([u32; 3], u32)> {
-    let nodes = expressions(t);
-    caught(|| {
-        let (negated, weight) = (-Count::bounded(nodes[node as usize].clone(), weight)).into_parts();
-        ([12, node_of(&nodes, negated.as_negation().expect("a negation")), 0], weight)
-    })
-}
+    fn pack(t: &Table, limit: u64) -> Run<Vec<Lookup>> {
+        let nodes = Self::expressions(t);
+        let lookups = Self::wrapped(t, &nodes);
+        let limit = usize::try_from(limit).unwrap_or(usize::MAX);
+        caught(|| Self::records(&lookups.pack_same_bus(&LogUpGadget::new(), limit), &nodes))
+    }
 
-pub fn count_bounded(t: &Table, node: u32, weight: u32) -> Run<(u32, u32)> {
-    let nodes = expressions(t);
-    caught(|| {
-        let (expression, weight) = Count::bounded(nodes[node as usize].clone(), weight).into_parts();
-        (node_of(&nodes, &expression), weight)
-    })
-}
+    fn build(t: &Table, interactions: &[Interaction]) -> Run<Vec<Lookup>> {
+        let nodes = Self::expressions(t);
+        let air = Spoken { interactions, nodes: &nodes };
+        caught(|| Self::records(&Lookups::from_air::<Quartic<P, W>, _>(&air), &nodes))
+    }
 
-pub fn count_provided(t: &Table, node: u32) -> Run<(u32, u32)> {
-    let nodes = expressions(t);
-    caught(|| {
-        let (expression, weight) = Count::provided(nodes[node as usize].clone()).into_parts();
-        (node_of(&nodes, &expression), weight)
-    })
-}
+    fn widths(tables: &[Table]) -> Run<Result<u64, (u64, u64)>> {
+        let lookups = Self::all_wrapped(tables);
+        caught(|| match types::check_bus_widths(&lookups) {
+            Ok(widest) => Ok(widest as u64),
+            Err(LookupError::BusWidthMismatch { expected, actual, .. }) => Err((expected as u64, actual as u64)),
+            Err(other) => panic!("{other}"),
+        })
+    }
 
-/// `check_lookups`: its panic's message where something is not balanced.
-pub fn balance(tables: &[Table]) -> Run<()> {
-    let traces: Vec<Traces> = tables.iter().map(traces).collect();
-    let lookups: Vec<_> = tables.iter().map(|t| lookups(t, &expressions(t))).collect();
-    let instance = |(t, lookups)| {
-        let t: &Traces = t;
-        let lookups: &Vec<_> = lookups;
-        LookupDebugInstance {
-            main_trace: &t.main,
-            preprocessed_trace: &t.preprocessed,
-            public_values: &t.public_values,
-            lookups,
-            permutation_challenges: &[],
-        }
-    };
-    let instances: Vec<_> = traces.iter().zip(&lookups).map(instance).collect();
-    caught(|| check_lookups(&instances))
-}
+    fn height_bound(tables: &[Table], heights: &[u64]) -> Run<Result<(), u128>> {
+        let lookups = Self::all_wrapped(tables);
+        let heights: Vec<usize> = heights.iter().map(|h| *h as usize).collect();
+        caught(|| match types::check_multiplicity_height_bound(&lookups, &heights) {
+            Ok(()) => Ok(()),
+            Err(LookupError::MultiplicityHeightBoundExceeded { weighted_height_sum, .. }) => Err(weighted_height_sum.0),
+            Err(other) => panic!("{other}"),
+        })
+    }
 
-/// How the crate names a group in the message of a panic.
-pub fn group_label(tables: &[Table], group: &[(usize, usize)]) -> String {
-    let (table, lookup) = group[0];
-    match &tables[table].records()[lookup].bus {
-        None => format!("instance {table} local lookup {lookup}"),
-        Some(name) => format!("global lookup '{}'", bus_name(name)),
+    fn terminals(terminals: &[Option<Ext>]) -> Run<bool> {
+        let terminals: Vec<_> = terminals.iter().map(|t| t.map(|e| LookupTerminal(Self::element(&e)))).collect();
+        caught(|| LogUpGadget::new().verify_terminal_sum(&terminals).is_ok())
+    }
+
+    fn prefixes(alpha: Ext, beta: Ext, width: u64, count: u64) -> Run<Vec<Ext>> {
+        let (alpha, beta) = (Self::element(&alpha), Self::element(&beta));
+        caught(|| Challenges::new(alpha, beta, width as usize, count as usize).bus_prefix.iter().map(|e| Self::words(*e)).collect())
+    }
+
+    fn count_from(n: i32) -> Run<([u32; 3], u32)> {
+        caught(|| {
+            let (expression, weight) = Count::<Expression<P>>::from(n).into_parts();
+            ([0, expression.as_constant().expect("a constant").word(), 0], weight)
+        })
+    }
+
+    fn count_negated(t: &Table, node: u32, weight: u32) -> Run<([u32; 3], u32)> {
+        let nodes = Self::expressions(t);
+        caught(|| {
+            let (negated, weight) = (-Count::bounded(nodes[node as usize].clone(), weight)).into_parts();
+            ([12, Self::node_of(&nodes, negated.as_negation().expect("a negation")), 0], weight)
+        })
+    }
+
+    fn count_bounded(t: &Table, node: u32, weight: u32) -> Run<(u32, u32)> {
+        let nodes = Self::expressions(t);
+        caught(|| {
+            let (expression, weight) = Count::bounded(nodes[node as usize].clone(), weight).into_parts();
+            (Self::node_of(&nodes, &expression), weight)
+        })
+    }
+
+    fn count_provided(t: &Table, node: u32) -> Run<(u32, u32)> {
+        let nodes = Self::expressions(t);
+        caught(|| {
+            let (expression, weight) = Count::provided(nodes[node as usize].clone()).into_parts();
+            (Self::node_of(&nodes, &expression), weight)
+        })
+    }
+
+    fn balance(tables: &[Table]) -> Run<()> {
+        let traces: Vec<Traces<P>> = tables.iter().map(Self::traces).collect();
+        let lookups: Vec<_> = tables.iter().map(|t| Self::lookups(t, &Self::expressions(t))).collect();
+        let instance = |(t, lookups)| {
+            let t: &Traces<P> = t;
+            let lookups: &Vec<_> = lookups;
+            LookupDebugInstance {
+                main_trace: &t.main,
+                preprocessed_trace: &t.preprocessed,
+                public_values: &t.public_values,
+                lookups,
+                permutation_challenges: &[],
+            }
+        };
+        let instances: Vec<_> = traces.iter().zip(&lookups).map(instance).collect();
+        caught(|| check_lookups(&instances))
     }
 }

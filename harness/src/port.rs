@@ -1,5 +1,5 @@
-//! The port: its exported functions as they are declared in bindings/rust, which the harness calls with words of its own in all that is lent,
-//! and the safe wrapper of the same.
+//! The port: its exported functions as they are declared in bindings/rust, which the harness calls with any numbers as choices and with words
+//! of its own in all that is lent, and the safe wrapper of the same.
 use crate::exports::Exports;
 use crate::wrapper::Wrapper;
 
@@ -18,18 +18,18 @@ pub struct Exported;
 pub const EXPORTED: Port<'static> = Port { exports: &Exported, wrapper: &Exported };
 
 #[cfg(feature = "port")]
-pub use exported::wrapped;
+pub use exported::{choices, wrapped};
 
 #[cfg(feature = "port")]
 mod exported {
     use bytes::Table as Bytes;
-    use delmatik::{Count, LookupTerminal, Refusal, Table as Words, bytes, sys};
+    use delmatik::{Count, LookupTerminal, Profile, Refusal, Rule, Table as Words, bytes, sys};
 
     use super::*;
     use crate::exports::Rooms;
-    use crate::model::Answer;
-    use crate::plain::Ext;
-    use crate::table::{Interaction, Lookup, Part, Plan, SIZES, Table};
+    use crate::model::{Answer, Choices};
+    use crate::plain::{Ext, Field};
+    use crate::table::{Interaction, Lookup, Part, Plan, SIZES, Table, field_of};
     use crate::wrapper::Refused;
 
     /// A size that is no number of this machine is over every limit all the same.
@@ -37,11 +37,12 @@ mod exported {
         n.try_into().unwrap_or(usize::MAX)
     }
 
-    /// Calls an exported function: `[list]` is lent as a pointer and a length, `[mut list]` to be written. The details hold other numbers before.
+    /// Calls an exported function with a field and a profile, and with the rule after `choices.rule`: `[list]` is lent as a pointer and a length,
+    /// `[mut list]` to be written. The details hold other numbers before.
     macro_rules! call {
-        ($function:ident($($arguments:tt)*)) => {{
+        ($choices:ident$(.$rule:ident)?, $function:ident($($arguments:tt)*)) => {{
             let mut details = [7; 3];
-            let number = call!(@ $function details () $($arguments)*);
+            let number = call!(@ $function details ($choices.field, $choices.profile, $($choices.$rule,)?) $($arguments)*);
             Answer { number, details }
         }};
         (@ $function:ident $details:ident ($($done:tt)*) [mut $list:expr], $($rest:tt)*) => {
@@ -57,98 +58,130 @@ mod exported {
     }
 
     impl Exports for Exported {
-        fn generate(&self, t: &Table, challenges: &[u32], trace: &mut [u32], terminal: &mut [u32; 5]) -> Answer {
-            call! { delmatik_generate(
+        fn generate(&self, choices: Choices, t: &Table, challenges: &[u32], trace: &mut [u32], terminal: &mut [u32; 5]) -> Answer {
+            call! { choices.rule, delmatik_generate(
                 size(t.main_width), size(t.height), size(t.pre_width), size(t.pre_height), [t.main], [t.preprocessed], [t.public_values],
                 [t.nodes], [t.lookups], [t.names], [t.tuples], [t.multiplicities], [t.flags], [t.elements], [challenges], [mut trace],
                 terminal,
             ) }
         }
 
-        fn constraints(&self, t: &Table, challenges: &[u32], width: u64, trace: &[u32], [mark, t0, t1, t2, t3]: [u32; 5]) -> Answer {
-            call! { delmatik_constraints(
+        fn constraints(
+            &self,
+            choices: Choices,
+            t: &Table,
+            challenges: &[u32],
+            width: u64,
+            trace: &[u32],
+            [mark, t0, t1, t2, t3]: [u32; 5],
+        ) -> Answer {
+            call! { choices.rule, delmatik_constraints(
                 size(t.main_width), size(t.height), size(t.pre_width), size(t.pre_height), [t.main], [t.preprocessed], [t.public_values],
                 [t.nodes], [t.lookups], [t.names], [t.tuples], [t.multiplicities], [t.flags], [t.elements], [challenges], size(width),
                 [trace], mark, t0, t1, t2, t3,
             ) }
         }
 
-        fn degree(&self, t: &Table, lookup: u64, transition: u32, degree: &mut u64) -> Answer {
-            call! { delmatik_degree(
+        fn degree(&self, choices: Choices, t: &Table, lookup: u64, transition: u32, degree: &mut u64) -> Answer {
+            call! { choices, delmatik_degree(
                 size(t.main_width), size(t.pre_width), t.public_values.len(), [t.nodes], [t.lookups], [t.names], [t.tuples],
                 [t.multiplicities], [t.flags], [t.elements], size(lookup), transition, degree,
             ) }
         }
 
-        fn pack(&self, t: &Table, limit: u64, out: &mut Table, used: &mut [u64; 6]) -> Answer {
-            call! { delmatik_pack(
+        fn pack(&self, choices: Choices, t: &Table, limit: u64, out: &mut Table, used: &mut [u64; 6]) -> Answer {
+            call! { choices, delmatik_pack(
                 limit, size(t.main_width), size(t.pre_width), t.public_values.len(), [t.nodes], [t.lookups], [t.names], [t.tuples],
                 [t.multiplicities], [t.flags], [t.elements], [mut out.lookups], [mut out.names], [mut out.tuples],
                 [mut out.multiplicities], [mut out.flags], [mut out.elements], used,
             ) }
         }
 
-        fn build(&self, t: &Table, plan: &Plan, lookups: &mut [u32], used: &mut u64) -> Answer {
+        fn build(&self, choices: Choices, t: &Table, plan: &Plan, lookups: &mut [u32], used: &mut u64) -> Answer {
             let Plan { kinds: [locals, globals, exclusives], interactions, weights, lists } = plan;
-            call! { delmatik_build(
+            call! { choices, delmatik_build(
                 size(t.main_width), size(t.pre_width), t.public_values.len(), [t.nodes], size(*locals), size(*globals), size(*exclusives),
                 [interactions], [weights], [lists.names], [lists.tuples], [lists.multiplicities], [lists.flags], [lists.elements],
                 [mut lookups], used,
             ) }
         }
 
-        fn widths(&self, all: &Table, sizes: &[u32], widest: &mut u64) -> Answer {
-            call! { delmatik_widths([all.lookups], [all.names], [all.tuples], [sizes], widest,) }
+        fn widths(&self, choices: Choices, all: &Table, sizes: &[u32], widest: &mut u64) -> Answer {
+            call! { choices, delmatik_widths([all.lookups], [all.names], [all.tuples], [sizes], widest,) }
         }
 
-        fn height_bound(&self, lookups: &[u32], counts: &[u32], heights: &[u32]) -> Answer {
-            call! { delmatik_height_bound([lookups], [counts], [heights],) }
+        fn height_bound(&self, choices: Choices, lookups: &[u32], counts: &[u32], heights: &[u32]) -> Answer {
+            call! { choices, delmatik_height_bound([lookups], [counts], [heights],) }
         }
 
-        fn terminals(&self, terminals: &[u32]) -> Answer {
-            call! { delmatik_terminals([terminals],) }
+        fn terminals(&self, choices: Choices, terminals: &[u32]) -> Answer {
+            call! { choices, delmatik_terminals([terminals],) }
         }
 
-        fn prefixes(&self, alpha: &[u32], beta: &[u32], width: u64, count: u64, out: &mut [u32]) -> Answer {
-            call! { delmatik_prefixes([alpha], [beta], size(width), size(count), [mut out],) }
+        fn prefixes(&self, choices: Choices, alpha: &[u32], beta: &[u32], width: u64, count: u64, out: &mut [u32]) -> Answer {
+            call! { choices, delmatik_prefixes([alpha], [beta], size(width), size(count), [mut out],) }
         }
 
-        fn balance(&self, all: &Table, sizes: &[u32], seed: u64, workspace: &mut [u32]) -> Answer {
-            call! { delmatik_balance(
+        fn balance(&self, choices: Choices, all: &Table, sizes: &[u32], seed: u64, workspace: &mut [u32]) -> Answer {
+            call! { choices, delmatik_balance(
                 [all.main], [all.preprocessed], [all.public_values], [all.nodes], [all.lookups], [all.names], [all.tuples],
                 [all.multiplicities], [all.flags], [all.elements], [sizes], seed, [mut workspace],
             ) }
         }
 
-        fn generate_bytes(&self, t: &Table<u8>, challenges: &[u8], trace: &mut [u8], rooms: &mut Rooms, terminal: &mut [u32; 5]) -> Answer {
-            call! { delmatik_generate_bytes(
+        fn generate_bytes(
+            &self,
+            choices: Choices,
+            t: &Table<u8>,
+            challenges: &[u8],
+            trace: &mut [u8],
+            rooms: &mut Rooms,
+            terminal: &mut [u32; 5],
+        ) -> Answer {
+            call! { choices.rule, delmatik_generate_bytes(
                 size(t.main_width), size(t.height), size(t.pre_width), size(t.pre_height), [t.main], [t.preprocessed], [t.public_values],
                 [t.nodes], [t.lookups], [t.names], [t.tuples], [t.multiplicities], [t.flags], [t.elements], [challenges], [mut trace],
                 [mut rooms.read], [mut rooms.written], terminal,
             ) }
         }
 
-        fn pack_bytes(&self, t: &Table<u8>, limit: u64, out: &mut Table<u8>, rooms: &mut Rooms, used: &mut [u64; 6]) -> Answer {
-            call! { delmatik_pack_bytes(
+        fn pack_bytes(
+            &self,
+            choices: Choices,
+            t: &Table<u8>,
+            limit: u64,
+            out: &mut Table<u8>,
+            rooms: &mut Rooms,
+            used: &mut [u64; 6],
+        ) -> Answer {
+            call! { choices, delmatik_pack_bytes(
                 limit, size(t.main_width), size(t.pre_width), t.public_values.len() / 4, [t.nodes], [t.lookups], [t.names], [t.tuples],
                 [t.multiplicities], [t.flags], [t.elements], [mut out.lookups], [mut out.names], [mut out.tuples],
                 [mut out.multiplicities], [mut out.flags], [mut out.elements], [mut rooms.read], [mut rooms.written], used,
             ) }
         }
 
-        fn balance_bytes(&self, all: &Table<u8>, sizes: &[u8], seed: u64, workspace: &mut [u8], rooms: &mut Rooms) -> Answer {
-            call! { delmatik_balance_bytes(
+        fn balance_bytes(
+            &self,
+            choices: Choices,
+            all: &Table<u8>,
+            sizes: &[u8],
+            seed: u64,
+            workspace: &mut [u8],
+            rooms: &mut Rooms,
+        ) -> Answer {
+            call! { choices, delmatik_balance_bytes(
                 [all.main], [all.preprocessed], [all.public_values], [all.nodes], [all.lookups], [all.names], [all.tuples],
                 [all.multiplicities], [all.flags], [all.elements], [sizes], seed, [mut workspace], [mut rooms.read], [mut rooms.written],
             ) }
         }
 
-        fn count_from_i32(&self, nodes: &mut [u32], used: u64, x: i32, count: &mut [u32; 2]) -> Answer {
-            call! { delmatik_count_from_i32([mut nodes], size(used), x, count,) }
+        fn count_from_i32(&self, choices: Choices, nodes: &mut [u32], used: u64, x: i32, count: &mut [u32; 2]) -> Answer {
+            call! { choices, delmatik_count_from_i32([mut nodes], size(used), x, count,) }
         }
 
-        fn count_negated(&self, nodes: &mut [u32], used: u64, [node, weight]: [u32; 2], count: &mut [u32; 2]) -> Answer {
-            call! { delmatik_count_negated([mut nodes], size(used), node, weight, count,) }
+        fn count_negated(&self, choices: Choices, nodes: &mut [u32], used: u64, [node, weight]: [u32; 2], count: &mut [u32; 2]) -> Answer {
+            call! { choices, delmatik_count_negated([mut nodes], size(used), node, weight, count,) }
         }
 
         fn count_bounded(&self, node: u32, weight: u32, count: &mut [u32; 2]) {
@@ -163,18 +196,35 @@ mod exported {
             unsafe { sys::delmatik_row(trace.as_ptr(), trace.len(), size(lookups), size(height), row, part) }
         }
 
-        fn power(&self, a: &[u32], n: u32, out: &mut [u32]) -> u32 {
-            unsafe { sys::delmatik_power(a.as_ptr(), a.len(), n, out.as_mut_ptr(), out.len()) }
+        fn power(&self, field: u32, a: &[u32], n: u32, out: &mut [u32]) -> u32 {
+            unsafe { sys::delmatik_power(field, a.as_ptr(), a.len(), n, out.as_mut_ptr(), out.len()) }
         }
 
-        fn inverse(&self, a: &[u32], out: &mut [u32]) -> u32 {
-            unsafe { sys::delmatik_inverse(a.as_ptr(), a.len(), out.as_mut_ptr(), out.len()) }
+        fn inverse(&self, field: u32, a: &[u32], out: &mut [u32]) -> u32 {
+            unsafe { sys::delmatik_inverse(field, a.as_ptr(), a.len(), out.as_mut_ptr(), out.len()) }
         }
     }
 
-    /// A table of one crate as a table of another: their fields have the same names.
+    /// The wrapper's choices for a field.
+    pub fn choices(field: Field) -> delmatik::Choices {
+        delmatik::Choices { field: chosen(field), profile: Profile::Cabinet }
+    }
+
+    fn chosen(field: Field) -> delmatik::Field {
+        match field {
+            Field::BabyBear => delmatik::Field::BabyBear,
+            Field::KoalaBear => delmatik::Field::KoalaBear,
+        }
+    }
+
+    /// Those of some tables.
+    fn choices_of(tables: &[Table]) -> delmatik::Choices {
+        choices(field_of(tables))
+    }
+
+    /// A table of one crate as a table of another: their parts have the same names, but the wrapper's has no field.
     macro_rules! moved {
-        ($table:expr, $size:expr, $into:ident) => {{
+        ($table:expr, $size:expr, $into:ident, $($field:ident)?) => {{
             let (t, size) = ($table, $size);
             $into {
                 main_width: size(t.main_width),
@@ -191,29 +241,30 @@ mod exported {
                 multiplicities: t.multiplicities,
                 flags: t.flags,
                 elements: t.elements,
+                $($field,)?
             }
         }};
     }
 
     /// The same table as the wrapper has it.
     pub fn wrapped(t: &Table) -> Words {
-        moved!(t.clone(), size, Words)
+        moved!(t.clone(), size, Words,)
     }
 
     fn all_wrapped(tables: &[Table]) -> Vec<Words> {
         tables.iter().map(wrapped).collect()
     }
 
-    fn unwrapped(t: Words) -> Table {
-        moved!(t, |n| n as u64, Table)
+    fn unwrapped(field: Field, t: Words) -> Table {
+        moved!(t, |n| n as u64, Table, field)
     }
 
     fn wrapped_bytes(t: &Table<u8>) -> Bytes {
-        moved!(t.clone(), size, Bytes)
+        moved!(t.clone(), size, Bytes,)
     }
 
-    fn unwrapped_bytes(t: Bytes) -> Table<u8> {
-        moved!(t, |n| n as u64, Table)
+    fn unwrapped_bytes(field: Field, t: Bytes) -> Table<u8> {
+        moved!(t, |n| n as u64, Table, field)
     }
 
     /// The tables as bytes, by the wrapper's own conversion, and the bytes of their sizes.
@@ -252,7 +303,7 @@ mod exported {
 
     impl Wrapper for Exported {
         fn with(&self, t: &Table, lookups: &[Lookup]) -> Table {
-            unwrapped(wrapped(t).with(&lookups.iter().map(lookup).collect::<Vec<_>>()))
+            unwrapped(t.field, wrapped(t).with(&lookups.iter().map(lookup).collect::<Vec<_>>()))
         }
 
         fn lookup_count(&self, t: &Table) -> usize {
@@ -264,64 +315,70 @@ mod exported {
         }
 
         fn generate(&self, t: &Table, challenges: &[Ext]) -> Refused<(Vec<u32>, Option<Ext>)> {
-            let generated = wrapped(t).generate(challenges).map_err(answer)?;
+            let generated = wrapped(t).generate(choices(t.field), Rule::One, challenges).map_err(answer)?;
             Ok((generated.trace, element(generated.terminal)))
         }
 
         fn generate_into(&self, t: &Table, challenges: &[u32], trace: &mut [u32]) -> Refused<Option<Ext>> {
-            wrapped(t).generate_into(challenges, trace).map(element).map_err(answer)
+            wrapped(t).generate_into(choices(t.field), Rule::One, challenges, trace).map(element).map_err(answer)
         }
 
         fn constraints(&self, t: &Table, challenges: &[Ext], width: u64, trace: &[u32], terminal: Option<Ext>) -> Refused<()> {
-            wrapped(t).constraints(challenges, size(width), trace, terminal.map(LookupTerminal)).map_err(answer)
+            wrapped(t)
+                .constraints(choices(t.field), Rule::One, challenges, size(width), trace, terminal.map(LookupTerminal))
+                .map_err(answer)
         }
 
         fn constraints_on(&self, t: &Table, challenges: &[u32], width: u64, trace: &[u32], terminal: Option<Ext>) -> Refused<()> {
-            wrapped(t).constraints_on(challenges, size(width), trace, terminal.map(LookupTerminal)).map_err(answer)
+            wrapped(t)
+                .constraints_on(choices(t.field), Rule::One, challenges, size(width), trace, terminal.map(LookupTerminal))
+                .map_err(answer)
         }
 
         fn degree(&self, t: &Table, lookup: u64, transition: u32) -> Refused<u64> {
-            wrapped(t).degree(size(lookup), transition).map_err(answer)
+            wrapped(t).degree(choices(t.field), size(lookup), transition).map_err(answer)
         }
 
         fn pack(&self, t: &Table, limit: u64) -> Refused<Table> {
-            wrapped(t).pack(limit).map(unwrapped).map_err(answer)
+            wrapped(t).pack(choices(t.field), limit).map(|packed| unwrapped(t.field, packed)).map_err(answer)
         }
 
         fn build(&self, t: &Table, interactions: &[Interaction]) -> Refused<Table> {
-            wrapped(t).build(&interactions.iter().map(interaction).collect::<Vec<_>>()).map(unwrapped).map_err(answer)
+            let built = wrapped(t).build(choices(t.field), &interactions.iter().map(interaction).collect::<Vec<_>>());
+            built.map(|built| unwrapped(t.field, built)).map_err(answer)
         }
 
         fn widths(&self, tables: &[Table]) -> Refused<u64> {
-            delmatik::widths(&all_wrapped(tables)).map_err(answer)
+            delmatik::widths(choices_of(tables), &all_wrapped(tables)).map_err(answer)
         }
 
         fn height_bound(&self, tables: &[Table], heights: &[u64]) -> Refused<()> {
-            delmatik::height_bound(&all_wrapped(tables), &heights.iter().map(|h| size(*h)).collect::<Vec<_>>()).map_err(answer)
+            let heights: Vec<usize> = heights.iter().map(|h| size(*h)).collect();
+            delmatik::height_bound(choices_of(tables), &all_wrapped(tables), &heights).map_err(answer)
         }
 
-        fn terminals(&self, terminals: &[Option<Ext>]) -> Refused<()> {
-            delmatik::terminals(&terminals.iter().map(|t| t.map(LookupTerminal)).collect::<Vec<_>>()).map_err(answer)
+        fn terminals(&self, field: Field, terminals: &[Option<Ext>]) -> Refused<()> {
+            delmatik::terminals(choices(field), &terminals.iter().map(|t| t.map(LookupTerminal)).collect::<Vec<_>>()).map_err(answer)
         }
 
-        fn prefixes(&self, alpha: Ext, beta: Ext, width: u64, count: u64) -> Refused<Vec<Ext>> {
-            delmatik::prefixes(alpha, beta, size(width), size(count)).map_err(answer)
+        fn prefixes(&self, field: Field, alpha: Ext, beta: Ext, width: u64, count: u64) -> Refused<Vec<Ext>> {
+            delmatik::prefixes(choices(field), alpha, beta, size(width), size(count)).map_err(answer)
         }
 
         fn balance(&self, tables: &[Table], workspace: &mut [u32]) -> Refused<()> {
-            delmatik::balance(&all_wrapped(tables), workspace).map_err(answer)
+            delmatik::balance(choices_of(tables), &all_wrapped(tables), workspace).map_err(answer)
         }
 
         fn balance_with_seed(&self, tables: &[Table], seed: u64, workspace: &mut [u32]) -> Refused<()> {
-            delmatik::balance_with_seed(&all_wrapped(tables), seed, workspace).map_err(answer)
+            delmatik::balance_with_seed(choices_of(tables), &all_wrapped(tables), seed, workspace).map_err(answer)
         }
 
-        fn power(&self, a: Ext, n: u32) -> Refused<Ext> {
-            delmatik::power(a, n).map_err(answer)
+        fn power(&self, field: Field, a: Ext, n: u32) -> Refused<Ext> {
+            delmatik::power(chosen(field), a, n).map_err(answer)
         }
 
-        fn inverse(&self, a: Ext) -> Refused<Ext> {
-            delmatik::inverse(a).map_err(answer)
+        fn inverse(&self, field: Field, a: Ext) -> Refused<Ext> {
+            delmatik::inverse(chosen(field), a).map_err(answer)
         }
 
         fn count_bounded(&self, node: u32, weight: u32) -> [u32; 2] {
@@ -332,12 +389,12 @@ mod exported {
             count(Count::provided(node))
         }
 
-        fn count_from_i32(&self, nodes: &mut Vec<u32>, x: i32) -> Refused<[u32; 2]> {
-            Count::from_i32(nodes, x).map(count).map_err(answer)
+        fn count_from_i32(&self, field: Field, nodes: &mut Vec<u32>, x: i32) -> Refused<[u32; 2]> {
+            Count::from_i32(choices(field), nodes, x).map(count).map_err(answer)
         }
 
-        fn count_negated(&self, nodes: &mut Vec<u32>, [node, weight]: [u32; 2]) -> Refused<[u32; 2]> {
-            Count { node, weight }.negated(nodes).map(count).map_err(answer)
+        fn count_negated(&self, field: Field, nodes: &mut Vec<u32>, [node, weight]: [u32; 2]) -> Refused<[u32; 2]> {
+            Count { node, weight }.negated(choices(field), nodes).map(count).map_err(answer)
         }
 
         fn row(&self, trace: &[u32], lookups: u64, height: u64, row: u64) -> Vec<u32> {
@@ -349,21 +406,21 @@ mod exported {
         }
 
         fn generate_bytes(&self, t: &Table<u8>, challenges: &[u8], trace: &mut [u8]) -> Refused<Option<Ext>> {
-            wrapped_bytes(t).generate_into(challenges, trace).map(element).map_err(answer)
+            wrapped_bytes(t).generate_into(choices(t.field), Rule::One, challenges, trace).map(element).map_err(answer)
         }
 
         fn pack_bytes(&self, t: &Table<u8>, limit: u64) -> Refused<Table<u8>> {
-            wrapped_bytes(t).pack(limit).map(unwrapped_bytes).map_err(answer)
+            wrapped_bytes(t).pack(choices(t.field), limit).map(|packed| unwrapped_bytes(t.field, packed)).map_err(answer)
         }
 
         fn balance_bytes(&self, tables: &[Table], workspace: &mut [u8]) -> Refused<()> {
-            let (tables, sizes) = all_bytes(tables);
-            bytes::balance(&tables, &sizes, workspace).map_err(answer)
+            let (lists, sizes) = all_bytes(tables);
+            bytes::balance(choices_of(tables), &lists, &sizes, workspace).map_err(answer)
         }
 
         fn balance_bytes_with_seed(&self, tables: &[Table], seed: u64, workspace: &mut [u8]) -> Refused<()> {
-            let (tables, sizes) = all_bytes(tables);
-            bytes::balance_with_seed(&tables, &sizes, seed, workspace).map_err(answer)
+            let (lists, sizes) = all_bytes(tables);
+            bytes::balance_with_seed(choices_of(tables), &lists, &sizes, seed, workspace).map_err(answer)
         }
     }
 }

@@ -1,5 +1,6 @@
 //! Makes a failing case small: tries smaller cases, keeps each that still fails in the same way, until none does.
 use crate::generator::{Case, shorten};
+use crate::model::Choices;
 use crate::table::{Interaction, Lookup, NODE_WORDS, Part, Table};
 
 const MOST_TRIALS: usize = 20_000;
@@ -52,6 +53,7 @@ fn smaller_cases(case: &Case) -> Vec<Case> {
             });
         }
     }
+    with(&|c| c.choices = Choices::of(c.field()));
     with(&|c| c.interactions.clear());
     with(&|c| shorten(&mut c.interactions));
     with(&|c| c.interactions.iter_mut().for_each(of_node_0));
@@ -65,6 +67,7 @@ fn smaller_cases(case: &Case) -> Vec<Case> {
         with(&|c| _ = c.edits.remove(i));
     }
     with(&|c| (c.count, c.negated, c.counted) = (0, [0; 2], 0));
+    with(&|c| c.counted = 0);
     with(&|c| (c.reader, c.exponent, c.seed) = ([0; 3], 0, 0));
     with(&|c| c.limit /= 2);
     with(&|c| c.workspace = 640);
@@ -121,7 +124,16 @@ fn smaller_tables(t: &Table) -> Vec<(Table, Option<usize>)> {
         }
         with(None, &drop_last_column);
         with(None, &drop_last_preprocessed_column);
+    } else {
+        // The lists are at odds with each other: each is cut by itself.
+        for (i, length) in lists(&mut t.clone()).into_iter().map(|list| list.len()).enumerate() {
+            for length in [length / 2, length.saturating_sub(1)] {
+                with(None, &|t| lists(t)[i].truncate(length));
+            }
+        }
     }
+    with(None, &|t| t.set_records(&[]));
+    with(None, &|t| (t.main_width, t.height, t.main) = (1, 0, vec![]));
     with(None, &|t| (t.pre_width, t.pre_height, t.preprocessed) = (0, 0, vec![]));
     with(None, &|t| shorten(&mut t.public_values));
     for i in (0..t.node_count()).rev() {
@@ -136,6 +148,12 @@ fn smaller_tables(t: &Table) -> Vec<(Table, Option<usize>)> {
         with(None, &|t| t.preprocessed[i] = 0);
     }
     tables
+}
+
+/// All lists of words.
+fn lists(t: &mut Table) -> [&mut Vec<u32>; 9] {
+    let Table { main, preprocessed, public_values, nodes, lookups, tuples, multiplicities, flags, elements, .. } = t;
+    [main, preprocessed, public_values, nodes, lookups, tuples, multiplicities, flags, elements]
 }
 
 fn change_records(t: &mut Table, change: &dyn Fn(&mut Vec<Lookup>)) {

@@ -1,9 +1,14 @@
 //! A table in the port's flat words, and its lookups as records.
+use std::borrow::Cow;
 use std::fmt;
+
+use crate::plain::Field;
 
 /// The lists are words, or the bytes of words.
 #[derive(Clone, Debug, Default, PartialEq, Eq)]
 pub struct Table<W = u32> {
+    /// The field that its words are of. The tables of one call are of one field.
+    pub field: Field,
     pub main_width: u64,
     pub height: u64,
     pub pre_width: u64,
@@ -139,6 +144,11 @@ pub struct Entry {
 }
 
 impl Table {
+    /// The same words in this field.
+    pub fn over(&self, field: Field) -> Cow<'_, Table> {
+        if self.field == field { Cow::Borrowed(self) } else { Cow::Owned(Table { field, ..self.clone() }) }
+    }
+
     pub fn entries(&self) -> Vec<Entry> {
         let entry = |words: &[u32]| Entry {
             on_bus: words[0] != 0,
@@ -262,6 +272,7 @@ impl Table {
     pub fn joined(tables: &[Table]) -> Table {
         let words = |list: fn(&Table) -> &[u32]| tables.iter().flat_map(list).copied().collect();
         Table {
+            field: field_of(tables),
             main: words(|t| &t.main),
             preprocessed: words(|t| &t.preprocessed),
             public_values: words(|t| &t.public_values),
@@ -279,6 +290,7 @@ impl Table {
     /// The bytes of each list, the least byte of a word first.
     pub fn bytes(&self) -> Table<u8> {
         Table {
+            field: self.field,
             main_width: self.main_width,
             height: self.height,
             pre_width: self.pre_width,
@@ -301,6 +313,7 @@ impl Table<u8> {
     /// The words of each list; bytes past the last whole word are left out.
     pub fn words(&self) -> Table {
         Table {
+            field: self.field,
             main_width: self.main_width,
             height: self.height,
             pre_width: self.pre_width,
@@ -359,6 +372,7 @@ impl Table {
 impl fmt::Display for Table {
     fn fmt(&self, f: &mut fmt::Formatter<'_>) -> fmt::Result {
         let lines = [
+            line("field", &[self.field.number()]),
             line("table", &[self.main_width, self.height, self.pre_width, self.pre_height]),
             line("main", &self.main),
             line("preprocessed", &self.preprocessed),
@@ -368,6 +382,11 @@ impl fmt::Display for Table {
         ];
         f.write_str(&lines.concat())
     }
+}
+
+/// The field of the tables of a call, any where there is none.
+pub fn field_of(tables: &[Table]) -> Field {
+    tables.first().map_or_else(Field::default, |t| t.field)
 }
 
 /// Takes so many words from the front of a list.

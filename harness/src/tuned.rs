@@ -1,7 +1,7 @@
 //! Generation as one would tune it by hand for one thread: nodes decoded once, sums of products reduced once, all denominators of a block of
-//! rows inverted together, by a product of these or, as the port does, by one of their norms. It takes only tables that the port accepts, and
-//! tests nothing.
-use crate::plain::{self, Ext, P};
+//! rows inverted together, by a product of these or, as the port does, by one of their norms. It is compiled once for each field, whose prime
+//! is a constant then. It takes only tables that the port accepts, and tests nothing.
+use crate::plain::{BabyBear, Ext, Field, KoalaBear, PrimeField};
 use crate::table::Table;
 
 /// The denominators that are inverted together.
@@ -58,12 +58,12 @@ struct Lookup {
     tuples: Vec<Tuple>,
 }
 
-fn lookups(t: &Table, challenges: &[u32]) -> Vec<Lookup> {
+fn lookups<F: PrimeField>(t: &Table, challenges: &[u32]) -> Vec<Lookup> {
     let element = |i: usize| -> Ext { challenges[4 * i..4 * i + 4].try_into().unwrap() };
     let lookup = |(i, record): (usize, crate::table::Lookup)| {
         let beta = element(2 * i + 1);
         let tuple = |(k, nodes): (usize, &Vec<u32>)| {
-            let power = |j: usize| plain::power(beta, (nodes.len() - 1 - j) as u32);
+            let power = |j: usize| F::power(beta, (nodes.len() - 1 - j) as u32);
             Tuple {
                 elements: nodes.iter().enumerate().map(|(j, n)| (*n as usize, power(j))).collect(),
                 multiplicity: record.multiplicities[k] as usize,
@@ -77,16 +77,16 @@ fn lookups(t: &Table, challenges: &[u32]) -> Vec<Lookup> {
 
 /// A sum below 2p, made a word.
 #[inline]
-fn once(sum: u32) -> u32 {
-    if sum < P { sum } else { sum - P }
+fn once<F: PrimeField>(sum: u32) -> u32 {
+    if sum < F::P { sum } else { sum - F::P }
 }
 
 #[inline]
-fn add(a: Ext, b: Ext) -> Ext {
-    std::array::from_fn(|i| once(a[i] + b[i]))
+fn add<F: PrimeField>(a: Ext, b: Ext) -> Ext {
+    std::array::from_fn(|i| once::<F>(a[i] + b[i]))
 }
 
-fn evaluate(t: &Table, nodes: &[Node], r: usize, values: &mut [u32]) {
+fn evaluate<F: PrimeField>(t: &Table, nodes: &[Node], r: usize, values: &mut [u32]) {
     let (height, width, pre_width) = (t.height as usize, t.main_width as usize, t.pre_width as usize);
     let next_row = if r + 1 == height { 0 } else { r + 1 };
     for i in 0..nodes.len() {
@@ -98,17 +98,17 @@ fn evaluate(t: &Table, nodes: &[Node], r: usize, values: &mut [u32]) {
             Node::First => (r == 0).into(),
             Node::Last => (r + 1 == height).into(),
             Node::Transition => (r + 1 != height).into(),
-            Node::Sum(a, b) => once(values[a] + values[b]),
-            Node::Difference(a, b) => plain::sub_word(values[a], values[b]),
-            Node::Product(a, b) => plain::mul_word(values[a], values[b]),
-            Node::Negation(a) => plain::neg_word(values[a]),
+            Node::Sum(a, b) => once::<F>(values[a] + values[b]),
+            Node::Difference(a, b) => F::sub_word(values[a], values[b]),
+            Node::Product(a, b) => F::mul_word(values[a], values[b]),
+            Node::Negation(a) => F::neg_word(values[a]),
         };
     }
 }
 
 /// Alpha minus the combined value. Four products of words fit 64 bits.
 #[inline]
-fn denominator(alpha: Ext, elements: &[(usize, Ext)], values: &[u32]) -> Ext {
+fn denominator<F: PrimeField>(alpha: Ext, elements: &[(usize, Ext)], values: &[u32]) -> Ext {
     let mut combined = [0; 4];
     for four in elements.chunks(4) {
         let mut sums = [0u64; 4];
@@ -118,49 +118,49 @@ fn denominator(alpha: Ext, elements: &[(usize, Ext)], values: &[u32]) -> Ext {
                 *sum += value * u64::from(*word);
             }
         }
-        combined = add(combined, sums.map(|sum| (sum % u64::from(P)) as u32));
+        combined = add::<F>(combined, sums.map(|sum| (sum % u64::from(F::P)) as u32));
     }
-    plain::sub(alpha, combined)
+    F::sub(alpha, combined)
 }
 
 /// Each denominator's inverse in its place: one inversion for all of them.
-fn invert_all(denominators: &mut [Ext], prefixes: &mut Vec<Ext>) {
+fn invert_all<F: PrimeField>(denominators: &mut [Ext], prefixes: &mut Vec<Ext>) {
     prefixes.clear();
     let mut product = [1, 0, 0, 0];
     for d in denominators.iter() {
         prefixes.push(product);
-        product = plain::mul(product, *d);
+        product = F::mul(product, *d);
     }
-    let mut inverse = plain::inverse(product);
+    let mut inverse = F::inverse(product);
     for (d, prefix) in denominators.iter_mut().zip(prefixes.iter()).rev() {
-        let one = plain::mul(inverse, *prefix);
-        inverse = plain::mul(inverse, *d);
+        let one = F::mul(inverse, *prefix);
+        inverse = F::mul(inverse, *d);
         *d = one;
     }
 }
 
 /// The same, with one inversion of a word. Differences are sums with p - a, which need no test: such a product fits beside the others.
-fn invert_by_norms(denominators: &mut [Ext], kept: &mut Vec<Ext>) {
+fn invert_by_norms<F: PrimeField>(denominators: &mut [Ext], kept: &mut Vec<Ext>) {
     let product_of = |a: u32, b: u32| u64::from(a) * u64::from(b);
-    let reduce = |sum: u64| (sum % u64::from(P)) as u32;
-    let times_w = |a: u32| plain::mul_word(plain::W, a);
+    let reduce = |sum: u64| (sum % u64::from(F::P)) as u32;
+    let times_w = |a: u32| F::mul_word(F::W, a);
     kept.clear();
     let mut product = 1;
     for a in denominators.iter() {
         let (v1, v2, v3) = (times_w(a[1]), times_w(a[2]), times_w(a[3]));
         // n0 and -n1 of a(X)·a(-X) = n0 + n1·X², and the norm.
-        let x = reduce(product_of(a[0], a[0]) + product_of(v2, a[2]) + 2 * product_of(v1, P - a[3]));
-        let y = reduce(product_of(a[1], a[1]) + product_of(v3, a[3]) + 2 * product_of(a[0], P - a[2]));
-        let norm = reduce(product_of(x, x) + product_of(times_w(y), P - y));
+        let x = reduce(product_of(a[0], a[0]) + product_of(v2, a[2]) + 2 * product_of(v1, F::P - a[3]));
+        let y = reduce(product_of(a[1], a[1]) + product_of(v3, a[3]) + 2 * product_of(a[0], F::P - a[2]));
+        let norm = reduce(product_of(x, x) + product_of(times_w(y), F::P - y));
         kept.push([x, y, norm, product]);
-        product = plain::mul_word(product, norm);
+        product = F::mul_word(product, norm);
     }
-    let mut inverse = plain::inv_word(product);
+    let mut inverse = F::inv_word(product);
     for (d, [x, y, norm, before]) in denominators.iter_mut().zip(kept.iter()).rev() {
-        let (a, i) = (*d, plain::mul_word(inverse, *before));
-        inverse = plain::mul_word(inverse, *norm);
-        let (e0, e1) = (plain::mul_word(*x, i), plain::mul_word(*y, i));
-        let (f0, f1, v2, v3) = (P - e0, P - e1, times_w(a[2]), times_w(a[3]));
+        let (a, i) = (*d, F::mul_word(inverse, *before));
+        inverse = F::mul_word(inverse, *norm);
+        let (e0, e1) = (F::mul_word(*x, i), F::mul_word(*y, i));
+        let (f0, f1, v2, v3) = (F::P - e0, F::P - e1, times_w(a[2]), times_w(a[3]));
         *d = [
             reduce(product_of(a[0], e0) + product_of(v2, e1)),
             reduce(product_of(a[1], f0) + product_of(v3, f1)),
@@ -172,8 +172,15 @@ fn invert_by_norms(denominators: &mut [Ext], kept: &mut Vec<Ext>) {
 
 /// The trace and the terminal.
 pub fn generate(t: &Table, challenges: &[u32], product: Product) -> (Vec<u32>, Option<Ext>) {
+    match t.field {
+        Field::BabyBear => generate_in::<BabyBear>(t, challenges, product),
+        Field::KoalaBear => generate_in::<KoalaBear>(t, challenges, product),
+    }
+}
+
+pub fn generate_in<F: PrimeField>(t: &Table, challenges: &[u32], product: Product) -> (Vec<u32>, Option<Ext>) {
     let nodes: Vec<Node> = t.nodes.chunks_exact(3).map(node).collect();
-    let lookups = lookups(t, challenges);
+    let lookups = lookups::<F>(t, challenges);
     if lookups.is_empty() {
         return (vec![], None);
     }
@@ -190,12 +197,12 @@ pub fn generate(t: &Table, challenges: &[u32], product: Product) -> (Vec<u32>, O
         multiplicities.clear();
         ends.clear();
         for r in b * block..b * block + out.len() / (4 * columns) {
-            evaluate(t, &nodes, r, &mut values);
+            evaluate::<F>(t, &nodes, r, &mut values);
             for lookup in &lookups {
                 for tuple in &lookup.tuples {
                     let m = values[tuple.multiplicity];
                     if tuple.flag.map_or(m != 0, |f| values[f] == 1) {
-                        denominators.push(denominator(lookup.alpha, &tuple.elements, &values));
+                        denominators.push(denominator::<F>(lookup.alpha, &tuple.elements, &values));
                         multiplicities.push(m);
                     }
                 }
@@ -203,8 +210,8 @@ pub fn generate(t: &Table, challenges: &[u32], product: Product) -> (Vec<u32>, O
             }
         }
         match product {
-            Product::Denominators => invert_all(&mut denominators, &mut kept),
-            Product::Norms => invert_by_norms(&mut denominators, &mut kept),
+            Product::Denominators => invert_all::<F>(&mut denominators, &mut kept),
+            Product::Norms => invert_by_norms::<F>(&mut denominators, &mut kept),
         }
         let mut at = 0;
         for (row, ends) in out.chunks_exact_mut(4 * columns).zip(ends.chunks_exact(lookups.len())) {
@@ -212,11 +219,11 @@ pub fn generate(t: &Table, challenges: &[u32], product: Product) -> (Vec<u32>, O
             for (cell, end) in row[4..].chunks_exact_mut(4).zip(ends) {
                 let mut fraction = [0; 4];
                 while at < *end {
-                    fraction = add(fraction, plain::scale(multiplicities[at], denominators[at]));
+                    fraction = add::<F>(fraction, F::scale(multiplicities[at], denominators[at]));
                     at += 1;
                 }
                 cell.copy_from_slice(&fraction);
-                accumulator = add(accumulator, fraction);
+                accumulator = add::<F>(accumulator, fraction);
             }
         }
     }

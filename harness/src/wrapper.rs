@@ -1,8 +1,8 @@
 //! The safe functions of bindings/rust, over the harness's own tables: a value, or the refusal. The wrapper has them, the model as a reference, and
-//! the wrong wrappers of the tests.
+//! the wrong wrappers of the tests. Its types have known fields, profiles and rules alone; a table is of its own field.
 use crate::exports::{Exports, Model};
 use crate::model::{self, ACCEPTED, Answer};
-use crate::plain::Ext;
+use crate::plain::{Ext, Field};
 use crate::table::{Interaction, LOOKUP_WORDS, Lookup, NODE_WORDS, Plan, SIZES, Table, bytes_of, words_of};
 
 pub type Refused<T> = Result<T, Answer>;
@@ -20,18 +20,18 @@ pub trait Wrapper {
     fn build(&self, t: &Table, interactions: &[Interaction]) -> Refused<Table>;
     fn widths(&self, tables: &[Table]) -> Refused<u64>;
     fn height_bound(&self, tables: &[Table], heights: &[u64]) -> Refused<()>;
-    fn terminals(&self, terminals: &[Option<Ext>]) -> Refused<()>;
-    fn prefixes(&self, alpha: Ext, beta: Ext, width: u64, count: u64) -> Refused<Vec<Ext>>;
+    fn terminals(&self, field: Field, terminals: &[Option<Ext>]) -> Refused<()>;
+    fn prefixes(&self, field: Field, alpha: Ext, beta: Ext, width: u64, count: u64) -> Refused<Vec<Ext>>;
     fn balance(&self, tables: &[Table], workspace: &mut [u32]) -> Refused<()>;
     fn balance_with_seed(&self, tables: &[Table], seed: u64, workspace: &mut [u32]) -> Refused<()>;
-    fn power(&self, a: Ext, n: u32) -> Refused<Ext>;
-    fn inverse(&self, a: Ext) -> Refused<Ext>;
+    fn power(&self, field: Field, a: Ext, n: u32) -> Refused<Ext>;
+    fn inverse(&self, field: Field, a: Ext) -> Refused<Ext>;
 
     /// A count is its node and its weight.
     fn count_bounded(&self, node: u32, weight: u32) -> [u32; 2];
     fn count_provided(&self, node: u32) -> [u32; 2];
-    fn count_from_i32(&self, nodes: &mut Vec<u32>, x: i32) -> Refused<[u32; 2]>;
-    fn count_negated(&self, nodes: &mut Vec<u32>, of: [u32; 2]) -> Refused<[u32; 2]>;
+    fn count_from_i32(&self, field: Field, nodes: &mut Vec<u32>, x: i32) -> Refused<[u32; 2]>;
+    fn count_negated(&self, field: Field, nodes: &mut Vec<u32>, of: [u32; 2]) -> Refused<[u32; 2]>;
     fn row(&self, trace: &[u32], lookups: u64, height: u64, row: u64) -> Vec<u32>;
 
     fn bytes_of(&self, words: &[u32]) -> Vec<u8>;
@@ -112,12 +112,12 @@ impl Wrapper for Model {
         unless_refused(model::height_bound(tables, heights), ())
     }
 
-    fn terminals(&self, terminals: &[Option<Ext>]) -> Refused<()> {
-        unless_refused(model::terminals(terminals), ())
+    fn terminals(&self, field: Field, terminals: &[Option<Ext>]) -> Refused<()> {
+        unless_refused(model::terminals(field, terminals), ())
     }
 
-    fn prefixes(&self, alpha: Ext, beta: Ext, width: u64, count: u64) -> Refused<Vec<Ext>> {
-        let (answer, prefixes) = model::prefixes(alpha, beta, width, count);
+    fn prefixes(&self, field: Field, alpha: Ext, beta: Ext, width: u64, count: u64) -> Refused<Vec<Ext>> {
+        let (answer, prefixes) = model::prefixes(field, alpha, beta, width, count);
         unless_refused(answer, prefixes)
     }
 
@@ -129,14 +129,14 @@ impl Wrapper for Model {
         Wrapper::balance(self, tables, workspace)
     }
 
-    fn power(&self, a: Ext, n: u32) -> Refused<Ext> {
+    fn power(&self, field: Field, a: Ext, n: u32) -> Refused<Ext> {
         let mut out = [0; 4];
-        unless_refused(model::refused(Exports::power(self, &a, n, &mut out)), out)
+        unless_refused(model::refused(Exports::power(self, field.number(), &a, n, &mut out)), out)
     }
 
-    fn inverse(&self, a: Ext) -> Refused<Ext> {
+    fn inverse(&self, field: Field, a: Ext) -> Refused<Ext> {
         let mut out = [0; 4];
-        unless_refused(model::refused(Exports::inverse(self, &a, &mut out)), out)
+        unless_refused(model::refused(Exports::inverse(self, field.number(), &a, &mut out)), out)
     }
 
     fn count_bounded(&self, node: u32, weight: u32) -> [u32; 2] {
@@ -147,12 +147,12 @@ impl Wrapper for Model {
         [node, 0]
     }
 
-    fn count_from_i32(&self, nodes: &mut Vec<u32>, x: i32) -> Refused<[u32; 2]> {
-        let (word, weight) = model::count_of(x);
+    fn count_from_i32(&self, field: Field, nodes: &mut Vec<u32>, x: i32) -> Refused<[u32; 2]> {
+        let (word, weight) = model::count_of(field, x);
         added(nodes, [0, word, 0]).map(|node| [node, weight])
     }
 
-    fn count_negated(&self, nodes: &mut Vec<u32>, [node, weight]: [u32; 2]) -> Refused<[u32; 2]> {
+    fn count_negated(&self, _field: Field, nodes: &mut Vec<u32>, [node, weight]: [u32; 2]) -> Refused<[u32; 2]> {
         let there = (node as usize) < nodes.len() / NODE_WORDS;
         if !there && nodes.len() / NODE_WORDS < model::NODES {
             return Err(model::refused(3));

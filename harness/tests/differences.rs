@@ -3,60 +3,69 @@
 #![cfg(source)]
 use harness::exports::{Exports, marked};
 use harness::generator;
-use harness::model::{ACCEPTED, Answer};
+use harness::model::{ACCEPTED, Answer, Choices};
 use harness::oracle::{self, Run};
-use harness::plain::{Ext, P, lift};
-use harness::table::{Interaction, Lookup, Part, Plan, Table};
+use harness::plain::{Ext, Field, lift};
+use harness::table::{Interaction, Lookup, Part, Plan, Table, field_of};
 
 #[cfg(feature = "port")]
 const PORT: &dyn Exports = &harness::port::Exported;
 #[cfg(not(feature = "port"))]
 const PORT: &dyn Exports = &harness::exports::Model;
 
-// The port's functions, with room for all that they write.
+/// Where nothing else is said, the examples are in field 1.
+const FIELD: Field = Field::BabyBear;
+const P: u32 = FIELD.prime();
+
+// The port's functions in the field of a table, with room for all that they write.
+
+fn choices(tables: &[Table]) -> Choices {
+    Choices::of(field_of(tables))
+}
 
 fn generate(t: &Table, challenges: &[u32]) -> Answer {
-    PORT.generate(t, challenges, &mut vec![7; 12_000], &mut [7; 5])
+    PORT.generate(Choices::of(t.field), t, challenges, &mut vec![7; 12_000], &mut [7; 5])
 }
 
 fn constraints(t: &Table, challenges: &[u32], width: u64, trace: &[u32], terminal: Option<Ext>) -> Answer {
-    PORT.constraints(t, challenges, width, trace, marked(terminal))
+    PORT.constraints(Choices::of(t.field), t, challenges, width, trace, marked(terminal))
 }
 
 fn degree(t: &Table, lookup: u64, transition: u32) -> Result<u64, u32> {
     let mut degree = 7;
-    let answer = PORT.degree(t, lookup, transition, &mut degree);
+    let answer = PORT.degree(Choices::of(t.field), t, lookup, transition, &mut degree);
     if answer == ACCEPTED { Ok(degree) } else { Err(answer.number) }
 }
 
 fn pack(t: &Table, limit: u64) -> Answer {
-    PORT.pack(t, limit, &mut t.clone(), &mut [7; 6])
+    PORT.pack(Choices::of(t.field), t, limit, &mut t.clone(), &mut [7; 6])
 }
 
 fn build(t: &Table, interactions: &[Interaction]) -> Answer {
-    PORT.build(t, &Plan::of(interactions), &mut [7; 1000], &mut 7)
+    PORT.build(Choices::of(t.field), t, &Plan::of(interactions), &mut [7; 1000], &mut 7)
 }
 
 fn widths(tables: &[Table]) -> Answer {
     let sizes: Vec<u32> = tables.iter().flat_map(|t| [t.lookup_count(), t.names.len(), t.tuples.len()]).map(|n| n as u32).collect();
-    PORT.widths(&Table::joined(tables), &sizes, &mut 7)
+    PORT.widths(choices(tables), &Table::joined(tables), &sizes, &mut 7)
 }
 
 fn height_bound(tables: &[Table], heights: &[u32]) -> Answer {
     let counts: Vec<u32> = tables.iter().map(|t| t.lookup_count() as u32).collect();
-    PORT.height_bound(&Table::joined(tables).lookups, &counts, heights)
+    PORT.height_bound(choices(tables), &Table::joined(tables).lookups, &counts, heights)
 }
 
-fn terminals(given: &[Option<Ext>]) -> Answer {
-    PORT.terminals(given.iter().map(|t| marked(*t)).collect::<Vec<_>>().as_flattened())
+fn terminals(field: Field, given: &[Option<Ext>]) -> Answer {
+    PORT.terminals(Choices::of(field), given.iter().map(|t| marked(*t)).collect::<Vec<_>>().as_flattened())
 }
 
 fn prefixes(width: u64, count: u64) -> Answer {
-    PORT.prefixes(&lift(1), &lift(2), width, count, &mut [7; 4 * 257])
+    PORT.prefixes(Choices::of(FIELD), &lift(1), &lift(2), width, count, &mut [7; 4 * 257])
 }
 
 fn balance(tables: &[Table], workspace: &mut [u32]) -> Answer {
-    PORT.balance(&Table::joined(tables), tables.iter().map(Table::sizes).collect::<Vec<_>>().as_flattened(), 1, workspace)
+    let sizes: Vec<u32> = tables.iter().flat_map(Table::sizes).collect();
+    PORT.balance(choices(tables), &Table::joined(tables), &sizes, 1, workspace)
 }
 
 // The examples.
@@ -139,11 +148,20 @@ fn limits_of_a_table() {
         "preprocessed height 1048577",
         "17 bytes a name",
     ];
-    for name in names {
-        let (_, case) = cases.iter().find(|(other, _)| other == name).unwrap();
+    for name in names.iter().flat_map(|name| [1, 2].map(|field| format!("{name}, field {field}"))) {
+        let (_, case) = cases.iter().find(|(other, _)| *other == name).unwrap();
         let t = &case.tables[0];
         assert_eq!(generate(t, &case.challenges).number, 1, "{name}");
         assert!(oracle::generate(t, &case.challenges).is_ok(), "{name}");
+    }
+}
+
+#[test]
+fn unknown_choices() {
+    let t = table(&[3], &[]);
+    let known = Choices::of(FIELD);
+    for choices in [Choices { field: 3, ..known }, Choices { profile: 2, ..known }, Choices { rule: 2, ..known }] {
+        assert_eq!(PORT.generate(choices, &t, &[], &mut [], &mut [7; 5]).number, 1);
     }
 }
 
@@ -157,14 +175,14 @@ fn seventeen_tables() {
 
 #[test]
 fn seventeen_terminals() {
-    assert_eq!((terminals(&[None; 17]).number, oracle::terminals(&[None; 17])), (1, Ok(true)));
+    assert_eq!((terminals(FIELD, &[None; 17]).number, oracle::terminals(FIELD, &[None; 17])), (1, Ok(true)));
 }
 
 #[test]
 fn many_and_wide_prefixes() {
     for (width, count) in [(1, 257), (256, 1)] {
         assert_eq!(prefixes(width, count).number, 1);
-        assert_eq!(oracle::prefixes(lift(1), lift(2), width, count).map(|p| p.len() as u64), Ok(count));
+        assert_eq!(oracle::prefixes(FIELD, lift(1), lift(2), width, count).map(|p| p.len() as u64), Ok(count));
     }
 }
 
@@ -182,9 +200,9 @@ fn limits_of_building() {
 #[test]
 fn full_table_of_nodes() {
     let (mut nodes, mut count) = (vec![0; 3 * 1025], [7; 2]);
-    assert_eq!(PORT.count_from_i32(&mut nodes, 1024, 1, &mut count).number, 1);
-    assert_eq!(PORT.count_negated(&mut nodes, 1024, [0, 1], &mut count).number, 1);
-    assert_eq!(oracle::count_from(1), Ok(([0, 1, 0], 1)));
+    assert_eq!(PORT.count_from_i32(Choices::of(FIELD), &mut nodes, 1024, 1, &mut count).number, 1);
+    assert_eq!(PORT.count_negated(Choices::of(FIELD), &mut nodes, 1024, [0, 1], &mut count).number, 1);
+    assert_eq!(oracle::count_from(FIELD, 1), Ok(([0, 1, 0], 1)));
 }
 
 #[test]
@@ -235,16 +253,21 @@ fn heights_missing() {
 
 #[test]
 fn word_too_large() {
-    assert_eq!(generate(&table(&[P], &[]), &[]).number, 2);
-    // A challenge and a constant; preprocessed rows past main's height and constants that nothing uses are tested too.
-    assert_eq!(generate(&table(&[3], &[]), &[P, 0, 0, 0]).number, 2);
-    let mut t = table(&[3], &[]);
-    t.add_node(0, P, 0);
-    assert_eq!(generate(&t, &[]).number, 2);
-    let mut t = with_preprocessed(table(&[3], &[once(0)]), 2);
-    assert_eq!(generate(&t, &pairs(1)).number, 0);
-    t.preprocessed[1] = P;
-    assert_eq!(generate(&t, &pairs(1)).number, 2);
+    for field in Field::ALL {
+        let p = field.prime();
+        let table = |rows: &[u32], lookups: &[Lookup]| Table { field, ..table(rows, lookups) };
+        assert_eq!(generate(&table(&[p - 1], &[]), &[]).number, 0);
+        assert_eq!(generate(&table(&[p], &[]), &[]).number, 2);
+        // A challenge and a constant; preprocessed rows past main's height and constants that nothing uses are tested too.
+        assert_eq!(generate(&table(&[3], &[]), &[p, 0, 0, 0]).number, 2);
+        let mut t = table(&[3], &[]);
+        t.add_node(0, p, 0);
+        assert_eq!(generate(&t, &[]).number, 2);
+        let mut t = with_preprocessed(table(&[3], &[once(0)]), 2);
+        assert_eq!(generate(&t, &pairs(1)).number, 0);
+        t.preprocessed[1] = p;
+        assert_eq!(generate(&t, &pairs(1)).number, 2);
+    }
 }
 
 #[test]
@@ -254,7 +277,7 @@ fn malformed_nodes() {
         t.nodes.extend(node);
         assert_eq!(generate(&t, &pairs(1)).number, 3);
     }
-    assert_eq!(PORT.count_negated(&mut [0; 9], 2, [2, 1], &mut [7; 2]).number, 3);
+    assert_eq!(PORT.count_negated(Choices::of(FIELD), &mut [0; 9], 2, [2, 1], &mut [7; 2]).number, 3);
 }
 
 #[test]
@@ -419,7 +442,7 @@ fn rows_missing() {
 #[test]
 fn short_buffer() {
     let t = table(&[3], &[once(0)]);
-    assert_eq!(PORT.generate(&t, &pairs(1), &mut [7; 7], &mut [7; 5]).number, 10);
+    assert_eq!(PORT.generate(Choices::of(t.field), &t, &pairs(1), &mut [7; 7], &mut [7; 5]).number, 10);
     assert_eq!(generated(&t, &pairs(1)), Ok(8));
 }
 
@@ -443,7 +466,7 @@ fn terminal_misplaced() {
 #[test]
 fn prefixes_of_width_0() {
     assert_eq!(prefixes(0, 1).number, 12);
-    says(oracle::prefixes(lift(1), lift(2), 0, 1), "max_message_width must be non-zero");
+    says(oracle::prefixes(FIELD, lift(1), lift(2), 0, 1), "max_message_width must be non-zero");
 }
 
 // Refusals 13 to 20.
@@ -486,10 +509,13 @@ fn unbalanced() {
 
 #[test]
 fn sums() {
-    let t = [table(&[3], &[Lookup { weight: P, ..once(0) }])];
-    assert_eq!((height_bound(&t, &[1]), oracle::height_bound(&t, &[1])), (refused(19, [P.into(), 0, 0]), Ok(Err(P.into()))));
-    let ones = [Some(lift(1)); 2];
-    assert_eq!((terminals(&ones).number, oracle::terminals(&ones)), (20, Ok(false)));
+    for field in Field::ALL {
+        let p = field.prime();
+        let t = [Table { field, ..table(&[3], &[Lookup { weight: p, ..once(0) }]) }];
+        assert_eq!((height_bound(&t, &[1]), oracle::height_bound(&t, &[1])), (refused(19, [p.into(), 0, 0]), Ok(Err(p.into()))));
+        let ones = [Some(lift(1)); 2];
+        assert_eq!((terminals(field, &ones).number, oracle::terminals(field, &ones)), (20, Ok(false)));
+    }
 }
 
 // Which of several faults is named.
@@ -578,7 +604,7 @@ fn widths_and_weights_before_nodes_and_lists() {
 #[test]
 fn width_0_before_many_prefixes() {
     assert_eq!(prefixes(0, 257).number, 1);
-    says(oracle::prefixes(lift(1), lift(2), 0, 257), "max_message_width must be non-zero");
+    says(oracle::prefixes(FIELD, lift(1), lift(2), 0, 257), "max_message_width must be non-zero");
 }
 
 #[test]
@@ -619,5 +645,5 @@ fn names_are_bytes() {
 #[test]
 fn inverse_of_zero() {
     let mut out = [7; 4];
-    assert_eq!((PORT.inverse(&[0; 4], &mut out), out), (0, [0; 4]));
+    assert_eq!((PORT.inverse(FIELD.number(), &[0; 4], &mut out), out), (0, [0; 4]));
 }

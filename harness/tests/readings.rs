@@ -1,7 +1,7 @@
 //! Readings that docs/DECISIONS.md records, each with its smallest example: of the port's exported functions, or, without the feature `port`, of the model.
 use harness::exports::{Exports, marked};
-use harness::model::{ACCEPTED, Answer};
-use harness::plain::{Ext, P, lift};
+use harness::model::{ACCEPTED, Answer, Choices};
+use harness::plain::{Ext, Field, lift};
 use harness::table::{Lookup, Table};
 
 #[cfg(feature = "port")]
@@ -9,17 +9,21 @@ const PORT: &dyn Exports = &harness::port::Exported;
 #[cfg(not(feature = "port"))]
 const PORT: &dyn Exports = &harness::exports::Model;
 
+const P: u32 = Field::BabyBear.prime();
+const ONE: Choices = Choices { field: 1, profile: 1, rule: 1 };
+const TWO: Choices = Choices { field: 2, ..ONE };
+
 fn generate(t: &Table, challenges: &[u32]) -> Answer {
-    PORT.generate(t, challenges, &mut [7; 100], &mut [7; 5])
+    PORT.generate(ONE, t, challenges, &mut [7; 100], &mut [7; 5])
 }
 
 fn constraints(t: &Table, challenges: &[u32], terminal: Option<Ext>) -> Answer {
     let trace = [0, HALF].map(lift).concat();
-    PORT.constraints(t, challenges, 2, &trace, marked(terminal))
+    PORT.constraints(ONE, t, challenges, 2, &trace, marked(terminal))
 }
 
 fn balance(t: &Table) -> Answer {
-    PORT.balance(t, &t.sizes(), 1, &mut [7; 10])
+    PORT.balance(ONE, t, &t.sizes(), 1, &mut [7; 10])
 }
 
 /// Nodes 0 and 1: the main column and the constant 1. The lookup has the column once, on a bus or local.
@@ -42,17 +46,17 @@ fn name_length_of_a_local() {
         t.lookups[1] = length;
         assert_eq!(generate(&t, &PAIR), ACCEPTED);
         assert_eq!(constraints(&t, &PAIR, Some(lift(HALF))), ACCEPTED);
-        assert_eq!(PORT.pack(&t, 9, &mut t.clone(), &mut [7; 6]), ACCEPTED);
-        assert_eq!(PORT.widths(&t, &[1, 0, 1], &mut 7), ACCEPTED);
-        assert_eq!(PORT.height_bound(&t.lookups, &[1], &[1]), ACCEPTED);
+        assert_eq!(PORT.pack(ONE, &t, 9, &mut t.clone(), &mut [7; 6]), ACCEPTED);
+        assert_eq!(PORT.widths(ONE, &t, &[1, 0, 1], &mut 7), ACCEPTED);
+        assert_eq!(PORT.height_bound(ONE, &t.lookups, &[1], &[1]), ACCEPTED);
         assert_eq!(balance(&t).number, 18);
     }
     t.lookups[1] = 1;
     t.names = vec![b'x'];
     assert_eq!(generate(&t, &PAIR).number, 1);
     assert_eq!(constraints(&t, &PAIR, Some(lift(HALF))).number, 1);
-    assert_eq!(PORT.pack(&t, 9, &mut t.clone(), &mut [7; 6]).number, 1);
-    assert_eq!(PORT.widths(&t, &[1, 1, 1], &mut 7).number, 1);
+    assert_eq!(PORT.pack(ONE, &t, 9, &mut t.clone(), &mut [7; 6]).number, 1);
+    assert_eq!(PORT.widths(ONE, &t, &[1, 1, 1], &mut 7).number, 1);
     assert_eq!(balance(&t).number, 1);
 }
 
@@ -111,4 +115,114 @@ fn tests_of_unused_nodes_and_rows() {
     t.nodes[5] = P;
     t.nodes.extend([6, P, P, 7, P, P, 8, P, P]);
     assert_eq!(generate(&t, &PAIR), ACCEPTED);
+}
+
+#[test]
+fn the_first_prime_in_the_second_field() {
+    // A main word, a preprocessed and a public one, a constant and a challenge: 2 in field 1, words of field 2.
+    let (mut main, mut preprocessed, mut public, mut constant) = (table(None), table(None), table(None), table(None));
+    main.main[0] = P;
+    (preprocessed.pre_width, preprocessed.pre_height, preprocessed.preprocessed) = (1, 1, vec![P]);
+    public.public_values = vec![P];
+    constant.nodes[4] = P;
+    let challenges = [PAIR, PAIR, PAIR, PAIR, [5, 0, 0, 0, 0, 0, P, 0]];
+    for (t, challenges) in [main, preprocessed, public, constant, table(None)].iter().zip(challenges) {
+        assert_eq!(generate(t, &challenges).number, 2);
+        assert_eq!(PORT.generate(TWO, t, &challenges, &mut [7; 100], &mut [7; 5]), ACCEPTED);
+    }
+    // It is 2013265921 there, and not 0: alpha 2013265921 gives 15 with the tuple (2013265921), and none with (0).
+    let alpha = [P, 0, 0, 0, 0, 0, 0, 0];
+    let generate = |word: u32| PORT.generate(TWO, &Table { main: vec![word], ..table(None) }, &alpha, &mut [7; 100], &mut [7; 5]);
+    assert_eq!([P, 0].map(|word| generate(word).number), [15, 0]);
+    // A terminal's word, and the words of one element.
+    assert_eq!([ONE, TWO].map(|c| PORT.terminals(c, &[1, 0, 0, P, 0]).number), [2, 20]);
+    assert_eq!([1, 2].map(|field| PORT.inverse(field, &lift(P), &mut [7; 4])), [2, 0]);
+}
+
+#[test]
+fn counts_are_of_the_field() {
+    for (choices, x, word) in [
+        (ONE, i32::MIN, 1879048194),
+        (TWO, i32::MIN, 2113929218),
+        (ONE, 2013265921, 0),
+        (TWO, 2013265921, 2013265921),
+        (TWO, 2130706433, 0),
+        (TWO, -1, 2130706432),
+    ] {
+        let (mut nodes, mut count) = ([7; 3], [7; 2]);
+        assert_eq!(PORT.count_from_i32(choices, &mut nodes, 0, x, &mut count), ACCEPTED);
+        assert_eq!((nodes, count), ([0, word, 0], [0, x.unsigned_abs()]));
+    }
+}
+
+#[test]
+fn height_sums_are_of_the_field() {
+    let bound = |choices: Choices, weight: u32| {
+        let mut t = table(None);
+        t.lookups[2] = weight;
+        PORT.height_bound(choices, &t.lookups, &[1], &[1])
+    };
+    let refused = |sum: u64| Answer { number: 19, details: [sum, 0, 0] };
+    assert_eq!([2013265920, 2013265921].map(|weight| bound(ONE, weight)), [ACCEPTED, refused(2013265921)]);
+    assert_eq!([2013265921, 2130706432].map(|weight| bound(TWO, weight)), [ACCEPTED; 2]);
+    assert_eq!(bound(TWO, 2130706433), refused(2130706433));
+}
+
+#[test]
+fn products_are_of_the_field() {
+    // X^3 · X is 11, and 3.
+    let power = |field: u32| {
+        let mut out = [7; 4];
+        (PORT.power(field, &[0, 1, 0, 0], 4, &mut out), out)
+    };
+    assert_eq!([1, 2].map(power), [(0, lift(11)), (0, lift(3))]);
+}
+
+/// Choices with an unknown number among them.
+fn unknown() -> Vec<Choices> {
+    let fields = [0, 3, u32::MAX].map(|field| Choices { field, ..ONE });
+    let profiles = [0, 2, u32::MAX].map(|profile| Choices { profile, ..TWO });
+    [fields, profiles].concat()
+}
+
+#[test]
+fn unknown_numbers_come_first() {
+    let refused = Answer { number: 1, details: [0; 3] };
+    // With a word that 2 would refuse, and without lookups, which else is accepted.
+    let (mut high, mut without) = (table(Some(b"mem")), table(None));
+    (high.main[0], high.nodes[4]) = (u32::MAX, u32::MAX);
+    without.set_records(&[]);
+    let rules = [0, 2, u32::MAX].map(|rule| Choices { rule, ..TWO });
+    for t in [&high, &without] {
+        for choices in [&unknown()[..], &rules].concat() {
+            let (mut trace, mut terminal) = ([7; 8], [7; 5]);
+            assert_eq!(PORT.generate(choices, t, &PAIR, &mut trace, &mut terminal), refused);
+            assert_eq!((trace, terminal), ([7; 8], [7; 5]));
+            assert_eq!(PORT.constraints(choices, t, &PAIR, 2, &[], [0; 5]), refused);
+        }
+        for choices in unknown() {
+            let (mut out, mut used, mut workspace) = (t.clone(), [7; 6], [7; 10]);
+            assert_eq!(PORT.pack(choices, t, 9, &mut out, &mut used), refused);
+            assert_eq!((&out, used), (t, [7; 6]));
+            assert_eq!(PORT.balance(choices, t, &t.sizes(), 1, &mut workspace), refused);
+            assert_eq!(workspace, [7; 10]);
+            assert_eq!(PORT.widths(choices, t, &[0, 0, 0], &mut 7), refused);
+            assert_eq!(PORT.height_bound(choices, &[], &[], &[]), refused);
+        }
+    }
+    for choices in unknown() {
+        // 2, 12 and 3 would be given else.
+        assert_eq!(PORT.terminals(choices, &[1, u32::MAX, 0, 0, 0]), refused);
+        assert_eq!(PORT.terminals(choices, &[]), refused);
+        assert_eq!(PORT.prefixes(choices, &lift(1), &lift(2), 0, 1, &mut [7; 4]), refused);
+        let (mut nodes, mut count) = ([7; 3], [7; 2]);
+        assert_eq!(PORT.count_from_i32(choices, &mut nodes, 0, 1, &mut count), refused);
+        assert_eq!(PORT.count_negated(choices, &mut nodes, 0, [9, 1], &mut count), refused);
+        assert_eq!((nodes, count), ([7; 3], [7; 2]));
+    }
+    for field in [0, 3, u32::MAX] {
+        let mut out = [7; 4];
+        assert_eq!([PORT.power(field, &lift(u32::MAX), 0, &mut out), PORT.inverse(field, &lift(1), &mut out)], [1, 1]);
+        assert_eq!(out, [7; 4]);
+    }
 }

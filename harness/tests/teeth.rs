@@ -1,13 +1,15 @@
 //! The comparison notices wrong ports and wrong wrappers, and makes what it finds small. The wrong ones are readings that
-//! docs/SPECIFICATION.md rules out, outputs that are written or left where they must not be, and slips in the wrapper.
+//! docs/SPECIFICATION.md rules out, fields that are mixed, choices that are not tested, outputs that are written or left where they must not
+//! be, and slips in the wrapper.
 use harness::compare::{Disagreement, Tally, check_port};
-use harness::exports::{Exports, Model, Rooms};
+use harness::exports::{Exports, Model, Rooms, marked};
 use harness::generator::{self, Case};
-use harness::model::{self, Answer};
-use harness::plain::{self, Ext, P, Random};
+use harness::model::{self, Answer, Choices};
+use harness::plain::{Ext, Field, KoalaBear, PrimeField, Random};
 use harness::port::Port;
 use harness::shrink::shrink;
 use harness::table::{Interaction, Lookup, NODE_WORDS, Plan, SIZES, Table};
+use harness::tuned::{self, Product};
 use harness::wrapper::{Refused, Wrapper};
 
 /// The mistakes by name, and the list of all of them.
@@ -33,6 +35,10 @@ mistakes! {
     // Tests that are missing or out of order.
     WidthsWithoutFive, BoundWithoutFive, ShortOutputAfterFive, SizesPastTheListsTaken, OddTerminalWordsTaken, TwoTuplesOfAGlobalTaken,
     ShortElementTaken, OddBytesTaken,
+    // The first prime or its X⁴ = 11 in the second field, and the second prime in the first field.
+    FirstPrimeInTwo, FirstPrimeInTwoOfConstants, FirstPrimeInNineteen, FirstPrimeInFractions, FirstPrimeInConstraints, FirstPrimeInTerminals,
+    FirstPrimeInNets, FirstPrimeInCounts, ElevenInFractions, ElevenInPrefixes, ElevenInPowers, ElevenInInverses, SecondPrimeInTwo,
+    SecondPrimeInNineteen,
     // Lent words.
     WritesPastTheEnd, KeepsTraceAfterFault, WorkspaceNotCleared, TerminalZeroedByRefusal, TerminalKeptAfterFault, DegreeZeroedByRefusal,
     PackedZeroedByRefusal, BuiltZeroedByRefusal, WidestZeroedByRefusal, UsedInRecords, PackedPastTheEnd, PrefixesZeroedByRefusal,
@@ -53,8 +59,39 @@ fn by_refusal(answer: Answer) -> bool {
     (1..=12).contains(&answer.number)
 }
 
+/// The second field, but for X⁴.
+struct Eleven;
+
+impl PrimeField for Eleven {
+    const P: u32 = KoalaBear::P;
+    const W: u32 = 11;
+}
+
+/// The same call in field 1.
+fn of_first(choices: Choices) -> Choices {
+    Choices { field: Field::BabyBear.number(), ..choices }
+}
+
+/// The same call in field 2.
+fn of_second(choices: Choices) -> Choices {
+    Choices { field: Field::KoalaBear.number(), ..choices }
+}
+
+fn is_first(choices: Choices) -> bool {
+    choices.field == Field::BabyBear.number()
+}
+
+fn is_second(choices: Choices) -> bool {
+    choices.field == Field::KoalaBear.number()
+}
+
+/// Whether there is a word that the second field alone has.
+fn between(words: &[u32]) -> bool {
+    words.iter().any(|word| Field::BabyBear.prime() <= *word)
+}
+
 impl Exports for Mistake {
-    fn generate(&self, t: &Table, challenges: &[u32], trace: &mut [u32], terminal: &mut [u32; 5]) -> Answer {
+    fn generate(&self, choices: Choices, t: &Table, challenges: &[u32], trace: &mut [u32], terminal: &mut [u32; 5]) -> Answer {
         let mut reversed = t.clone();
         if *self == FirstElementBetaZero && t.fits() {
             let mut records = t.records();
@@ -62,7 +99,7 @@ impl Exports for Mistake {
             reversed.set_records(&records);
         }
         let (before, terminal_before) = (trace.to_vec(), *terminal);
-        let mut answer = RIGHT.generate(&reversed, challenges, trace, terminal);
+        let mut answer = RIGHT.generate(choices, &reversed, challenges, trace, terminal);
         let accepted = answer.number == 0;
         let given = accepted && terminal[0] == 1;
         let row = 4 * (t.lookup_count() + 1);
@@ -73,7 +110,7 @@ impl Exports for Mistake {
             LastRowZero if given && 1 < t.height => trace[(t.height as usize - 1) * row..][..row].fill(0),
             InclusiveAccumulator if given => {
                 for words in trace[..t.height as usize * row].chunks_exact_mut(row) {
-                    let sum = words.chunks_exact(4).map(|e| e.try_into().unwrap()).fold([0; 4], plain::add);
+                    let sum = words.chunks_exact(4).map(|e| e.try_into().unwrap()).fold([0; 4], |a, b| t.field.add(a, b));
                     words[..4].copy_from_slice(&sum);
                 }
             }
@@ -81,31 +118,54 @@ impl Exports for Mistake {
             TerminalKeptAfterFault if 13 <= answer.number => *terminal = terminal_before,
             TerminalZeroedByRefusal if by_refusal(answer) => *terminal = [0; 5],
             OtherDetails => answer.details.swap(0, 1),
+            FirstPrimeInTwo if is_second(choices) && answer.number != 1 && between(&t.main) => {
+                trace.copy_from_slice(&before);
+                *terminal = terminal_before;
+                answer = model::refused(2);
+            }
+            FirstPrimeInFractions if given && is_second(choices) => _ = RIGHT.generate(of_first(choices), t, challenges, trace, terminal),
+            ElevenInFractions if given && is_second(choices) => {
+                let (words, sum) = tuned::generate_in::<Eleven>(t, challenges, Product::Denominators);
+                trace[..words.len()].copy_from_slice(&words);
+                *terminal = marked(sum);
+            }
             _ => (),
         }
         answer
     }
 
-    fn constraints(&self, t: &Table, challenges: &[u32], width: u64, trace: &[u32], terminal: [u32; 5]) -> Answer {
-        let answer = RIGHT.constraints(t, challenges, width, trace, terminal);
+    fn constraints(&self, choices: Choices, t: &Table, challenges: &[u32], width: u64, trace: &[u32], terminal: [u32; 5]) -> Answer {
+        let answer = RIGHT.constraints(choices, t, challenges, width, trace, terminal);
         match self {
             AcceptsAnyTrace if answer.number == 17 => model::ACCEPTED,
-            AbsentTerminalTested if answer.number != 1 && terminal[0] == 0 && terminal[1] == P => model::refused(2),
+            AbsentTerminalTested if answer.number != 1 && terminal[0] == 0 && terminal[1] == u32::MAX => model::refused(2),
+            FirstPrimeInConstraints if is_second(choices) => {
+                let by_first = RIGHT.constraints(of_first(choices), t, challenges, width, trace, terminal);
+                if by_first.number == 2 { answer } else { by_first }
+            }
+            SecondPrimeInTwo if is_first(choices) && answer.number == 2 => {
+                RIGHT.constraints(of_second(choices), t, challenges, width, trace, terminal)
+            }
             _ => answer,
         }
     }
 
-    fn degree(&self, t: &Table, lookup: u64, transition: u32, degree: &mut u64) -> Answer {
-        let answer = RIGHT.degree(t, lookup, transition, degree);
+    fn degree(&self, choices: Choices, t: &Table, lookup: u64, transition: u32, degree: &mut u64) -> Answer {
+        let answer = RIGHT.degree(choices, t, lookup, transition, degree);
         if *self == DegreeZeroedByRefusal && by_refusal(answer) {
             *degree = 0;
         }
         answer
     }
 
-    fn pack(&self, t: &Table, limit: u64, out: &mut Table, used: &mut [u64; 6]) -> Answer {
-        let answer = RIGHT.pack(t, if *self == PacksNothing { 0 } else { limit }, out, used);
+    fn pack(&self, choices: Choices, t: &Table, limit: u64, out: &mut Table, used: &mut [u64; 6]) -> Answer {
+        let before = (out.clone(), *used);
+        let answer = RIGHT.pack(choices, t, if *self == PacksNothing { 0 } else { limit }, out, used);
         match self {
+            FirstPrimeInTwoOfConstants if is_second(choices) && RIGHT.pack(of_first(choices), t, limit, out, used).number == 2 => {
+                (*out, *used) = before;
+                return model::refused(2);
+            }
             LosesATuple if answer.number == 0 => used[2] = used[2].saturating_sub(1),
             UsedInRecords if answer.number == 0 => used[0] /= 8,
             PackedPastTheEnd if answer.number == 0 => out.elements.iter_mut().skip(used[5] as usize).for_each(|word| *word = 0),
@@ -119,8 +179,8 @@ impl Exports for Mistake {
         answer
     }
 
-    fn build(&self, t: &Table, plan: &Plan, lookups: &mut [u32], used: &mut u64) -> Answer {
-        let answer = RIGHT.build(t, plan, lookups, used);
+    fn build(&self, choices: Choices, t: &Table, plan: &Plan, lookups: &mut [u32], used: &mut u64) -> Answer {
+        let answer = RIGHT.build(choices, t, plan, lookups, used);
         let mut weights = &plan.weights[..];
         for (lookup, words) in lookups.chunks_exact_mut(8).zip(plan.interactions.chunks_exact(2)) {
             let own = weights.split_off(..weights.len().min(words[1] as usize)).unwrap();
@@ -140,8 +200,8 @@ impl Exports for Mistake {
         answer
     }
 
-    fn widths(&self, all: &Table, sizes: &[u32], widest: &mut u64) -> Answer {
-        let answer = RIGHT.widths(all, sizes, widest);
+    fn widths(&self, choices: Choices, all: &Table, sizes: &[u32], widest: &mut u64) -> Answer {
+        let answer = RIGHT.widths(choices, all, sizes, widest);
         match self {
             WidestOfLocalsToo if answer.number == 0 => *widest = all.tuples.iter().map(|w| u64::from(*w)).max().unwrap_or(0),
             WidestZeroedByRefusal if by_refusal(answer) => *widest = 0,
@@ -151,27 +211,53 @@ impl Exports for Mistake {
         answer
     }
 
-    fn height_bound(&self, lookups: &[u32], counts: &[u32], heights: &[u32]) -> Answer {
-        let answer = RIGHT.height_bound(lookups, counts, heights);
-        if *self == BoundWithoutFive && answer.number == 5 { model::ACCEPTED } else { answer }
+    fn height_bound(&self, choices: Choices, lookups: &[u32], counts: &[u32], heights: &[u32]) -> Answer {
+        let answer = RIGHT.height_bound(choices, lookups, counts, heights);
+        match self {
+            BoundWithoutFive if answer.number == 5 => model::ACCEPTED,
+            FirstPrimeInNineteen if is_second(choices) => RIGHT.height_bound(of_first(choices), lookups, counts, heights),
+            SecondPrimeInNineteen if is_first(choices) => RIGHT.height_bound(of_second(choices), lookups, counts, heights),
+            _ => answer,
+        }
     }
 
-    fn terminals(&self, terminals: &[u32]) -> Answer {
-        RIGHT.terminals(if *self == OddTerminalWordsTaken { terminals.as_chunks::<5>().0.as_flattened() } else { terminals })
+    fn terminals(&self, choices: Choices, terminals: &[u32]) -> Answer {
+        let whole = terminals.as_chunks::<5>().0.as_flattened();
+        let by_first = RIGHT.terminals(of_first(choices), terminals);
+        match self {
+            OddTerminalWordsTaken => RIGHT.terminals(choices, whole),
+            FirstPrimeInTerminals if is_second(choices) && by_first.number != 2 => by_first,
+            _ => RIGHT.terminals(choices, terminals),
+        }
     }
 
-    fn prefixes(&self, alpha: &[u32], beta: &[u32], width: u64, count: u64, out: &mut [u32]) -> Answer {
-        let answer = RIGHT.prefixes(alpha, beta, width, count, out);
-        if *self == PrefixesZeroedByRefusal && by_refusal(answer) {
-            out.fill(0);
+    fn prefixes(&self, choices: Choices, alpha: &[u32], beta: &[u32], width: u64, count: u64, out: &mut [u32]) -> Answer {
+        let answer = RIGHT.prefixes(choices, alpha, beta, width, count, out);
+        match self {
+            PrefixesZeroedByRefusal if by_refusal(answer) => out.fill(0),
+            ElevenInPrefixes if is_second(choices) && answer.number == 0 => {
+                let gamma = Eleven::power(beta.try_into().unwrap(), width as u32);
+                for (words, i) in out.chunks_exact_mut(4).zip(1..=count as u32) {
+                    words.copy_from_slice(&Eleven::add(alpha.try_into().unwrap(), Eleven::scale(i, gamma)));
+                }
+            }
+            _ => (),
         }
         answer
     }
 
-    fn balance(&self, all: &Table, sizes: &[u32], seed: u64, workspace: &mut [u32]) -> Answer {
+    fn balance(&self, choices: Choices, all: &Table, sizes: &[u32], seed: u64, workspace: &mut [u32]) -> Answer {
         let before = workspace.to_vec();
         let sizes = if *self == SizesPastTheListsTaken { &sizes[..sizes.len() / SIZES * SIZES] } else { sizes };
-        let mut answer = RIGHT.balance(all, sizes, seed, workspace);
+        let mut answer = RIGHT.balance(choices, all, sizes, seed, workspace);
+        if *self == FirstPrimeInNets && is_second(choices) {
+            let mut nets = before.clone();
+            let by_first = RIGHT.balance(of_first(choices), all, sizes, seed, &mut nets);
+            if by_first.number != 2 {
+                workspace.copy_from_slice(&nets);
+                answer = by_first;
+            }
+        }
         if *self == NumericOrder && answer.number == 18 {
             let slots = || workspace.chunks_exact(model::SLOT_WORDS).enumerate().filter(|(_, slot)| slot[9] != 0);
             let (slot, words) = slots().min_by_key(|(_, slot)| slot[1..9].to_vec()).unwrap();
@@ -186,9 +272,17 @@ impl Exports for Mistake {
         answer
     }
 
-    fn generate_bytes(&self, t: &Table<u8>, challenges: &[u8], trace: &mut [u8], rooms: &mut Rooms, terminal: &mut [u32; 5]) -> Answer {
+    fn generate_bytes(
+        &self,
+        choices: Choices,
+        t: &Table<u8>,
+        challenges: &[u8],
+        trace: &mut [u8],
+        rooms: &mut Rooms,
+        terminal: &mut [u32; 5],
+    ) -> Answer {
         let before = rooms.clone();
-        let answer = RIGHT.generate_bytes(t, challenges, trace, rooms, terminal);
+        let answer = RIGHT.generate_bytes(choices, t, challenges, trace, rooms, terminal);
         self.of_rooms(answer, before, rooms);
         if *self == BytesTerminalZeroedByRefusal && by_refusal(answer) {
             *terminal = [0; 5];
@@ -196,9 +290,17 @@ impl Exports for Mistake {
         answer
     }
 
-    fn pack_bytes(&self, t: &Table<u8>, limit: u64, out: &mut Table<u8>, rooms: &mut Rooms, used: &mut [u64; 6]) -> Answer {
+    fn pack_bytes(
+        &self,
+        choices: Choices,
+        t: &Table<u8>,
+        limit: u64,
+        out: &mut Table<u8>,
+        rooms: &mut Rooms,
+        used: &mut [u64; 6],
+    ) -> Answer {
         let before = rooms.clone();
-        let answer = RIGHT.pack_bytes(t, limit, out, rooms, used);
+        let answer = RIGHT.pack_bytes(choices, t, limit, out, rooms, used);
         self.of_rooms(answer, before, rooms);
         if *self == BytesUsedZeroedByRefusal && by_refusal(answer) {
             *used = [0; 6];
@@ -206,19 +308,20 @@ impl Exports for Mistake {
         answer
     }
 
-    fn balance_bytes(&self, all: &Table<u8>, sizes: &[u8], seed: u64, workspace: &mut [u8], rooms: &mut Rooms) -> Answer {
+    fn balance_bytes(&self, choices: Choices, all: &Table<u8>, sizes: &[u8], seed: u64, workspace: &mut [u8], rooms: &mut Rooms) -> Answer {
         let before = rooms.clone();
         let mut whole = all.clone();
         if *self == OddBytesTaken {
             whole.main.truncate(all.main.len() / 4 * 4);
         }
-        let answer = RIGHT.balance_bytes(&whole, sizes, seed, workspace, rooms);
+        let answer = RIGHT.balance_bytes(choices, &whole, sizes, seed, workspace, rooms);
         self.of_rooms(answer, before, rooms);
         answer
     }
 
-    fn count_from_i32(&self, nodes: &mut [u32], used: u64, x: i32, count: &mut [u32; 2]) -> Answer {
-        let answer = RIGHT.count_from_i32(nodes, used, x, count);
+    fn count_from_i32(&self, choices: Choices, nodes: &mut [u32], used: u64, x: i32, count: &mut [u32; 2]) -> Answer {
+        let first = *self == FirstPrimeInCounts && is_second(choices);
+        let answer = RIGHT.count_from_i32(if first { of_first(choices) } else { choices }, nodes, used, x, count);
         let at = NODE_WORDS * (used as usize).min(nodes.len());
         match self {
             CountNotReduced if answer.number == 0 && 0 <= x => nodes[at + 1] = x as u32,
@@ -231,8 +334,8 @@ impl Exports for Mistake {
         answer
     }
 
-    fn count_negated(&self, nodes: &mut [u32], used: u64, of: [u32; 2], count: &mut [u32; 2]) -> Answer {
-        let answer = RIGHT.count_negated(nodes, used, of, count);
+    fn count_negated(&self, choices: Choices, nodes: &mut [u32], used: u64, of: [u32; 2], count: &mut [u32; 2]) -> Answer {
+        let answer = RIGHT.count_negated(choices, nodes, used, of, count);
         if *self == NegatesAbsentNode && answer.number == 3 { model::ACCEPTED } else { answer }
     }
 
@@ -259,19 +362,22 @@ impl Exports for Mistake {
         }
     }
 
-    fn power(&self, a: &[u32], n: u32, out: &mut [u32]) -> u32 {
-        let number = RIGHT.power(a, if *self == PowerOneMore { n + 1 } else { n }, out);
-        if *self == ElementZeroedByRefusal && number != 0 {
-            out.fill(0);
+    fn power(&self, field: u32, a: &[u32], n: u32, out: &mut [u32]) -> u32 {
+        let number = RIGHT.power(field, a, if *self == PowerOneMore { n + 1 } else { n }, out);
+        match self {
+            ElementZeroedByRefusal if number != 0 => out.fill(0),
+            ElevenInPowers if field == 2 && number == 0 => out.copy_from_slice(&Eleven::power(a.try_into().unwrap(), n)),
+            _ => (),
         }
         number
     }
 
-    fn inverse(&self, a: &[u32], out: &mut [u32]) -> u32 {
-        let number = RIGHT.inverse(a, out);
+    fn inverse(&self, field: u32, a: &[u32], out: &mut [u32]) -> u32 {
+        let number = RIGHT.inverse(field, a, out);
         match self {
             InverseOfZero if number == 0 && a == [0; 4] => out[0] = 1,
             ShortElementTaken if a.len() == 3 => return 0,
+            ElevenInInverses if field == 2 && number == 0 => out.copy_from_slice(&Eleven::inverse(a.try_into().unwrap())),
             _ => (),
         }
         number
@@ -367,16 +473,16 @@ impl Wrapper for Mistake {
         SAFE.height_bound(if *self == BoundOfTheFirst { &tables[..1] } else { tables }, &heights[..n])
     }
 
-    fn terminals(&self, terminals: &[Option<Ext>]) -> Refused<()> {
+    fn terminals(&self, field: Field, terminals: &[Option<Ext>]) -> Refused<()> {
         let absent = |t: &Option<Ext>| t.or(Some([1, 0, 0, 0]));
         if *self == AbsentTerminalAsZeroMark {
-            return SAFE.terminals(&terminals.iter().map(absent).collect::<Vec<_>>());
+            return SAFE.terminals(field, &terminals.iter().map(absent).collect::<Vec<_>>());
         }
-        SAFE.terminals(terminals)
+        SAFE.terminals(field, terminals)
     }
 
-    fn prefixes(&self, alpha: Ext, beta: Ext, width: u64, count: u64) -> Refused<Vec<Ext>> {
-        let mut prefixes = SAFE.prefixes(alpha, beta, width, count)?;
+    fn prefixes(&self, field: Field, alpha: Ext, beta: Ext, width: u64, count: u64) -> Refused<Vec<Ext>> {
+        let mut prefixes = SAFE.prefixes(field, alpha, beta, width, count)?;
         if *self == PrefixesOneShort {
             prefixes.pop();
         }
@@ -392,16 +498,16 @@ impl Wrapper for Mistake {
         if *self == SeededBalanceAccepts && seed == 0 { Ok(()) } else { balanced }
     }
 
-    fn power(&self, a: Ext, n: u32) -> Refused<Ext> {
-        let mut power = SAFE.power(a, n)?;
+    fn power(&self, field: Field, a: Ext, n: u32) -> Refused<Ext> {
+        let mut power = SAFE.power(field, a, n)?;
         if *self == PowerExchanged {
             power.swap(0, 3);
         }
         Ok(power)
     }
 
-    fn inverse(&self, a: Ext) -> Refused<Ext> {
-        if *self == InverseNotTaken { Ok(a) } else { SAFE.inverse(a) }
+    fn inverse(&self, field: Field, a: Ext) -> Refused<Ext> {
+        if *self == InverseNotTaken { Ok(a) } else { SAFE.inverse(field, a) }
     }
 
     fn count_bounded(&self, node: u32, weight: u32) -> [u32; 2] {
@@ -412,16 +518,16 @@ impl Wrapper for Mistake {
         if *self == ProvidedIsBounded { SAFE.count_bounded(node, 1) } else { SAFE.count_provided(node) }
     }
 
-    fn count_from_i32(&self, nodes: &mut Vec<u32>, x: i32) -> Refused<[u32; 2]> {
-        let counted = SAFE.count_from_i32(nodes, if *self == CountOfTheMagnitude { x.wrapping_abs() } else { x });
+    fn count_from_i32(&self, field: Field, nodes: &mut Vec<u32>, x: i32) -> Refused<[u32; 2]> {
+        let counted = SAFE.count_from_i32(field, nodes, if *self == CountOfTheMagnitude { x.wrapping_abs() } else { x });
         if *self == NodesOfACountKept {
             nodes.truncate(nodes.len().saturating_sub(NODE_WORDS));
         }
         counted
     }
 
-    fn count_negated(&self, nodes: &mut Vec<u32>, of: [u32; 2]) -> Refused<[u32; 2]> {
-        let counted = SAFE.count_negated(nodes, of);
+    fn count_negated(&self, field: Field, nodes: &mut Vec<u32>, of: [u32; 2]) -> Refused<[u32; 2]> {
+        let counted = SAFE.count_negated(field, nodes, of);
         if *self == RefusedCountAddsNode && counted.is_err() {
             nodes.extend([0; NODE_WORDS]);
         }
@@ -460,8 +566,412 @@ impl Wrapper for Mistake {
     }
 }
 
-fn compared(mistake: Mistake, case: &Case) -> Option<Disagreement> {
-    check_port(case, Port { exports: &mistake, wrapper: &mistake }, &mut Tally::default()).err()
+fn compared<Wrong: Exports + Wrapper>(wrong: &Wrong, case: &Case) -> Option<Disagreement> {
+    check_port(case, Port { exports: wrong, wrapper: wrong }, &mut Tally::default()).err()
+}
+
+/// Reads the choices of one function otherwise than it must.
+struct Misread {
+    function: &'static str,
+    slip: Slip,
+}
+
+#[derive(Clone, Copy, Debug, PartialEq)]
+enum Slip {
+    /// Everything is in field 1, or in the other field.
+    FieldIgnored,
+    FieldsExchanged,
+    FieldAndProfileExchanged,
+    UnknownFieldTaken,
+    UnknownProfileTaken,
+    UnknownRuleTaken,
+    /// An unknown number counts only where nothing else is refused by 1 to 12.
+    UnknownAfterTheOthers,
+    /// Nothing is tested where there are no lookups.
+    UnknownWithoutLookupsTaken,
+    /// Refused, but written.
+    UnknownWritten,
+}
+use Slip::*;
+
+/// The slips that each function can show: what it reads, refuses and writes.
+fn slips() -> Vec<Misread> {
+    let ruled = ["generation", "constraints", "generation on bytes"];
+    let of_tables = ["packing", "widths", "height bound", "balance", "packing on bytes", "balance on bytes"];
+    let others = ["degree", "building", "terminals", "prefixes", "count from a number", "negated count"];
+    let on_element = ["power", "inverse"];
+    let unread = ["widths", "negated count"];
+    let unwritten = ["constraints", "height bound", "terminals"];
+    let mut slips = vec![];
+    for function in [&ruled[..], &of_tables, &others, &on_element].concat() {
+        let mut add = |shown: bool, slip: Slip| slips.extend(shown.then_some(Misread { function, slip }));
+        let is = |list: &[&str]| list.contains(&function);
+        add(!is(&unread), FieldIgnored);
+        add(!is(&unread), FieldsExchanged);
+        add(!is(&on_element), FieldAndProfileExchanged);
+        add(true, UnknownFieldTaken);
+        add(!is(&on_element), UnknownProfileTaken);
+        add(is(&ruled), UnknownRuleTaken);
+        // A count of a number is refused by 1 alone.
+        add(function != "count from a number", UnknownAfterTheOthers);
+        add(is(&ruled) || is(&of_tables), UnknownWithoutLookupsTaken);
+        add(!is(&unwritten), UnknownWritten);
+    }
+    let wrapped = [
+        "wrapper: generate",
+        "wrapper: generate_into",
+        "wrapper: constraints",
+        "wrapper: constraints_on",
+        "wrapper: degree",
+        "wrapper: pack",
+        "wrapper: build",
+        "wrapper: height_bound",
+        "wrapper: terminals",
+        "wrapper: prefixes",
+        "wrapper: balance",
+        "wrapper: balance_with_seed",
+        "wrapper: power",
+        "wrapper: inverse",
+        "wrapper: Count::from_i32",
+        "wrapper: bytes::generate_into",
+        "wrapper: bytes::pack",
+        "wrapper: bytes::balance",
+        "wrapper: bytes::balance_with_seed",
+    ];
+    slips.extend(wrapped.into_iter().flat_map(|function| [FieldIgnored, FieldsExchanged].map(|slip| Misread { function, slip })));
+    slips
+}
+
+impl Misread {
+    /// A call whose lent outputs are `lent`, for a table with lookups or without.
+    fn call<L: Clone>(
+        &self,
+        function: &str,
+        choices: Choices,
+        lookups: bool,
+        lent: &mut L,
+        call: impl Fn(Choices, &mut L) -> Answer,
+    ) -> Answer {
+        let known = Choices::of(Field::numbered(choices.field).unwrap_or_default());
+        let unknown = || choices != known && call(choices, &mut lent.clone()).number == 1;
+        let choices = match self.slip {
+            _ if function != self.function => choices,
+            FieldIgnored if Field::numbered(choices.field).is_some() => of_first(choices),
+            FieldsExchanged if is_first(choices) => of_second(choices),
+            FieldsExchanged if is_second(choices) => of_first(choices),
+            FieldAndProfileExchanged => Choices { field: choices.profile, profile: choices.field, ..choices },
+            UnknownFieldTaken => Choices { field: known.field, ..choices },
+            UnknownProfileTaken => Choices { profile: known.profile, ..choices },
+            UnknownRuleTaken => Choices { rule: known.rule, ..choices },
+            UnknownAfterTheOthers if unknown() => {
+                let answer = call(known, &mut lent.clone());
+                return if by_refusal(answer) { answer } else { model::refused(1) };
+            }
+            UnknownWithoutLookupsTaken if !lookups => known,
+            UnknownWritten if unknown() => {
+                call(known, lent);
+                return model::refused(1);
+            }
+            _ => choices,
+        };
+        call(choices, lent)
+    }
+
+    /// The field in which a function of the wrapper is called.
+    fn field(&self, function: &str, field: Field) -> Field {
+        match (self.slip, field) {
+            _ if function != self.function => field,
+            (FieldIgnored, _) | (FieldsExchanged, Field::KoalaBear) => Field::BabyBear,
+            (FieldsExchanged, Field::BabyBear) => Field::KoalaBear,
+            _ => field,
+        }
+    }
+
+    fn over(&self, function: &str, tables: &[Table]) -> Vec<Table> {
+        tables.iter().map(|t| t.over(self.field(function, t.field)).into_owned()).collect()
+    }
+}
+
+impl Exports for Misread {
+    fn generate(&self, choices: Choices, t: &Table, challenges: &[u32], trace: &mut [u32], terminal: &mut [u32; 5]) -> Answer {
+        let mut lent = (trace.to_vec(), *terminal);
+        let answer = self.call("generation", choices, !t.lookups.is_empty(), &mut lent, |choices, (trace, terminal)| {
+            RIGHT.generate(choices, t, challenges, trace, terminal)
+        });
+        trace.copy_from_slice(&lent.0);
+        *terminal = lent.1;
+        answer
+    }
+
+    fn constraints(&self, choices: Choices, t: &Table, challenges: &[u32], width: u64, trace: &[u32], terminal: [u32; 5]) -> Answer {
+        self.call("constraints", choices, !t.lookups.is_empty(), &mut (), |choices, _| {
+            RIGHT.constraints(choices, t, challenges, width, trace, terminal)
+        })
+    }
+
+    fn degree(&self, choices: Choices, t: &Table, lookup: u64, transition: u32, degree: &mut u64) -> Answer {
+        self.call("degree", choices, true, degree, |choices, degree| RIGHT.degree(choices, t, lookup, transition, degree))
+    }
+
+    fn pack(&self, choices: Choices, t: &Table, limit: u64, out: &mut Table, used: &mut [u64; 6]) -> Answer {
+        let mut lent = (out.clone(), *used);
+        let answer = self
+            .call("packing", choices, !t.lookups.is_empty(), &mut lent, |choices, (out, used)| RIGHT.pack(choices, t, limit, out, used));
+        (*out, *used) = lent;
+        answer
+    }
+
+    fn build(&self, choices: Choices, t: &Table, plan: &Plan, lookups: &mut [u32], used: &mut u64) -> Answer {
+        let mut lent = (lookups.to_vec(), *used);
+        let answer =
+            self.call("building", choices, true, &mut lent, |choices, (lookups, used)| RIGHT.build(choices, t, plan, lookups, used));
+        lookups.copy_from_slice(&lent.0);
+        *used = lent.1;
+        answer
+    }
+
+    fn widths(&self, choices: Choices, all: &Table, sizes: &[u32], widest: &mut u64) -> Answer {
+        self.call("widths", choices, !all.lookups.is_empty(), widest, |choices, widest| RIGHT.widths(choices, all, sizes, widest))
+    }
+
+    fn height_bound(&self, choices: Choices, lookups: &[u32], counts: &[u32], heights: &[u32]) -> Answer {
+        self.call("height bound", choices, !lookups.is_empty(), &mut (), |choices, _| RIGHT.height_bound(choices, lookups, counts, heights))
+    }
+
+    fn terminals(&self, choices: Choices, terminals: &[u32]) -> Answer {
+        self.call("terminals", choices, true, &mut (), |choices, _| RIGHT.terminals(choices, terminals))
+    }
+
+    fn prefixes(&self, choices: Choices, alpha: &[u32], beta: &[u32], width: u64, count: u64, out: &mut [u32]) -> Answer {
+        let mut lent = out.to_vec();
+        let answer =
+            self.call("prefixes", choices, true, &mut lent, |choices, out| RIGHT.prefixes(choices, alpha, beta, width, count, out));
+        out.copy_from_slice(&lent);
+        answer
+    }
+
+    fn balance(&self, choices: Choices, all: &Table, sizes: &[u32], seed: u64, workspace: &mut [u32]) -> Answer {
+        let mut lent = workspace.to_vec();
+        let answer = self.call("balance", choices, !all.lookups.is_empty(), &mut lent, |choices, workspace| {
+            RIGHT.balance(choices, all, sizes, seed, workspace)
+        });
+        workspace.copy_from_slice(&lent);
+        answer
+    }
+
+    fn generate_bytes(
+        &self,
+        choices: Choices,
+        t: &Table<u8>,
+        challenges: &[u8],
+        trace: &mut [u8],
+        rooms: &mut Rooms,
+        terminal: &mut [u32; 5],
+    ) -> Answer {
+        let mut lent = (trace.to_vec(), rooms.clone(), *terminal);
+        let answer = self.call("generation on bytes", choices, !t.lookups.is_empty(), &mut lent, |choices, (trace, rooms, terminal)| {
+            RIGHT.generate_bytes(choices, t, challenges, trace, rooms, terminal)
+        });
+        trace.copy_from_slice(&lent.0);
+        (*rooms, *terminal) = (lent.1, lent.2);
+        answer
+    }
+
+    fn pack_bytes(
+        &self,
+        choices: Choices,
+        t: &Table<u8>,
+        limit: u64,
+        out: &mut Table<u8>,
+        rooms: &mut Rooms,
+        used: &mut [u64; 6],
+    ) -> Answer {
+        let mut lent = (out.clone(), rooms.clone(), *used);
+        let answer = self.call("packing on bytes", choices, !t.lookups.is_empty(), &mut lent, |choices, (out, rooms, used)| {
+            RIGHT.pack_bytes(choices, t, limit, out, rooms, used)
+        });
+        (*out, *rooms, *used) = lent;
+        answer
+    }
+
+    fn balance_bytes(&self, choices: Choices, all: &Table<u8>, sizes: &[u8], seed: u64, workspace: &mut [u8], rooms: &mut Rooms) -> Answer {
+        let mut lent = (workspace.to_vec(), rooms.clone());
+        let answer = self.call("balance on bytes", choices, !all.lookups.is_empty(), &mut lent, |choices, (workspace, rooms)| {
+            RIGHT.balance_bytes(choices, all, sizes, seed, workspace, rooms)
+        });
+        workspace.copy_from_slice(&lent.0);
+        *rooms = lent.1;
+        answer
+    }
+
+    fn count_from_i32(&self, choices: Choices, nodes: &mut [u32], used: u64, x: i32, count: &mut [u32; 2]) -> Answer {
+        let mut lent = (nodes.to_vec(), *count);
+        let answer = self.call("count from a number", choices, true, &mut lent, |choices, (nodes, count)| {
+            RIGHT.count_from_i32(choices, nodes, used, x, count)
+        });
+        nodes.copy_from_slice(&lent.0);
+        *count = lent.1;
+        answer
+    }
+
+    fn count_negated(&self, choices: Choices, nodes: &mut [u32], used: u64, of: [u32; 2], count: &mut [u32; 2]) -> Answer {
+        let mut lent = (nodes.to_vec(), *count);
+        let answer = self.call("negated count", choices, true, &mut lent, |choices, (nodes, count)| {
+            RIGHT.count_negated(choices, nodes, used, of, count)
+        });
+        nodes.copy_from_slice(&lent.0);
+        *count = lent.1;
+        answer
+    }
+
+    fn count_bounded(&self, node: u32, weight: u32, count: &mut [u32; 2]) {
+        RIGHT.count_bounded(node, weight, count);
+    }
+
+    fn count_provided(&self, node: u32, count: &mut [u32; 2]) {
+        RIGHT.count_provided(node, count);
+    }
+
+    fn row(&self, trace: &[u32], lookups: u64, height: u64, row: u64, part: &mut [u64; 2]) {
+        RIGHT.row(trace, lookups, height, row, part);
+    }
+
+    fn power(&self, field: u32, a: &[u32], n: u32, out: &mut [u32]) -> u32 {
+        self.element("power", field, out, |field, out| RIGHT.power(field, a, n, out))
+    }
+
+    fn inverse(&self, field: u32, a: &[u32], out: &mut [u32]) -> u32 {
+        self.element("inverse", field, out, |field, out| RIGHT.inverse(field, a, out))
+    }
+}
+
+impl Misread {
+    /// A function of an element takes a field alone.
+    fn element(&self, function: &str, field: u32, out: &mut [u32], call: impl Fn(u32, &mut [u32]) -> u32) -> u32 {
+        let mut lent = out.to_vec();
+        let choices = Choices { field, ..Choices::of(Field::default()) };
+        let answer = self.call(function, choices, true, &mut lent, |choices, out| model::refused(call(choices.field, out)));
+        out.copy_from_slice(&lent);
+        answer.number
+    }
+}
+
+impl Wrapper for Misread {
+    fn with(&self, t: &Table, lookups: &[Lookup]) -> Table {
+        SAFE.with(t, lookups)
+    }
+
+    fn lookup_count(&self, t: &Table) -> usize {
+        SAFE.lookup_count(t)
+    }
+
+    fn sizes(&self, t: &Table) -> [u32; SIZES] {
+        SAFE.sizes(t)
+    }
+
+    fn generate(&self, t: &Table, challenges: &[Ext]) -> Refused<(Vec<u32>, Option<Ext>)> {
+        SAFE.generate(&t.over(self.field("wrapper: generate", t.field)), challenges)
+    }
+
+    fn generate_into(&self, t: &Table, challenges: &[u32], trace: &mut [u32]) -> Refused<Option<Ext>> {
+        SAFE.generate_into(&t.over(self.field("wrapper: generate_into", t.field)), challenges, trace)
+    }
+
+    fn constraints(&self, t: &Table, challenges: &[Ext], width: u64, trace: &[u32], terminal: Option<Ext>) -> Refused<()> {
+        SAFE.constraints(&t.over(self.field("wrapper: constraints", t.field)), challenges, width, trace, terminal)
+    }
+
+    fn constraints_on(&self, t: &Table, challenges: &[u32], width: u64, trace: &[u32], terminal: Option<Ext>) -> Refused<()> {
+        SAFE.constraints_on(&t.over(self.field("wrapper: constraints_on", t.field)), challenges, width, trace, terminal)
+    }
+
+    fn degree(&self, t: &Table, lookup: u64, transition: u32) -> Refused<u64> {
+        SAFE.degree(&t.over(self.field("wrapper: degree", t.field)), lookup, transition)
+    }
+
+    fn pack(&self, t: &Table, limit: u64) -> Refused<Table> {
+        let packed = SAFE.pack(&t.over(self.field("wrapper: pack", t.field)), limit)?;
+        Ok(packed.over(t.field).into_owned())
+    }
+
+    fn build(&self, t: &Table, interactions: &[Interaction]) -> Refused<Table> {
+        let built = SAFE.build(&t.over(self.field("wrapper: build", t.field)), interactions)?;
+        Ok(built.over(t.field).into_owned())
+    }
+
+    fn widths(&self, tables: &[Table]) -> Refused<u64> {
+        SAFE.widths(tables)
+    }
+
+    fn height_bound(&self, tables: &[Table], heights: &[u64]) -> Refused<()> {
+        SAFE.height_bound(&self.over("wrapper: height_bound", tables), heights)
+    }
+
+    fn terminals(&self, field: Field, terminals: &[Option<Ext>]) -> Refused<()> {
+        SAFE.terminals(self.field("wrapper: terminals", field), terminals)
+    }
+
+    fn prefixes(&self, field: Field, alpha: Ext, beta: Ext, width: u64, count: u64) -> Refused<Vec<Ext>> {
+        SAFE.prefixes(self.field("wrapper: prefixes", field), alpha, beta, width, count)
+    }
+
+    fn balance(&self, tables: &[Table], workspace: &mut [u32]) -> Refused<()> {
+        SAFE.balance(&self.over("wrapper: balance", tables), workspace)
+    }
+
+    fn balance_with_seed(&self, tables: &[Table], seed: u64, workspace: &mut [u32]) -> Refused<()> {
+        SAFE.balance_with_seed(&self.over("wrapper: balance_with_seed", tables), seed, workspace)
+    }
+
+    fn power(&self, field: Field, a: Ext, n: u32) -> Refused<Ext> {
+        SAFE.power(self.field("wrapper: power", field), a, n)
+    }
+
+    fn inverse(&self, field: Field, a: Ext) -> Refused<Ext> {
+        SAFE.inverse(self.field("wrapper: inverse", field), a)
+    }
+
+    fn count_bounded(&self, node: u32, weight: u32) -> [u32; 2] {
+        SAFE.count_bounded(node, weight)
+    }
+
+    fn count_provided(&self, node: u32) -> [u32; 2] {
+        SAFE.count_provided(node)
+    }
+
+    fn count_from_i32(&self, field: Field, nodes: &mut Vec<u32>, x: i32) -> Refused<[u32; 2]> {
+        SAFE.count_from_i32(self.field("wrapper: Count::from_i32", field), nodes, x)
+    }
+
+    fn count_negated(&self, field: Field, nodes: &mut Vec<u32>, of: [u32; 2]) -> Refused<[u32; 2]> {
+        SAFE.count_negated(field, nodes, of)
+    }
+
+    fn row(&self, trace: &[u32], lookups: u64, height: u64, row: u64) -> Vec<u32> {
+        SAFE.row(trace, lookups, height, row)
+    }
+
+    fn bytes_of(&self, words: &[u32]) -> Vec<u8> {
+        SAFE.bytes_of(words)
+    }
+
+    fn generate_bytes(&self, t: &Table<u8>, challenges: &[u8], trace: &mut [u8]) -> Refused<Option<Ext>> {
+        let t = Table { field: self.field("wrapper: bytes::generate_into", t.field), ..t.clone() };
+        SAFE.generate_bytes(&t, challenges, trace)
+    }
+
+    fn pack_bytes(&self, t: &Table<u8>, limit: u64) -> Refused<Table<u8>> {
+        let over = Table { field: self.field("wrapper: bytes::pack", t.field), ..t.clone() };
+        Ok(Table { field: t.field, ..SAFE.pack_bytes(&over, limit)? })
+    }
+
+    fn balance_bytes(&self, tables: &[Table], workspace: &mut [u8]) -> Refused<()> {
+        SAFE.balance_bytes(&self.over("wrapper: bytes::balance", tables), workspace)
+    }
+
+    fn balance_bytes_with_seed(&self, tables: &[Table], seed: u64, workspace: &mut [u8]) -> Refused<()> {
+        SAFE.balance_bytes_with_seed(&self.over("wrapper: bytes::balance_with_seed", tables), seed, workspace)
+    }
 }
 
 /// Random cases, a third of them damaged, and those at the limits that are small.
@@ -480,20 +990,32 @@ fn cases() -> Vec<Case> {
 
 #[test]
 fn the_model_itself_is_accepted() {
-    assert!(cases().iter().all(|case| compared(Nothing, case).is_none()));
+    assert!(cases().iter().all(|case| compared(&Nothing, case).is_none()));
 }
 
 #[test]
 fn each_mistake_is_found_and_made_small() {
-    let cases = cases();
+    // With known choices: that one is unknown helps to find none of these.
+    let known = |case: &Case| case.choices.known_with_rule().is_some();
+    let cases: Vec<Case> = cases().into_iter().filter(known).collect();
     for mistake in MISTAKES {
-        let found = cases.iter().find_map(|case| compared(*mistake, case).map(|found| (case, found.function)));
+        let found = cases.iter().find_map(|case| compared(mistake, case).map(|found| (case, found.function)));
         let (case, function) = found.unwrap_or_else(|| panic!("{mistake:?} is not found"));
-        let fails = |case: &Case| compared(*mistake, case).is_some_and(|other| other.function == function);
+        let fails = |case: &Case| compared(mistake, case).is_some_and(|other| other.function == function);
         let small = shrink(case, &fails);
         let words = small.tables.iter().map(|t| t.main.len() + t.nodes.len() + t.lookups.len()).sum::<usize>();
         // A full table of nodes is not made smaller.
         let most = if *mistake == NodeLimitForgotten { 3 * 1024 + 60 } else { 60 };
         assert!(fails(&small) && words <= most, "{mistake:?} in {words} words:\n{small}");
+    }
+}
+
+#[test]
+fn each_misread_choice_is_found() {
+    let cases = cases();
+    for wrong in slips() {
+        let Misread { function, slip } = wrong;
+        let found = cases.iter().find_map(|case| compared(&wrong, case));
+        assert_eq!(found.map(|found| found.function), Some(function), "{slip:?}");
     }
 }

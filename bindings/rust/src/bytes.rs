@@ -2,7 +2,7 @@
 //! into two rooms of words, which this module lends it.
 //!
 //! ```
-//! use delmatik::{Lookup, Refusal, Table, bytes};
+//! use delmatik::{Choices, Lookup, Refusal, Rule, Table, bytes};
 //!
 //! // The table of the crate's first example: one row, 3, looked up once.
 //! let lookup = Lookup { bus: Some(b"mem".to_vec()), weight: 1, tuples: vec![vec![0]], multiplicities: vec![1], ..Lookup::default() };
@@ -10,8 +10,8 @@
 //! let mut table = bytes::Table::from(&words);
 //! let challenges = bytes::of(&[5, 0, 0, 0, 0, 0, 0, 0]);
 //!
-//! let mut trace = [7; 36];
-//! let terminal = table.generate_into(&challenges, &mut trace).unwrap().unwrap();
+//! let (choices, mut trace) = (Choices::default(), [7; 36]);
+//! let terminal = table.generate_into(choices, Rule::One, &challenges, &mut trace).unwrap().unwrap();
 //! assert_eq!(terminal.0, [1006632961, 0, 0, 0]);
 //! assert_eq!(trace[16..20], 1006632961_u32.to_le_bytes());
 //! // Bytes past the trace are as they were.
@@ -20,10 +20,10 @@
 //! // Five bytes are no words: refusal 1, and nothing is written.
 //! table.main.push(0);
 //! let mut trace = [7; 36];
-//! assert_eq!(table.generate_into(&challenges, &mut trace), Err(Refusal { number: 1, details: [0; 3] }));
+//! assert_eq!(table.generate_into(choices, Rule::One, &challenges, &mut trace), Err(Refusal { number: 1, details: [0; 3] }));
 //! assert_eq!(trace, [7; 36]);
 //! ```
-use crate::{LookupTerminal, Refusal, call, drawn_seed, joined, sys};
+use crate::{Choices, LookupTerminal, Refusal, Rule, call, drawn_seed, joined, sys};
 
 /// A table's lists as bytes; the names are bytes in any case.
 #[derive(Clone, Debug, Default, PartialEq, Eq)]
@@ -77,12 +77,18 @@ fn room(lists: &[&[u8]]) -> Vec<u32> {
 
 impl Table {
     /// `generate_permutation`, into a lent buffer, which may be longer than the trace.
-    pub fn generate_into(&self, challenges: &[u8], trace: &mut [u8]) -> Result<Option<LookupTerminal>, Refusal> {
+    pub fn generate_into(
+        &self,
+        choices: Choices,
+        rule: Rule,
+        challenges: &[u8],
+        trace: &mut [u8],
+    ) -> Result<Option<LookupTerminal>, Refusal> {
         let Table { main, preprocessed, public_values, nodes, lookups, names, tuples, multiplicities, flags, elements, .. } = self;
         let mut read = room(&[main, preprocessed, public_values, nodes, lookups, tuples, multiplicities, flags, elements, challenges]);
         let mut written = room(&[&*trace]);
         let mut terminal = [0; 5];
-        call! { delmatik_generate_bytes(
+        call! { choices rule, delmatik_generate_bytes(
             self.main_width, self.height, self.pre_width, self.pre_height, [main], [preprocessed], [public_values], [nodes], [lookups],
             [names], [tuples], [multiplicities], [flags], [elements], [challenges], [mut trace], [mut read],
             [mut written], &mut terminal,
@@ -92,14 +98,14 @@ impl Table {
     }
 
     /// `pack_same_bus`: the table with its lookups merged up to this degree.
-    pub fn pack(&self, limit: u64) -> Result<Table, Refusal> {
+    pub fn pack(&self, choices: Choices, limit: u64) -> Result<Table, Refusal> {
         let Table { nodes, lookups, names, tuples, multiplicities, flags, elements, .. } = self;
         let mut packed = self.clone();
         let out = &mut packed;
         let mut read = room(&[nodes, lookups, tuples, multiplicities, flags, elements]);
         let mut written = room(&[&out.lookups, &out.tuples, &out.multiplicities, &out.flags, &out.elements]);
         let mut used = [0; 6];
-        call! { delmatik_pack_bytes(
+        call! { choices, delmatik_pack_bytes(
             limit, self.main_width, self.pre_width, self.public_values.len() / 4, [nodes], [lookups], [names], [tuples], [multiplicities],
             [flags], [elements], [mut out.lookups], [mut out.names], [mut out.tuples], [mut out.multiplicities], [mut out.flags],
             [mut out.elements], [mut read], [mut written], &mut used,
@@ -116,12 +122,12 @@ impl Table {
 }
 
 /// [`crate::balance`], with a seed drawn for the call: `sizes` are fourteen words for each table, as [`crate::Table::sizes`] gives them.
-pub fn balance(tables: &[Table], sizes: &[u8], workspace: &mut [u8]) -> Result<(), Refusal> {
-    balance_with_seed(tables, sizes, drawn_seed(), workspace)
+pub fn balance(choices: Choices, tables: &[Table], sizes: &[u8], workspace: &mut [u8]) -> Result<(), Refusal> {
+    balance_with_seed(choices, tables, sizes, drawn_seed(), workspace)
 }
 
 /// [`balance`] with any number as the seed, which changes the time and never the answer.
-pub fn balance_with_seed(tables: &[Table], sizes: &[u8], seed: u64, workspace: &mut [u8]) -> Result<(), Refusal> {
+pub fn balance_with_seed(choices: Choices, tables: &[Table], sizes: &[u8], seed: u64, workspace: &mut [u8]) -> Result<(), Refusal> {
     let (main, preprocessed) = (joined(tables, |t| &t.main), joined(tables, |t| &t.preprocessed));
     let (public_values, nodes) = (joined(tables, |t| &t.public_values), joined(tables, |t| &t.nodes));
     let (lookups, names, tuples) = (joined(tables, |t| &t.lookups), joined(tables, |t| &t.names), joined(tables, |t| &t.tuples));
@@ -129,7 +135,7 @@ pub fn balance_with_seed(tables: &[Table], sizes: &[u8], seed: u64, workspace: &
     let elements = joined(tables, |t| &t.elements);
     let mut read = room(&[&main, &preprocessed, &public_values, &nodes, &lookups, &tuples, &multiplicities, &flags, &elements, sizes]);
     let mut written = room(&[&*workspace]);
-    call! { delmatik_balance_bytes(
+    call! { choices, delmatik_balance_bytes(
         [main], [preprocessed], [public_values], [nodes], [lookups], [names], [tuples], [multiplicities], [flags], [elements], [sizes],
         seed, [mut workspace], [mut read], [mut written],
     ) }

@@ -4,7 +4,7 @@
 //! The functions on bytes are in the module `bytes`, with the feature of that name.
 //!
 //! ```
-//! use delmatik::{Lookup, Table};
+//! use delmatik::{Choices, Field, Lookup, Rule, Table};
 //!
 //! // One row, 3; one lookup on the bus "mem" with the tuple (3), multiplicity 1. Nodes: the column, then the constant 1.
 //! let table = Table {
@@ -16,11 +16,17 @@
 //! }
 //! .with(&[Lookup { bus: Some(b"mem".to_vec()), weight: 1, tuples: vec![vec![0]], multiplicities: vec![1], ..Lookup::default() }]);
 //!
-//! // Alpha 5, beta 0.
-//! let generated = table.generate(&[[5, 0, 0, 0], [0, 0, 0, 0]]).unwrap();
+//! // Field 1 and the cabinet's limits; alpha 5, beta 0. The fraction is 1 / 2.
+//! let choices = Choices::default();
+//! let generated = table.generate(choices, Rule::One, &[[5, 0, 0, 0], [0, 0, 0, 0]]).unwrap();
 //! let terminal = generated.terminal.unwrap();
 //! assert_eq!(terminal.0, [1006632961, 0, 0, 0]);
-//! assert_eq!(table.constraints(&[[5, 0, 0, 0], [0, 0, 0, 0]], 2, &generated.trace, Some(terminal)), Ok(()));
+//! assert_eq!(table.constraints(choices, Rule::One, &[[5, 0, 0, 0], [0, 0, 0, 0]], 2, &generated.trace, Some(terminal)), Ok(()));
+//!
+//! // Field 2.
+//! let choices = Choices { field: Field::KoalaBear, ..Choices::default() };
+//! let generated = table.generate(choices, Rule::One, &[[5, 0, 0, 0], [0, 0, 0, 0]]).unwrap();
+//! assert_eq!(generated.terminal.unwrap().0, [1065353217, 0, 0, 0]);
 //! ```
 #[cfg(feature = "bytes")]
 pub mod bytes;
@@ -28,8 +34,63 @@ pub mod sys;
 
 use std::hash::{BuildHasher, RandomState};
 
-/// Four words below p: c0 + c1 X + c2 X^2 + c3 X^3, with X^4 = 11.
+/// Four words below p: c0 + c1 X + c2 X^2 + c3 X^3. The prime p and the value of X^4 are those of the call's [`Field`].
 pub type Ext = [u32; 4];
+
+/// The field in which a call computes: all words of its tables and challenges are of it.
+#[derive(Clone, Copy, Debug, Default, PartialEq, Eq)]
+pub enum Field {
+    /// p = 2013265921 = 2^31 - 2^27 + 1, and X^4 = 11.
+    #[default]
+    BabyBear = 1,
+    /// p = 2130706433 = 2^31 - 2^24 + 1, and X^4 = 3.
+    KoalaBear = 2,
+}
+
+impl Field {
+    /// The prime that words of the field are below.
+    ///
+    /// ```
+    /// use delmatik::{Field, Refusal, inverse};
+    ///
+    /// // The prime of field 1 is a word of field 2, and not zero there.
+    /// let p = Field::BabyBear.prime();
+    /// assert_eq!(inverse(Field::BabyBear, [p, 0, 0, 0]), Err(Refusal { number: 2, details: [0; 3] }));
+    /// assert_ne!(inverse(Field::KoalaBear, [p, 0, 0, 0]), Ok([0; 4]));
+    /// assert!(p < Field::KoalaBear.prime());
+    /// ```
+    pub const fn prime(self) -> u32 {
+        match self {
+            Field::BabyBear => 2013265921,
+            Field::KoalaBear => 2130706433,
+        }
+    }
+}
+
+/// The limits that a call keeps; what passes one is refusal 1.
+#[derive(Clone, Copy, Debug, Default, PartialEq, Eq)]
+#[non_exhaustive]
+pub enum Profile {
+    /// The limits of docs/SPECIFICATION.md, section 11.
+    #[default]
+    Cabinet = 1,
+}
+
+/// How generation and constraints combine the words of a tuple.
+#[derive(Clone, Copy, Debug, Default, PartialEq, Eq)]
+#[non_exhaustive]
+pub enum Rule {
+    /// The first word goes with the highest power of beta, the last with beta^0.
+    #[default]
+    One = 1,
+}
+
+/// What every function that can refuse takes first. By default field 1 and the cabinet's limits.
+#[derive(Clone, Copy, Debug, Default, PartialEq, Eq)]
+pub struct Choices {
+    pub field: Field,
+    pub profile: Profile,
+}
 
 /// The sum of all fractions of a table. It is no challenge: hence a type of its own.
 #[derive(Clone, Copy, Debug, PartialEq, Eq)]
@@ -58,13 +119,13 @@ pub struct Lookup {
 /// A signed multiplicity (`Count`): the node that has it, and its weight, a bound on its magnitude.
 ///
 /// ```
-/// use delmatik::Count;
+/// use delmatik::{Choices, Count};
 ///
 /// // A node is three words: kind, a, b. The constant -2, and its negation.
-/// let mut nodes = vec![];
-/// let minus_two = Count::from_i32(&mut nodes, -2).unwrap();
+/// let (choices, mut nodes) = (Choices::default(), vec![]);
+/// let minus_two = Count::from_i32(choices, &mut nodes, -2).unwrap();
 /// assert_eq!(minus_two, Count { node: 0, weight: 2 });
-/// let two = minus_two.negated(&mut nodes).unwrap();
+/// let two = minus_two.negated(choices, &mut nodes).unwrap();
 /// assert_eq!(two, Count { node: 1, weight: 2 });
 /// assert_eq!(nodes, [0, 2013265919, 0, 12, 0, 0]);
 /// ```
@@ -119,12 +180,13 @@ pub struct Generated {
     pub terminal: Option<LookupTerminal>,
 }
 
-/// Calls an exported function with slices as pointers and lengths. Safe, since it reads and writes the lent slices alone, whatever they hold.
-/// Braces around the call keep its layout: rustfmt would give each argument a line.
+/// Calls an exported function with these choices, a rule after them where it takes one, and with slices as pointers and lengths. Safe, since
+/// it reads and writes the lent slices alone, whatever they hold. Braces around the call keep its layout: rustfmt would give each argument a
+/// line.
 macro_rules! call {
-    ($function:ident($($arguments:tt)*)) => {{
+    ($choices:ident $($rule:ident)?, $function:ident($($arguments:tt)*)) => {{
         let mut details = [0; 3];
-        let number = call!(@ $function details () $($arguments)*);
+        let number = call!(@ $function details ($choices.field as u32, $choices.profile as u32, $($rule as u32,)?) $($arguments)*);
         if number == 0 { Ok(()) } else { Err(Refusal { number, details }) }
     }};
     (@ $function:ident $details:ident ($($done:tt)*) [mut $slice:expr], $($rest:tt)*) => {
@@ -157,19 +219,19 @@ impl Count {
     }
 
     /// The count of a number: a constant is added to the table's nodes, three words each.
-    pub fn from_i32(nodes: &mut Vec<u32>, x: i32) -> Result<Count, Refusal> {
+    pub fn from_i32(choices: Choices, nodes: &mut Vec<u32>, x: i32) -> Result<Count, Refusal> {
         with_node(nodes, |nodes, used| {
             let mut count = [0; 2];
-            call! { delmatik_count_from_i32([mut nodes], used, x, &mut count,) }?;
+            call! { choices, delmatik_count_from_i32([mut nodes], used, x, &mut count,) }?;
             Ok(Count::of(count))
         })
     }
 
     /// The count with the other sign: a negation is added to the table's nodes, three words each.
-    pub fn negated(self, nodes: &mut Vec<u32>) -> Result<Count, Refusal> {
+    pub fn negated(self, choices: Choices, nodes: &mut Vec<u32>) -> Result<Count, Refusal> {
         with_node(nodes, |nodes, used| {
             let mut count = [0; 2];
-            call! { delmatik_count_negated([mut nodes], used, self.node, self.weight, &mut count,) }?;
+            call! { choices, delmatik_count_negated([mut nodes], used, self.node, self.weight, &mut count,) }?;
             Ok(Count::of(count))
         })
     }
@@ -256,16 +318,22 @@ impl Table {
     }
 
     /// `generate_permutation`: two challenges for each lookup, alpha then beta.
-    pub fn generate(&self, challenges: &[Ext]) -> Result<Generated, Refusal> {
+    pub fn generate(&self, choices: Choices, rule: Rule, challenges: &[Ext]) -> Result<Generated, Refusal> {
         let mut trace = vec![0; self.trace_words()];
-        let terminal = self.generate_into(challenges.as_flattened(), &mut trace)?;
+        let terminal = self.generate_into(choices, rule, challenges.as_flattened(), &mut trace)?;
         Ok(Generated { trace, terminal })
     }
 
     /// The same with the challenges as words, into a lent buffer, which may be longer than the trace.
-    pub fn generate_into(&self, challenges: &[u32], trace: &mut [u32]) -> Result<Option<LookupTerminal>, Refusal> {
+    pub fn generate_into(
+        &self,
+        choices: Choices,
+        rule: Rule,
+        challenges: &[u32],
+        trace: &mut [u32],
+    ) -> Result<Option<LookupTerminal>, Refusal> {
         let mut terminal = [0; 5];
-        call! { delmatik_generate(
+        call! { choices rule, delmatik_generate(
             self.main_width, self.height, self.pre_width, self.pre_height, [self.main], [self.preprocessed], [self.public_values],
             [self.nodes], [self.lookups], [self.names], [self.tuples], [self.multiplicities], [self.flags], [self.elements], [challenges],
             [mut trace], &mut terminal,
@@ -275,14 +343,30 @@ impl Table {
     }
 
     /// `eval_all` over every row of a trace of `width` elements a row.
-    pub fn constraints(&self, challenges: &[Ext], width: usize, trace: &[u32], terminal: Option<LookupTerminal>) -> Result<(), Refusal> {
-        self.constraints_on(challenges.as_flattened(), width, trace, terminal)
+    pub fn constraints(
+        &self,
+        choices: Choices,
+        rule: Rule,
+        challenges: &[Ext],
+        width: usize,
+        trace: &[u32],
+        terminal: Option<LookupTerminal>,
+    ) -> Result<(), Refusal> {
+        self.constraints_on(choices, rule, challenges.as_flattened(), width, trace, terminal)
     }
 
     /// The same with the challenges as words.
-    pub fn constraints_on(&self, challenges: &[u32], width: usize, trace: &[u32], terminal: Option<LookupTerminal>) -> Result<(), Refusal> {
+    pub fn constraints_on(
+        &self,
+        choices: Choices,
+        rule: Rule,
+        challenges: &[u32],
+        width: usize,
+        trace: &[u32],
+        terminal: Option<LookupTerminal>,
+    ) -> Result<(), Refusal> {
         let LookupTerminal([t0, t1, t2, t3]) = terminal.unwrap_or(LookupTerminal([0; 4]));
-        call! { delmatik_constraints(
+        call! { choices rule, delmatik_constraints(
             self.main_width, self.height, self.pre_width, self.pre_height, [self.main], [self.preprocessed], [self.public_values],
             [self.nodes], [self.lookups], [self.names], [self.tuples], [self.multiplicities], [self.flags], [self.elements], [challenges],
             width, [trace], terminal.is_some().into(), t0, t1, t2, t3,
@@ -290,9 +374,9 @@ impl Table {
     }
 
     /// `constraint_degree_with_transition` of one lookup.
-    pub fn degree(&self, lookup: usize, transition: u32) -> Result<u64, Refusal> {
+    pub fn degree(&self, choices: Choices, lookup: usize, transition: u32) -> Result<u64, Refusal> {
         let mut degree = 0;
-        call! { delmatik_degree(
+        call! { choices, delmatik_degree(
             self.main_width, self.pre_width, self.public_values.len(), [self.nodes], [self.lookups], [self.names], [self.tuples],
             [self.multiplicities], [self.flags], [self.elements], lookup, transition, &mut degree,
         ) }?;
@@ -300,11 +384,11 @@ impl Table {
     }
 
     /// `pack_same_bus`: the table with its lookups merged up to this degree.
-    pub fn pack(&self, limit: u64) -> Result<Table, Refusal> {
+    pub fn pack(&self, choices: Choices, limit: u64) -> Result<Table, Refusal> {
         let mut packed = self.clone();
         let Table { lookups, names, tuples, multiplicities, flags, elements, .. } = &mut packed;
         let mut used = [0; 6];
-        call! { delmatik_pack(
+        call! { choices, delmatik_pack(
             limit, self.main_width, self.pre_width, self.public_values.len(), [self.nodes], [self.lookups], [self.names], [self.tuples],
             [self.multiplicities], [self.flags], [self.elements], [mut lookups], [mut names], [mut tuples], [mut multiplicities],
             [mut flags], [mut elements], &mut used,
@@ -322,18 +406,19 @@ impl Table {
     /// `from_interactions`: the table with lookups of these interactions, locals first, then globals, then exclusives.
     ///
     /// ```
-    /// use delmatik::{Interaction, Part, Refusal, Table};
+    /// use delmatik::{Choices, Interaction, Part, Refusal, Table};
     ///
+    /// let choices = Choices::default();
     /// let table = Table { main_width: 1, nodes: vec![1, 0, 0], ..Table::default() };
     /// let part = |width, weight| Part { elements: vec![0; width], multiplicity: 0, weight };
     /// // A sum of weights is held at 2^32 - 1.
-    /// let built = table.build(&[Interaction::Local(vec![part(2, u32::MAX), part(2, 1)])]).unwrap();
+    /// let built = table.build(choices, &[Interaction::Local(vec![part(2, u32::MAX), part(2, 1)])]).unwrap();
     /// assert_eq!(built.lookups, [0, 0, u32::MAX, 0, 0, 2, 2, 0]);
     /// // The tuples of a local are of one width.
-    /// let refused = table.build(&[Interaction::Local(vec![part(2, 1), part(3, 1)])]);
+    /// let refused = table.build(choices, &[Interaction::Local(vec![part(2, 1), part(3, 1)])]);
     /// assert_eq!(refused, Err(Refusal { number: 6, details: [0, 2, 3] }));
     /// ```
-    pub fn build(&self, interactions: &[Interaction]) -> Result<Table, Refusal> {
+    pub fn build(&self, choices: Choices, interactions: &[Interaction]) -> Result<Table, Refusal> {
         let mut built = self.clone().with(&[]);
         let (mut kinds, mut words, mut weights) = ([0; 3], vec![], vec![]);
         let mut sorted: Vec<&Interaction> = interactions.iter().collect();
@@ -352,7 +437,7 @@ impl Table {
         built.lookups = vec![0; 8 * interactions.len()];
         let Table { lookups, names, tuples, multiplicities, flags, elements, .. } = &mut built;
         let ([locals, globals, exclusives], mut used) = (kinds, 0);
-        call! { delmatik_build(
+        call! { choices, delmatik_build(
             self.main_width, self.pre_width, self.public_values.len(), [self.nodes], locals, globals, exclusives, [words], [weights],
             [names], [tuples], [multiplicities], [flags], [elements], [mut lookups], &mut used,
         ) }?;
@@ -400,35 +485,35 @@ fn joined<T, W: Copy>(tables: &[T], list: fn(&T) -> &[W]) -> Vec<W> {
 }
 
 /// `check_bus_widths`: the widest bus tuple.
-pub fn widths(tables: &[Table]) -> Result<u64, Refusal> {
+pub fn widths(choices: Choices, tables: &[Table]) -> Result<u64, Refusal> {
     let (lookups, names, tuples) = (joined(tables, |t| &t.lookups), joined(tables, |t| &t.names), joined(tables, |t| &t.tuples));
     let size = |t: &Table| [word(t.lookup_count()), word(t.names.len()), word(t.tuples.len())];
     let sizes: Vec<u32> = tables.iter().flat_map(size).collect();
     let mut widest = 0;
-    call! { delmatik_widths([lookups], [names], [tuples], [sizes], &mut widest,) }?;
+    call! { choices, delmatik_widths([lookups], [names], [tuples], [sizes], &mut widest,) }?;
     Ok(widest)
 }
 
-/// The height bound: the sum of weight × height over all lookups is below p.
-pub fn height_bound(tables: &[Table], heights: &[usize]) -> Result<(), Refusal> {
+/// The height bound: the sum of weight × height over all lookups is below the prime of the field.
+pub fn height_bound(choices: Choices, tables: &[Table], heights: &[usize]) -> Result<(), Refusal> {
     let lookups = joined(tables, |t| &t.lookups);
     let counts: Vec<u32> = tables.iter().map(|t| word(t.lookup_count())).collect();
     let heights: Vec<u32> = heights.iter().map(|h| word(*h)).collect();
-    call! { delmatik_height_bound([lookups], [counts], [heights],) }
+    call! { choices, delmatik_height_bound([lookups], [counts], [heights],) }
 }
 
 /// `verify_terminal_sum`: absent ones are skipped.
-pub fn terminals(terminals: &[Option<LookupTerminal>]) -> Result<(), Refusal> {
+pub fn terminals(choices: Choices, terminals: &[Option<LookupTerminal>]) -> Result<(), Refusal> {
     let five = |t: &Option<LookupTerminal>| t.map_or([0; 5], |LookupTerminal([a, b, c, d])| [1, a, b, c, d]);
     let words: Vec<u32> = terminals.iter().flat_map(five).collect();
-    call! { delmatik_terminals([words],) }
+    call! { choices, delmatik_terminals([words],) }
 }
 
 /// `Challenges::new`: prefix i is alpha + (i + 1) × beta^width.
-pub fn prefixes(alpha: Ext, beta: Ext, width: usize, count: usize) -> Result<Vec<Ext>, Refusal> {
+pub fn prefixes(choices: Choices, alpha: Ext, beta: Ext, width: usize, count: usize) -> Result<Vec<Ext>, Refusal> {
     // More than 256 are refused whatever the room.
     let mut out = vec![0; 4 * count.min(257)];
-    call! { delmatik_prefixes([alpha], [beta], width, count, [mut out],) }?;
+    call! { choices, delmatik_prefixes([alpha], [beta], width, count, [mut out],) }?;
     Ok(out.chunks_exact(4).map(|e| e.try_into().unwrap()).collect())
 }
 
@@ -439,19 +524,19 @@ pub(crate) fn drawn_seed() -> u64 {
 
 /// `check_lookups`: the workspace, of ten words a slot, holds the last group visited afterwards. The seed of the search is drawn for each
 /// call, so that tuples chosen beforehand are spread like any others.
-pub fn balance(tables: &[Table], workspace: &mut [u32]) -> Result<(), Refusal> {
-    balance_with_seed(tables, drawn_seed(), workspace)
+pub fn balance(choices: Choices, tables: &[Table], workspace: &mut [u32]) -> Result<(), Refusal> {
+    balance_with_seed(choices, tables, drawn_seed(), workspace)
 }
 
 /// [`balance`] with any number as the seed, which changes the time and never the answer.
-pub fn balance_with_seed(tables: &[Table], seed: u64, workspace: &mut [u32]) -> Result<(), Refusal> {
+pub fn balance_with_seed(choices: Choices, tables: &[Table], seed: u64, workspace: &mut [u32]) -> Result<(), Refusal> {
     let sizes: Vec<u32> = tables.iter().flat_map(|t| t.sizes()).collect();
     let (main, preprocessed) = (joined(tables, |t| &t.main), joined(tables, |t| &t.preprocessed));
     let (public_values, nodes) = (joined(tables, |t| &t.public_values), joined(tables, |t| &t.nodes));
     let (lookups, names, tuples) = (joined(tables, |t| &t.lookups), joined(tables, |t| &t.names), joined(tables, |t| &t.tuples));
     let (multiplicities, flags) = (joined(tables, |t| &t.multiplicities), joined(tables, |t| &t.flags));
     let elements = joined(tables, |t| &t.elements);
-    call! { delmatik_balance(
+    call! { choices, delmatik_balance(
         [main], [preprocessed], [public_values], [nodes], [lookups], [names], [tuples], [multiplicities], [flags], [elements], [sizes],
         seed, [mut workspace],
     ) }
@@ -463,13 +548,13 @@ fn element(number: u32, out: Ext) -> Result<Ext, Refusal> {
 }
 
 /// `a` to the power `n`.
-pub fn power(a: Ext, n: u32) -> Result<Ext, Refusal> {
+pub fn power(field: Field, a: Ext, n: u32) -> Result<Ext, Refusal> {
     let mut out = [0; 4];
-    element(unsafe { sys::delmatik_power(a.as_ptr(), 4, n, out.as_mut_ptr(), 4) }, out)
+    element(unsafe { sys::delmatik_power(field as u32, a.as_ptr(), 4, n, out.as_mut_ptr(), 4) }, out)
 }
 
 /// 1 ÷ `a`, and 0 where `a` is 0.
-pub fn inverse(a: Ext) -> Result<Ext, Refusal> {
+pub fn inverse(field: Field, a: Ext) -> Result<Ext, Refusal> {
     let mut out = [0; 4];
-    element(unsafe { sys::delmatik_inverse(a.as_ptr(), 4, out.as_mut_ptr(), 4) }, out)
+    element(unsafe { sys::delmatik_inverse(field as u32, a.as_ptr(), 4, out.as_mut_ptr(), 4) }, out)
 }

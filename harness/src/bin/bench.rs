@@ -1,22 +1,25 @@
 //! Times the port's exported functions beside the same work in Rust, interleaved in one run, and compares every result: row evaluation beside the same
 //! loop; generation beside the crate's own source and beside a version tuned by hand (src/tuned.rs); constraints and balance beside the crate's
 //! source, balance beside a hash map as well, also on tuples that were chosen to be slow; and generation at growing heights. Measures how much
-//! stack they take, and how many instructions generation takes, as valgrind's callgrind counts them. Prints tables; `--only PART` runs one part:
-//! evaluation, generation, instructions, constraints, growth, balance, collisions or stack; `--rounds N` repeats long work N times in the place
-//! of 3.
+//! stack they take, and how many instructions generation takes, as valgrind's callgrind counts them. Generation, its instructions and
+//! constraints are measured in both fields, a table for each; all else is in field 1. Prints tables; `--only PART` runs one part: evaluation,
+//! generation, instructions, constraints, growth, balance, collisions or stack; `--rounds N` repeats long work N times in the place of 3.
 //!
 //!     cargo run --release --offline --features port --bin bench
 use std::collections::HashMap;
 use std::fmt::Debug;
 use std::process::Command;
 
-use delmatik::LookupTerminal;
+use delmatik::{Choices, LookupTerminal, Rule};
 use harness::clock::timed;
-use harness::plain::{self, Ext, P, Random};
-use harness::port::wrapped;
+use harness::plain::{BabyBear, Ext, Field, PrimeField, Random};
+use harness::port::{choices, wrapped};
 use harness::table::{Lookup, Table};
 use harness::tuned::{self, Product};
 
+/// The field of all parts that are measured in one.
+const FIELD: Field = Field::BabyBear;
+const P: u32 = FIELD.prime();
 const ROWS: usize = 1 << 16;
 /// Instructions are counted over fewer rows: callgrind takes some fifty times as long.
 const COUNTED_ROWS: usize = 1 << 12;
@@ -97,7 +100,7 @@ const SHAPES: [Shape; 6] = [
 
 impl Shape {
     /// Nodes: four columns, the constant 1, sums and products of a column and the node before, then 0.
-    fn table(&self, random: &mut Random, rows: usize) -> Table {
+    fn table(&self, random: &mut Random, field: Field, rows: usize) -> Table {
         let mut nodes: Vec<u32> = (0..4).flat_map(|k| [1, k * (self.columns / 4), 0]).collect();
         nodes.extend([0, 1, 0]);
         for n in 5..self.nodes {
@@ -118,22 +121,22 @@ impl Shape {
                 flags: if exclusive { (0..self.tuples).map(|k| if k == 0 { 4 } else { self.nodes }).collect() } else { vec![] },
             }
         };
-        let mut t = Table { main_width: self.columns.into(), height: rows as u64, nodes, ..Table::default() };
-        t.main = (0..self.columns as usize * rows).map(|_| random.below(P.into()) as u32).collect();
+        let mut t = Table { field, main_width: self.columns.into(), height: rows as u64, nodes, ..Table::default() };
+        t.main = (0..self.columns as usize * rows).map(|_| random.below(field.prime().into()) as u32).collect();
         t.set_records(&(0..self.lookups).map(lookup).collect::<Vec<Lookup>>());
         t
     }
 }
 
 /// What generation gives, by the port.
-fn generated(t: &delmatik::Table, challenges: &[Ext]) -> (Vec<u32>, Option<Ext>) {
-    let g = t.generate(challenges).unwrap();
+fn generated(choices: Choices, t: &delmatik::Table, challenges: &[Ext]) -> (Vec<u32>, Option<Ext>) {
+    let g = t.generate(choices, Rule::One, challenges).unwrap();
     (g.trace, g.terminal.map(|LookupTerminal(e)| e))
 }
 
 fn evaluation(random: &mut Random) {
     let shape = Shape { name: "", columns: 4, nodes: 20, lookups: 1, tuples: 0, width: 0, exclusive: 0 };
-    let t = shape.table(random, ROWS);
+    let t = shape.table(random, FIELD, ROWS);
     let port = wrapped(&t);
     let same_loop = || {
         let mut trace = vec![0; 8 * ROWS];
@@ -144,9 +147,9 @@ fn evaluation(random: &mut Random) {
                 values[i] = match node[0] {
                     0 => node[1],
                     1 => row[a],
-                    9 => plain::add_word(values[a], values[b]),
-                    10 => plain::sub_word(values[a], values[b]),
-                    _ => plain::mul_word(values[a], values[b]),
+                    9 => BabyBear::add_word(values[a], values[b]),
+                    10 => BabyBear::sub_word(values[a], values[b]),
+                    _ => BabyBear::mul_word(values[a], values[b]),
                 };
             }
             out[4] = std::hint::black_box(values)[1023];
@@ -154,7 +157,8 @@ fn evaluation(random: &mut Random) {
         trace
     };
     heading(&["row evaluation", "port", "the same loop in Rust", "ratio"]);
-    let times = race(ROWS, vec![Box::new(|| generated(&port, &[[1, 0, 0, 0], [0; 4]]).0), Box::new(same_loop)]);
+    let by_port = || generated(choices(FIELD), &port, &[[1, 0, 0, 0], [0; 4]]).0;
+    let times = race(ROWS, vec![Box::new(by_port), Box::new(same_loop)]);
     report("20 nodes, in a table with an empty lookup", &times, " ns");
 }
 
@@ -168,17 +172,20 @@ fn crate_generation<'a>(_t: &'a Table, _words: &'a [u32]) -> Option<Side<'a, (Ve
     None
 }
 
-fn challenges(random: &mut Random, count: u32) -> Vec<Ext> {
-    (0..2 * count).map(|_| random.element()).collect()
+fn challenges(random: &mut Random, field: Field, count: u32) -> Vec<Ext> {
+    (0..2 * count).map(|_| random.element(field)).collect()
 }
 
-const GENERATION: [&str; 8] = ["generation", "port", "tuned Rust", "ratio", "by norms too", "ratio", "the crate", "ratio"];
+fn generation_heading(field: Field) {
+    let name = format!("generation, field {}", field.number());
+    heading(&[&name, "port", "tuned Rust", "ratio", "by norms too", "ratio", "the crate", "ratio"]);
+}
 
 /// The port, the tuned version, with either way to invert, and the crate, where its source is at hand.
 fn generation_sides<'a>(t: &'a Table, port: &'a delmatik::Table, challenges: &'a [Ext]) -> Vec<Side<'a, (Vec<u32>, Option<Ext>)>> {
     let words = challenges.as_flattened();
     let mut sides: Vec<Side<'_, _>> = vec![
-        Box::new(|| generated(port, challenges)),
+        Box::new(|| generated(choices(t.field), port, challenges)),
         Box::new(move || tuned::generate(t, words, Product::Denominators)),
         Box::new(move || tuned::generate(t, words, Product::Norms)),
     ];
@@ -186,11 +193,11 @@ fn generation_sides<'a>(t: &'a Table, port: &'a delmatik::Table, challenges: &'a
     sides
 }
 
-fn generation(random: &mut Random) {
-    heading(&GENERATION);
+fn generation(random: &mut Random, field: Field) {
+    generation_heading(field);
     for shape in &SHAPES {
-        let t = shape.table(random, ROWS);
-        let (port, challenges) = (wrapped(&t), challenges(random, shape.lookups));
+        let t = shape.table(random, field, ROWS);
+        let (port, challenges) = (wrapped(&t), challenges(random, field, shape.lookups));
         report(shape.name, &race(ROWS, generation_sides(&t, &port, &challenges)), " ns");
     }
 }
@@ -203,9 +210,9 @@ fn counted_work(work: &mut dyn FnMut()) {
 }
 
 /// Runs one side of a shape once, for `instructions` to count; tells how many sides there are.
-fn count(random: &mut Random, shape: &Shape, side: usize) -> usize {
-    let t = shape.table(random, COUNTED_ROWS);
-    let (port, challenges) = (wrapped(&t), challenges(random, shape.lookups));
+fn count(random: &mut Random, field: Field, shape: &Shape, side: usize) -> usize {
+    let t = shape.table(random, field, COUNTED_ROWS);
+    let (port, challenges) = (wrapped(&t), challenges(random, field, shape.lookups));
     let mut sides = generation_sides(&t, &port, &challenges);
     let mut result = None;
     counted_work(&mut || result = Some(sides[side]()));
@@ -214,43 +221,43 @@ fn count(random: &mut Random, shape: &Shape, side: usize) -> usize {
 }
 
 /// The instructions of each side for a row. This program is run once more for each of them, under callgrind.
-fn instructions(random: &mut Random) {
-    heading(&GENERATION);
+fn instructions(random: &mut Random, field: Field) {
+    generation_heading(field);
     for (i, shape) in SHAPES.iter().enumerate() {
         let counted = |side: usize| {
             let run = Command::new("valgrind")
                 .args(["--tool=callgrind", "--callgrind-out-file=/dev/null", "--toggle-collect=counted_work"])
                 .arg(std::env::current_exe().unwrap())
-                .args(["--count", &format!("{i} {side}")])
+                .args(["--count", &format!("{} {i} {side}", field.number())])
                 .output()
                 .expect("valgrind is at hand");
             let said = String::from_utf8_lossy(&run.stderr).into_owned();
             let number = said.lines().find_map(|line| line.split_once("Collected : ")).and_then(|(_, n)| n.trim().parse::<f64>().ok());
             number.unwrap_or_else(|| panic!("callgrind said: {said}")) / COUNTED_ROWS as f64
         };
-        let sides = count(random, shape, 0);
+        let sides = count(random, field, shape, 0);
         report(shape.name, &(0..sides).map(counted).collect::<Vec<f64>>(), "");
     }
 }
 
 #[cfg(source)]
-fn constraints(random: &mut Random) {
-    heading(&["constraints", "port", "the crate", "ratio"]);
+fn constraints(random: &mut Random, field: Field) {
+    heading(&[&format!("constraints, field {}", field.number()), "port", "the crate", "ratio"]);
     for shape in &SHAPES {
-        let t = shape.table(random, ROWS);
-        let (port, challenges) = (wrapped(&t), challenges(random, shape.lookups));
+        let t = shape.table(random, field, ROWS);
+        let (port, choices, challenges) = (wrapped(&t), choices(field), challenges(random, field, shape.lookups));
         let words = challenges.as_flattened();
-        let (trace, terminal) = generated(&port, &challenges);
+        let (trace, terminal) = generated(choices, &port, &challenges);
         let columns = shape.lookups as usize + 1;
         let wrapped_terminal = terminal.map(LookupTerminal);
-        let by_port = || port.constraints(&challenges, columns, &trace, wrapped_terminal).is_ok();
+        let by_port = || port.constraints(choices, Rule::One, &challenges, columns, &trace, wrapped_terminal).is_ok();
         let by_crate = || harness::oracle::constraints(&t, words, columns as u64, &trace, terminal).unwrap().is_none();
         report(shape.name, &race(ROWS, vec![Box::new(by_port), Box::new(by_crate)]), " ns");
     }
 }
 
 #[cfg(not(source))]
-fn constraints(_random: &mut Random) {
+fn constraints(_random: &mut Random, _field: Field) {
     println!("\nthe crate: not run, since the source of p3-lookup 0.8.0 is not at hand");
 }
 
@@ -259,11 +266,11 @@ fn growth(random: &mut Random) {
     heading(&["generation, 4 lookups", "port", "tuned Rust", "ratio"]);
     for bits in (10..=20).step_by(2) {
         let rows = 1 << bits;
-        let t = SHAPES[1].table(random, rows);
-        let (port, challenges) = (wrapped(&t), challenges(random, SHAPES[1].lookups));
+        let t = SHAPES[1].table(random, FIELD, rows);
+        let (port, challenges) = (wrapped(&t), challenges(random, FIELD, SHAPES[1].lookups));
         let words = challenges.as_flattened();
-        let times =
-            race(rows, vec![Box::new(|| generated(&port, &challenges)), Box::new(|| tuned::generate(&t, words, Product::Denominators))]);
+        let by_port = || generated(choices(FIELD), &port, &challenges);
+        let times = race(rows, vec![Box::new(by_port), Box::new(|| tuned::generate(&t, words, Product::Denominators))]);
         report(&format!("2^{bits} rows"), &times, " ns");
     }
 }
@@ -287,7 +294,7 @@ fn opposites(random: &mut Random, rows: usize, width: u32) -> Table {
         multiplicities: vec![multiplicity],
         ..Lookup::default()
     };
-    let mut t = Shape { name: "", columns: 4, nodes: 5, lookups: 0, tuples: 0, width: 0, exclusive: 0 }.table(random, rows);
+    let mut t = Shape { name: "", columns: 4, nodes: 5, lookups: 0, tuples: 0, width: 0, exclusive: 0 }.table(random, FIELD, rows);
     let minus = t.add_node(12, 4, 0);
     t.set_records(&[side(4), side(minus)]);
     t
@@ -303,12 +310,13 @@ fn race_balance(name: &str, t: &Table, width: usize, with_crate: bool) {
         for sign in [1, P - 1] {
             for row in t.main.chunks_exact(4) {
                 let net = nets.entry(row[..width].to_vec()).or_default();
-                *net = plain::add_word(*net, sign);
+                *net = BabyBear::add_word(*net, sign);
             }
         }
         nets.values().all(|net| *net == 0)
     };
-    let mut sides: Vec<Side<'_, bool>> = vec![Box::new(|| delmatik::balance(&port, &mut workspace).is_ok()), Box::new(by_map)];
+    let mut sides: Vec<Side<'_, bool>> =
+        vec![Box::new(|| delmatik::balance(choices(FIELD), &port, &mut workspace).is_ok()), Box::new(by_map)];
     sides.extend(crate_balance(t).filter(|_| with_crate));
     report(name, &race(rows, sides), " ns");
 }
@@ -374,20 +382,21 @@ fn stack_of(work: impl FnOnce() + Send) -> usize {
 /// The largest lists that the limits allow, with a few rows.
 fn stack(random: &mut Random) {
     let shape = Shape { name: "", columns: 256, nodes: 400, lookups: 64, tuples: 1, width: 8, exclusive: 2 };
-    let mut t = shape.table(random, 8);
+    let mut t = shape.table(random, FIELD, 8);
     let mut records = t.records();
     records.iter_mut().for_each(|l| l.bus = Some(b"mem".to_vec()));
     t.set_records(&records);
-    let (port, challenges) = (wrapped(&t), challenges(random, shape.lookups));
-    let (trace, terminal) = generated(&port, &challenges);
+    let (port, choices, challenges) = (wrapped(&t), choices(FIELD), challenges(random, FIELD, shape.lookups));
+    let (trace, terminal) = generated(choices, &port, &challenges);
     let (mut buffer, mut workspace) = (trace.clone(), vec![0; 10 * 8 * 64]);
     heading(&["function", "stack"]);
     let line = |name: &str, bytes: usize| println!("| {name} | {:.0} KiB |", bytes as f64 / 1024.0);
-    line("generation", stack_of(|| assert!(port.generate_into(challenges.as_flattened(), &mut buffer).is_ok())));
-    let columns = shape.lookups as usize + 1;
-    line("constraints", stack_of(|| assert!(port.constraints(&challenges, columns, &trace, terminal.map(LookupTerminal)).is_ok())));
-    line("packing", stack_of(|| assert!(port.pack(3).is_ok())));
-    line("balance, 16 tables", stack_of(|| _ = delmatik::balance(&vec![port.clone(); 16], &mut workspace)));
+    let rule = Rule::One;
+    line("generation", stack_of(|| assert!(port.generate_into(choices, rule, challenges.as_flattened(), &mut buffer).is_ok())));
+    let (columns, terminal) = (shape.lookups as usize + 1, terminal.map(LookupTerminal));
+    line("constraints", stack_of(|| assert!(port.constraints(choices, rule, &challenges, columns, &trace, terminal).is_ok())));
+    line("packing", stack_of(|| assert!(port.pack(choices, 3).is_ok())));
+    line("balance, 16 tables", stack_of(|| _ = delmatik::balance(choices, &vec![port.clone(); 16], &mut workspace)));
 }
 
 /// The word after a flag, if it is there.
@@ -397,8 +406,9 @@ fn argument(name: &str) -> Option<String> {
 
 fn main() {
     let mut random = Random(0x9E3779B97F4A7C15);
-    if let Some((shape, side)) = argument("--count").as_deref().and_then(|which| which.split_once(' ')) {
-        count(&mut random, &SHAPES[shape.parse::<usize>().unwrap()], side.parse().unwrap());
+    if let Some(which) = argument("--count") {
+        let numbers: Vec<usize> = which.split(' ').map(|n| n.parse().unwrap()).collect();
+        count(&mut random, Field::numbered(numbers[0] as u32).unwrap(), &SHAPES[numbers[1]], numbers[2]);
         return;
     }
     let only = argument("--only");
@@ -408,13 +418,13 @@ fn main() {
         evaluation(&mut random);
     }
     if wanted("generation") {
-        generation(&mut random);
+        Field::ALL.into_iter().for_each(|field| generation(&mut random, field));
     }
     if wanted("instructions") {
-        instructions(&mut random);
+        Field::ALL.into_iter().for_each(|field| instructions(&mut random, field));
     }
     if wanted("constraints") {
-        constraints(&mut random);
+        Field::ALL.into_iter().for_each(|field| constraints(&mut random, field));
     }
     if wanted("growth") {
         growth(&mut random);

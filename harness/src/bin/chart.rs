@@ -1,5 +1,5 @@
 //! Draws the ratios of generation from docs/BENCHMARKS.md: a panel for each table of the chapter Generation that has a heading of its own
-//! and the columns that `bench` prints.
+//! and the columns that `bench` prints, two panels beside each other.
 //!
 //!     cargo run --release --offline --bin chart < ../docs/BENCHMARKS.md > ../docs/benchmarks.svg
 
@@ -9,15 +9,17 @@ const SIDES: [(&str, &str, &str); 3] = [
     ("#8fc1ee", "tuned Rust by norms", "the same, but it inverts by a running product of their norms, one word each, as the port does"),
     ("#dd9b3d", "p3-lookup 0.8.0", "the crate's own source over the harness's stand-ins; it evaluates expressions as trees"),
 ];
-/// Where the first panel begins, where the next begins from there, and how long a ratio of 1 is.
+/// Where the first panel begins, where the next begins from there, how many stand beside each other, and how long a ratio of 1 is.
 const LEFT: f64 = 190.0;
 const PANEL: f64 = 380.0;
+const BESIDE: usize = 2;
 const ONE: f64 = 130.0;
 /// The axis ends here.
 const MOST: f64 = 2.5;
-/// Where the bars begin, and the height of the three of a table.
+/// Where the bars begin, the height of the three of a table, and what lies between the bars of panels one above the other.
 const TOP: f64 = 150.0;
 const STEP: f64 = 60.0;
+const BETWEEN: f64 = 100.0;
 
 /// A table's heading, and the name and the ratios of each line.
 type Panel<'a> = (&'a str, Vec<(&'a str, [f64; 3])>);
@@ -47,16 +49,17 @@ fn bar(x: f64, y: f64, width: f64, height: f64, fill: &str) {
     println!(r#"<rect x="{x}" y="{y}" width="{width:.1}" height="{height}" fill="{fill}"/>"#);
 }
 
-fn line(x: f64, bottom: f64, attributes: &str) {
-    println!(r#"<line x1="{x}" y1="{}" x2="{x}" y2="{bottom}"{attributes}/>"#, TOP - 6.0);
+fn line(x: f64, top: f64, bottom: f64, attributes: &str) {
+    println!(r#"<line x1="{x}" y1="{}" x2="{x}" y2="{bottom}"{attributes}/>"#, top - 6.0);
 }
 
 const MIDDLE: &str = r#" text-anchor="middle""#;
 
 fn draw(panels: &[Panel]) {
-    let lines = &panels[0].1;
-    let bottom = TOP + STEP * lines.len() as f64;
-    let (width, height) = (LEFT + PANEL * panels.len() as f64, bottom + 66.0);
+    let rows: Vec<&[Panel]> = panels.chunks(BESIDE).collect();
+    let bars = |row: &[Panel]| STEP * row[0].1.len() as f64;
+    let bottom = TOP + rows.iter().map(|row| bars(row)).sum::<f64>() + BETWEEN * (rows.len() - 1) as f64;
+    let (width, height) = (LEFT + PANEL * rows[0].len() as f64, bottom + 66.0);
     println!(r#"<svg xmlns="http://www.w3.org/2000/svg" width="{width}" height="{height}" font-family="sans-serif" font-size="12">"#);
     bar(0.0, 0.0, width, height, "white");
     let title = "Generation, cost of a row: the port ÷ the other. Left of the line at 1 the port costs less.";
@@ -66,30 +69,42 @@ fn draw(panels: &[Panel]) {
         bar(16.0, y, 12.0, 12.0, fill);
         text(36.0, y + 10.0, "", &format!(r#"<tspan font-weight="bold">{name}</tspan>: {meaning}"#));
     }
-    for (k, (name, _)) in lines.iter().enumerate() {
+    let mut top = TOP;
+    for row in rows {
+        draw_row(row, top, top + bars(row));
+        top += bars(row) + BETWEEN;
+    }
+    let names = "A table is named by its lookups, the tuples of each with their width, and the nodes of its expressions.";
+    text(16.0, height - 12.0, "", names);
+    println!("</svg>");
+}
+
+/// The panels of one row, which have the same tables, with bars from `top` to `bottom`.
+fn draw_row(panels: &[Panel], top: f64, bottom: f64) {
+    for (k, (name, _)) in panels[0].1.iter().enumerate() {
         // Two lines of text: the tuples and nodes of a table are the second.
         let cut = name.rmatch_indices(", ").nth(1).map_or(0, |(at, _)| at + 1);
-        let y = TOP + STEP * k as f64;
+        let y = top + STEP * k as f64;
         text(16.0, y + 17.0, "", &name[..cut]);
         text(16.0, y + 33.0, "", name[cut..].trim_start());
     }
     for (p, (heading, lines)) in panels.iter().enumerate() {
         let left = LEFT + PANEL * p as f64;
-        text(left, TOP - 30.0, r#" font-size="13" font-weight="bold""#, heading);
-        text(left + ONE, TOP - 11.0, MIDDLE, "1: the same cost");
+        text(left, top - 30.0, r#" font-size="13" font-weight="bold""#, heading);
+        text(left + ONE, top - 11.0, MIDDLE, "1: the same cost");
         for half in 0..=(2.0 * MOST) as usize {
             let x = left + ONE * half as f64 / 2.0;
-            line(x, bottom, r##" stroke="#dddddd""##);
+            line(x, top, bottom, r##" stroke="#dddddd""##);
             text(x, bottom + 16.0, MIDDLE, &format!("{}", half as f64 / 2.0));
         }
         text(left, bottom + 34.0, "", "ratio, port ÷ other");
         let bars = || lines.iter().enumerate().flat_map(|(k, (_, r))| (0..3).map(move |i| (k, i, r[i])));
-        let place = |k: usize, i: usize| TOP + STEP * k as f64 + 16.0 * i as f64;
+        let place = |k: usize, i: usize| top + STEP * k as f64 + 16.0 * i as f64;
         for (k, i, ratio) in bars() {
             assert!(ratio < MOST, "{ratio} is beyond the axis");
             bar(left, place(k, i), ratio * ONE, 13.0, SIDES[i].0);
         }
-        line(left + ONE, bottom, r#" stroke="black" stroke-dasharray="4 3""#);
+        line(left + ONE, top, bottom, r#" stroke="black" stroke-dasharray="4 3""#);
         // The numbers stand on white, so that no line goes through them.
         for (k, i, ratio) in bars() {
             let x = left + ratio * ONE + 2.0;
@@ -97,9 +112,6 @@ fn draw(panels: &[Panel]) {
             text((x + 3.0).round(), place(k, i) + 11.0, "", &format!("{ratio:.2}"));
         }
     }
-    let names = "A table is named by its lookups, the tuples of each with their width, and the nodes of its expressions.";
-    text(16.0, height - 12.0, "", names);
-    println!("</svg>");
 }
 
 fn main() {

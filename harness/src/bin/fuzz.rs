@@ -1,6 +1,7 @@
-//! Calls every exported function with good, damaged and random words, in memory that notices reads and writes outside what is lent. After each call: the number is
-//! one of the function's, details are zero unless docs/SPECIFICATION.md names them, nothing beside the lists and no input was written, and refusals 1 to 12
-//! left all outputs as they were, the small ones too.
+//! Calls every exported function with good, damaged and random words, in both fields and with unknown choices, in memory that notices reads and
+//! writes outside what is lent. After each call: the number is one of the function's, and 1 where a choice is unknown; details are zero unless
+//! docs/SPECIFICATION.md names them; nothing beside the lists and no input was written; refusals 1 to 12 left all outputs as they were, the
+//! small ones too, and an unknown choice also the rooms.
 //!
 //!     cargo run --release --offline --features port --bin fuzz -- --cases 100000 --seed 1
 use std::collections::BTreeMap;
@@ -8,9 +9,10 @@ use std::process::ExitCode;
 use std::time::Instant;
 
 use delmatik::sys;
-use harness::generator::{self, Case};
-use harness::lent::Lender;
-use harness::plain::{P, Random};
+use harness::generator::{self, AT_PRIMES, Case};
+use harness::lent::{Kept, Lender};
+use harness::model::Choices;
+use harness::plain::{Field, Random};
 use harness::table::{Lookup, Table};
 
 /// How many details docs/SPECIFICATION.md names for a refusal.
@@ -26,7 +28,18 @@ fn named(number: u32) -> usize {
 struct Fuzz {
     lender: Lender,
     random: Random,
+    /// Of the case that is run.
+    choices: Choices,
     counts: BTreeMap<(&'static str, u32), u64>,
+}
+
+/// The choices that a function takes.
+#[derive(Clone, Copy)]
+enum Takes {
+    None,
+    Field,
+    FieldAndProfile,
+    Rule,
 }
 
 /// A size now and then replaced by an extreme one.
@@ -38,14 +51,16 @@ fn size(random: &mut Random, n: u64) -> usize {
 /// A list now and then with extreme words, cut, or grown.
 fn list(random: &mut Random, words: &[u32]) -> Vec<u32> {
     let mut words = words.to_vec();
-    let extremes = [0, 1, 8, 9, 64, 65, P - 1, P, P + 1, 1 << 31, u32::MAX - 7, u32::MAX];
+    let [a, b, c, d, e, f] = AT_PRIMES;
+    let extremes = [0, 1, 8, 9, 64, 65, a, b, c, d, e, f, 1 << 31, u32::MAX - 7, u32::MAX];
+    let count = extremes.len() as u32;
     match random.below(24) {
         0 => words.truncate(random.below(words.len() as u64 + 1) as usize),
         1 => words.extend((0..random.below(9)).map(|i| extremes[i as usize])),
-        2 => words.iter_mut().for_each(|w| *w = extremes[(*w % 12) as usize]),
+        2 => words.iter_mut().for_each(|w| *w = extremes[(*w % count) as usize]),
         3..=5 if !words.is_empty() => {
             let at = random.below(words.len() as u64) as usize;
-            words[at] = extremes[random.below(12) as usize];
+            words[at] = extremes[random.below(count.into()) as usize];
         }
         6 => words.iter_mut().for_each(|w| *w = random.draw() as u32),
         _ => (),
@@ -70,15 +85,18 @@ fn room(random: &mut Random, lists: &[Vec<u8>]) -> Vec<u32> {
     vec![5; if random.below(60) == 0 { n + 2 - random.below(3) as usize } else { n }]
 }
 
-/// Expands to a call: `[list]` is lent to be read, `[mut list]` to be written, `[room list]` to be written in any case, `(out list)` is a pointer to
-/// numbers that are written unless the call is refused; the three details come last.
+/// Expands to a call with the case's field and profile, and for a function after `ruled` its rule: `[list]` is lent to be read, `[mut list]` to
+/// be written, `[room list]` to be written unless a choice is unknown, `(out list)` is a pointer to numbers that are written unless the call
+/// is refused; the three details come last.
 macro_rules! call {
-    ($fuzz:ident, $function:ident($($arguments:tt)*)) => {{
+    ($fuzz:ident, ruled $function:ident($($arguments:tt)*)) => { call!($fuzz, Rule, $function(rule)($($arguments)*)) };
+    ($fuzz:ident, $function:ident($($arguments:tt)*)) => { call!($fuzz, FieldAndProfile, $function()($($arguments)*)) };
+    ($fuzz:ident, $takes:ident, $function:ident($($rule:ident)?)($($arguments:tt)*)) => {{
         let high = $fuzz.random.below(2) == 0;
         $fuzz.lender.start(high);
-        let details = $fuzz.lender.answer(&[7u64; 3]);
-        let number = call!(@ $fuzz $function details () $($arguments)*);
-        $fuzz.judge(stringify!($function), number)
+        let (details, choices) = ($fuzz.lender.answer(&[7u64; 3]), $fuzz.choices);
+        let number = call!(@ $fuzz $function details (choices.field, choices.profile, $(choices.$rule,)?) $($arguments)*);
+        $fuzz.judge(stringify!($function), Takes::$takes, number)
     }};
     (@ $fuzz:ident $function:ident $details:ident ($($done:tt)*) [mut $list:expr], $($rest:tt)*) => {{
         let lent = $fuzz.lender.write($list);
@@ -104,17 +122,30 @@ macro_rules! call {
 }
 
 impl Fuzz {
-    fn judge(&mut self, function: &'static str, number: u32) -> Result<(), String> {
+    fn judge(&mut self, function: &'static str, takes: Takes, number: u32) -> Result<(), String> {
         *self.counts.entry((function, number)).or_default() += 1;
-        if 20 < number {
-            return Err(format!("{function} answers {number}"));
+        let unknown = match takes {
+            Takes::None => false,
+            Takes::Field => Field::numbered(self.choices.field).is_none(),
+            Takes::FieldAndProfile => self.choices.known().is_none(),
+            Takes::Rule => self.choices.known_with_rule().is_none(),
+        };
+        if 20 < number || unknown && number != 1 {
+            return Err(format!("{function} answers {number} to {:?}", self.choices));
         }
         // The details are list 0.
         let details = self.lender.list(0).as_chunks::<8>().0;
         if details[named(number)..].iter().any(|d| *d != [0; 8]) {
             return Err(format!("{function}, {number}: details {details:?}"));
         }
-        self.lender.check((1..=12).contains(&number)).map_err(|text| format!("{function}, {number}: {text}"))
+        let kept = if unknown {
+            Kept::OutputsAndRooms
+        } else if (1..=12).contains(&number) {
+            Kept::Outputs
+        } else {
+            Kept::Nothing
+        };
+        self.lender.check(kept).map_err(|text| format!("{function}, {number}: {text}"))
     }
 
     /// The functions of one table.
@@ -124,7 +155,7 @@ impl Fuzz {
         let [width, height, pre_width, pre_height] = [t.main_width, t.height, t.pre_width, t.pre_height].map(|n| size(r, n));
         let challenges = list(r, &case.challenges);
         let trace = list(r, &vec![9; case.buffer.min(1 << 14)]);
-        call!(self, delmatik_generate(
+        call!(self, ruled delmatik_generate(
             width, height, pre_width, pre_height, [&t.main], [&t.preprocessed], [&t.public_values], [&t.nodes], [&t.lookups], [&t.names],
             [&t.tuples], [&t.multiplicities], [&t.flags], [&t.elements], [&challenges], [mut &trace], (out &[7u32; 5]),
         ))?;
@@ -144,40 +175,17 @@ impl Fuzz {
         ];
         let b = words.map(|list| bytes(r, list));
         let (read, written) = (room(r, &b[..10]), room(r, &b[10..]));
-        call!(self, delmatik_generate_bytes(
+        call!(self, ruled delmatik_generate_bytes(
             width, height, pre_width, pre_height, [&b[0]], [&b[1]], [&b[2]], [&b[3]], [&b[4]], [&t.names], [&b[5]], [&b[6]], [&b[7]],
             [&b[8]], [&b[9]], [mut &b[10]], [room &read], [room &written], (out &[7u32; 5]),
         ))?;
         let r = &mut self.random;
         let columns = size(r, (t.lookup_count() as u64 + 1).wrapping_add(case.extra_columns));
         let [present, c0, c1, c2, c3] = [1, 1, 1, 1, 1].map(|n| size(r, n) as u32);
-        call!(
-            self,
-            delmatik_constraints(
-                width,
-                height,
-                pre_width,
-                pre_height,
-                [&t.main],
-                [&t.preprocessed],
-                [&t.public_values],
-                [&t.nodes],
-                [&t.lookups],
-                [&t.names],
-                [&t.tuples],
-                [&t.multiplicities],
-                [&t.flags],
-                [&t.elements],
-                [&challenges],
-                columns,
-                [&trace],
-                present,
-                c0,
-                c1,
-                c2,
-                c3,
-            )
-        )?;
+        call!(self, ruled delmatik_constraints(
+            width, height, pre_width, pre_height, [&t.main], [&t.preprocessed], [&t.public_values], [&t.nodes], [&t.lookups], [&t.names],
+            [&t.tuples], [&t.multiplicities], [&t.flags], [&t.elements], [&challenges], columns, [&trace], present, c0, c1, c2, c3,
+        ))?;
         let r = &mut self.random;
         let (lookup, transition, publics) = (r.below(4) as usize, size(r, case.transition) as u32, size(r, t.public_values.len() as u64));
         call!(
@@ -319,21 +327,21 @@ impl Fuzz {
         let (a, out) = (list(r, &case.challenge(0)), list(r, &[9; 4]));
         self.start();
         let (lent, room) = (self.lender.read(&a), self.lender.write(&out));
-        let number = unsafe { sys::delmatik_power(lent.0, lent.1, case.exponent, room.0, room.1) };
-        self.judge("delmatik_power", number)?;
+        let number = unsafe { sys::delmatik_power(self.choices.field, lent.0, lent.1, case.exponent, room.0, room.1) };
+        self.judge("delmatik_power", Takes::Field, number)?;
         self.start();
         let (lent, room) = (self.lender.read(&a), self.lender.write(&out));
-        let number = unsafe { sys::delmatik_inverse(lent.0, lent.1, room.0, room.1) };
-        self.judge("delmatik_inverse", number)?;
+        let number = unsafe { sys::delmatik_inverse(self.choices.field, lent.0, lent.1, room.0, room.1) };
+        self.judge("delmatik_inverse", Takes::Field, number)?;
 
         self.start();
         let count = self.lender.write(&[7u32; 2]).0;
         unsafe { sys::delmatik_count_bounded(node, weight, count.cast()) };
-        self.judge("delmatik_count_bounded", 0)?;
+        self.judge("delmatik_count_bounded", Takes::None, 0)?;
         self.start();
         let count = self.lender.write(&[7u32; 2]).0;
         unsafe { sys::delmatik_count_provided(node, count.cast()) };
-        self.judge("delmatik_count_provided", 0)?;
+        self.judge("delmatik_count_provided", Takes::None, 0)?;
 
         let r = &mut self.random;
         let trace = vec![9u32; case.buffer.min(1 << 14)];
@@ -346,7 +354,7 @@ impl Fuzz {
         if start.checked_add(words).is_none_or(|end| (trace.len() as u64) < end) {
             return Err(format!("delmatik_row: words {start} and the {words} after it of {}", trace.len()));
         }
-        self.judge("delmatik_row", 0)
+        self.judge("delmatik_row", Takes::None, 0)
     }
 
     /// Before a function that has no details: they are zeros.
@@ -389,7 +397,8 @@ fn main() -> ExitCode {
     let (cases, seed) = (argument("--cases", 100_000), argument("--seed", 1));
     let start = Instant::now();
     let mut source = Random(seed.wrapping_mul(0x9E3779B97F4A7C15) | 1);
-    let mut fuzz = Fuzz { lender: Lender::new(32), random: Random(source.draw() | 1), counts: BTreeMap::new() };
+    let random = Random(source.draw() | 1);
+    let mut fuzz = Fuzz { lender: Lender::new(32), random, choices: Choices::of(Field::default()), counts: BTreeMap::new() };
     for i in 0..cases {
         let mut case = generator::case(&mut source);
         if i % 2 == 0 {
@@ -399,6 +408,7 @@ fn main() -> ExitCode {
         if case.tables.iter().any(|t| 100_000 < t.main.len().max(t.preprocessed.len())) {
             continue;
         }
+        fuzz.choices = case.choices;
         let parts = [Fuzz::table, Fuzz::building, Fuzz::tables, Fuzz::words, Fuzz::others];
         if let Err(text) = parts.iter().try_for_each(|part| part(&mut fuzz, &case)) {
             println!("case {i} of seed {seed}: {text}\n{case}");

@@ -1,5 +1,5 @@
 //! Compares the model of the specification with the crate's own source, and with the port where it is linked, on random, damaged and
-//! boundary tables. Prints what was run; exits with 1 at the first disagreement, made small, and with 2 where there is nothing
+//! boundary tables in both fields. Prints what was run; exits with 1 at the first disagreement, made small, and with 2 where there is nothing
 //! to compare.
 //!
 //!     cargo run --release --offline --bin oracle -- --tables 100000 --seed 1
@@ -59,6 +59,10 @@ fn main() -> ExitCode {
 }
 
 fn print_counts(tally: &Tally) {
+    for (field, count) in &tally.fields {
+        println!("{count} tables in field {}", field.number());
+    }
+    println!("{} cases with an unknown field, profile or rule", tally.unknown);
     println!("function, number: the same / another of several faults first / the crate has no such limit / not for the crate");
     let mut numbers: Vec<(&str, u32)> = tally.counts.keys().map(|(function, number, _)| (*function, *number)).collect();
     numbers.dedup();

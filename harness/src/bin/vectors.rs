@@ -8,9 +8,12 @@ use std::process::ExitCode;
 use harness::compare::{self, Compared};
 use harness::exports::{Exports, Model, built_words, marked};
 use harness::generator::{self, Case};
-use harness::model::{self, Answer};
-use harness::plain::{Ext, P, Random, lift};
+use harness::model::{self, Answer, Choices};
+use harness::plain::{Ext, Field, Random, lift};
 use harness::table::{Interaction, Lookup, Part, Plan, Table};
+
+const P: u32 = Field::BabyBear.prime();
+const SECOND: u32 = Field::KoalaBear.prime();
 
 /// What all that is lent to be written holds before a call; a refusal by 1 to 12 leaves it so.
 const BEFORE: u32 = 7;
@@ -21,6 +24,19 @@ struct Text(String);
 impl Text {
     fn case(&mut self, title: &str) {
         writeln!(self.0, "case {title}").unwrap();
+    }
+
+    /// A case in the second field, by the other choices of every case before.
+    fn case_in_second(&mut self, title: &str) {
+        self.case(&format!("field 2: {title}"));
+        self.choices([2, 1, 1]);
+    }
+
+    /// Field, profile and rule, where they are not all 1.
+    fn choices(&mut self, choices: [u32; 3]) {
+        if choices != [1; 3] {
+            self.list("choices", &choices);
+        }
     }
 
     fn list<T: Display>(&mut self, key: &str, numbers: &[T]) {
@@ -192,9 +208,14 @@ fn main() -> ExitCode {
     counts(&mut text);
     rows(&mut text);
     elements(&mut text);
-    text.0.push_str("# Answers of p3-lookup 0.8.0.\n");
+    text.0.push_str("# The second field, and unknown choices, with the answers that follow from docs/SPECIFICATION.md.\n");
+    second_field(&mut text);
+    second_field_refusals(&mut text);
+    unknown(&mut text);
+    text.0.push_str("# Answers of p3-lookup 0.8.0, in either field.\n");
     for (i, case) in cases().iter().enumerate() {
         text.case(&format!("oracle {i}"));
+        text.choices([case.field().number(), 1, 1]);
         oracle(&mut text, case);
     }
     print!("{}", text.0);
@@ -525,6 +546,115 @@ fn elements(text: &mut Text) {
     text.element(&[P, 0, 0, 0], &[BEFORE; 4], "power", 2, &[4]);
 }
 
+/// What the prime and the value of X^4 decide.
+fn second_field(text: &mut Text) {
+    // 1 / 2, 1 / 3 and 1 / 2013265921.
+    let (half, third, inverse) = (1065353217, 710235478, 913159918);
+    text.case_in_second("X^3 * X = 3");
+    text.element(&[0, 1, 0, 0], &lift(3), "power", 0, &[4]);
+    text.case_in_second("the inverse of X^3");
+    text.element(&[0, 0, 0, 1], &[0, third, 0, 0], "inverse", 0, &[]);
+    text.case_in_second("the inverse of 2013265921");
+    text.element(&lift(P), &lift(inverse), "inverse", 0, &[]);
+    text.case_in_second("rows 3, 4 with multiplicity 1, alpha 5");
+    text.table(&table(&[3, 4], &[once()]));
+    text.list("challenges", &words(&[lift(5), lift(0)]));
+    let trace = words(&[0, half, half, 1].map(lift));
+    text.generate(ACCEPTED, &trace, Some(lift(half + 1)));
+    text.constraints(ACCEPTED, 2, &trace, Some(lift(half + 1)));
+    text.constraints(refused(17, [1, 3, 0]), 2, &trace, Some(lift(half + 2)));
+    text.case_in_second("alpha 2013265921, tuple (2013265920)");
+    text.table(&table(&[P - 1], &[once()]));
+    text.list("challenges", &words(&[lift(P), lift(0)]));
+    text.generate(ACCEPTED, &words(&[0, 1].map(lift)), Some(lift(1)));
+    text.case_in_second("beta X, W 4");
+    text.prefixes((lift(1), [0, 1, 0, 0]), 4, 2, ACCEPTED, &[lift(4), lift(7)]);
+    let before = [1, 0, 0, 0, 1, 0, BEFORE, BEFORE, BEFORE, BEFORE];
+    for (x, word, weight) in [(-1, SECOND - 1, 1), (2013265921, P, P), (i32::MIN, 2113929218, 1 << 31)] {
+        text.case_in_second(&format!("count of {x}"));
+        text.count(&before, &[&before[..6], &[0, word, 0, BEFORE]].concat(), [2, weight]);
+        text.count_of(2, x, ACCEPTED);
+    }
+    for (title, other, answer) in [("1 and -1", SECOND - 1, ACCEPTED), ("1 and 2013265920", P - 1, refused(20, [0; 3]))] {
+        text.case_in_second(&format!("terminals {title}"));
+        text.list("given", &[1, 1, 0, 0, 0, 1, other, 0, 0, 0]);
+        text.answer("terminals", answer, &[]);
+    }
+    // (3) with multiplicities 1 and -1 of either field.
+    for (minus_one, answer, net) in [(SECOND - 1, ACCEPTED, 0), (P - 1, refused(18, [0, 0, P.into()]), P)] {
+        text.case_in_second(&format!("balance of (3) once, and {minus_one} times"));
+        let mut t = table(&[3], &[once(), lookup(&[&[0]], &[3], None)]);
+        t.nodes[10] = minus_one;
+        text.table(&t);
+        text.balance(answer, &[1, 3, 0, 0, 0, 0, 0, 0, 0, net]);
+    }
+}
+
+/// A word 2013265921 is below the second prime, and so is a height sum; 2130706433 is not.
+fn second_field_refusals(text: &mut Text) {
+    for (word, answer) in [(P, ACCEPTED), (SECOND, refused(2, [0; 3]))] {
+        let mut t = table(&[3], &[once()]);
+        t.nodes[10] = word;
+        text.case_in_second(&format!("a constant {word}"));
+        text.table(&t);
+        text.answer("degree", answer, &[0, 0, if answer.number == 0 { 2 } else { BEFORE.into() }]);
+        text.pack(&t, answer, 3, &t.records());
+        let (lookups, used) = if answer.number == 0 { (vec![1, 3, 1, 0, 0, 1, 1, 0], 8) } else { (vec![BEFORE; 8], BEFORE as usize) };
+        text.build(&[global(part(1, 1))], answer, &lookups, used);
+    }
+    let t = table(&[3], &[once()]);
+    text.case_in_second("inverse, 2: a word 2130706433");
+    text.element(&[1, 2, SECOND, 4], &[BEFORE; 4], "inverse", 2, &[]);
+    text.case_in_second("2: challenge word 2130706433");
+    text.table(&t);
+    text.list("challenges", &[SECOND, 0, 0, 0, 0, 0, 0, 0]);
+    text.generate(refused(2, [0; 3]), &[BEFORE; 8], None);
+    text.case_in_second("2: trace word 2130706433");
+    text.table(&t);
+    text.list("challenges", &words(&[lift(5), lift(0)]));
+    text.constraints(refused(2, [0; 3]), 2, &[0, 0, 0, 0, SECOND, 0, 0, 0], Some(lift(0)));
+    for (weight, answer) in [(P, ACCEPTED), (SECOND - 1, ACCEPTED), (SECOND, refused(19, [SECOND.into(), 0, 0]))] {
+        let t = table(&[3], &[Lookup { weight, ..once() }]);
+        text.case_in_second(&format!("weight {weight}, height 1"));
+        text.table(&t);
+        text.bound(&[t], &[1], answer);
+    }
+}
+
+/// An unknown field or profile is 1 at every function that can refuse, an unknown rule where there is one; nothing is written.
+fn unknown(text: &mut Text) {
+    let (one, t) = (refused(1, [0; 3]), table(&[3], &[once()]));
+    for choices in [[0, 1, 1], [3, 1, 1], [1, 0, 1], [1, 2, 1], [1, 1, 2]] {
+        let [field, profile, rule] = choices;
+        text.case(&format!("1: field {field}, profile {profile}, rule {rule}"));
+        text.choices(choices);
+        text.table(&t);
+        text.list("challenges", &words(&[lift(5), lift(0)]));
+        text.generate(one, &[BEFORE; 8], None);
+        text.constraints(one, 2, &[0; 8], Some(lift(0)));
+        if rule != 1 {
+            text.answer("degree", ACCEPTED, &[0, 0, 2]);
+            continue;
+        }
+        text.answer("degree", one, &[0, 0, BEFORE.into()]);
+        text.pack(&t, one, 3, &[]);
+        text.widths(std::slice::from_ref(&t), one, 0);
+        text.bound(std::slice::from_ref(&t), &[1], one);
+        text.balance(one, &[BEFORE; 10]);
+        text.list("given", &[0; 5]);
+        text.answer("terminals", one, &[]);
+        text.prefixes((lift(1), lift(2)), 3, 1, one, &[[BEFORE; 4]]);
+        text.count(&[1, 0, 0, BEFORE, BEFORE, BEFORE], &[1, 0, 0, BEFORE, BEFORE, BEFORE], [BEFORE; 2]);
+        text.count_of(1, 1, one);
+        text.negated(1, [0, 1], one);
+        text.build(&[global(part(1, 1))], one, &[BEFORE; 8], BEFORE as usize);
+        if field != 1 {
+            text.element(&lift(2), &[BEFORE; 4], "inverse", 1, &[]);
+            text.element(&lift(2), &[BEFORE; 4], "power", 1, &[4]);
+        }
+    }
+}
+
 // The crate's answers.
 
 /// The answer, if the crate gives the same, or panics for the same reason.
@@ -565,7 +695,7 @@ fn oracle(text: &mut Text, case: &Case) {
 fn built_by_the_crate(text: &mut Text, t: &Table, interactions: &[Interaction], answer: Answer) {
     let plan = Plan::of(interactions);
     let (mut lookups, mut used) = (vec![BEFORE; built_words(&plan)], BEFORE.into());
-    Model.build(t, &plan, &mut lookups, &mut used);
+    Model.build(Choices::of(t.field), t, &plan, &mut lookups, &mut used);
     text.build(interactions, answer, &lookups, used as usize);
 }
 
@@ -578,7 +708,7 @@ fn of_all_tables(text: &mut Text, case: &Case) {
     }
     if let Some(answer) = confirmed(compare::prefixes(case)) {
         let pair = (case.challenge(0), case.challenge(1));
-        let (_, prefixes) = model::prefixes(pair.0, pair.1, case.prefix_width, case.prefixes);
+        let (_, prefixes) = model::prefixes(case.field(), pair.0, pair.1, case.prefix_width, case.prefixes);
         text.prefixes(pair, case.prefix_width, case.prefixes, answer, &prefixes);
     }
     if let Some(answer) = confirmed(compare::balance(case)) {
@@ -600,12 +730,12 @@ fn changed(text: &mut Text, case: &Case) {
     }
 }
 
-/// Random cases that are small enough to be read.
+/// Random cases that are small enough to be read, in the two fields by turns.
 fn cases() -> Vec<Case> {
     let mut random = Random(0x5DEECE66D);
     let mut cases = vec![];
     while cases.len() < 60 {
-        let case = Case { workspace: 45, ..generator::case(&mut random) };
+        let case = Case { workspace: 45, ..generator::case_in(&mut random, Field::ALL[cases.len() % 2]) };
         let small = |t: &Table| t.height <= 4 && t.main.len() <= 24 && t.node_count() <= 24 && t.lookup_count() <= 4;
         if 0 < case.tables[0].lookup_count() && case.tables.iter().all(small) && case.prefixes <= 4 && case.buffer <= 256 {
             cases.push(case);
