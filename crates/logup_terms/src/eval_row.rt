@@ -1,8 +1,9 @@
 // The constraints of a trace, row by row: those of the lookups, then the accumulator's, and the step's or the terminal's.
 ghost use mathlib.Core.Path.{_≡_};
 ghost use mathlib.Core.Bool.{cond};
+ghost use mathlib.Core.List.{List};
 ghost use mathlib.Core.Option.{none};
-ghost use Prim.Native.Nat.{_<_, _≤_, _+_, _*_};
+ghost use Prim.Native.Nat.{ℕ, _<_, _≤_, _+_, _*_};
 ghost use lib.Dec.{eqb, ltb};
 ghost use lib.ListN.{length};
 ghost use Rattle.field.specs.inner.Requires.{KnownPrime};
@@ -23,6 +24,7 @@ use expression::refusal;
 use expression::refusal::Refusal;
 use expression::refusal::Verdict;
 use expression::sizes::Shape;
+use expression::words::clear;
 use expression_eval::traits;
 use field::extension;
 use field::extension::Ext;
@@ -223,15 +225,10 @@ fn eval_accumulator(
     )
 }
 
-// Row r of the trace, whose first element is number `base`: its node values, then its constraints.
-pub fn eval_row(
+// The constraints of row r, whose first element is number `base`; `vals` are its node values.
+fn eval_row(
     p: u32,
     w: u32,
-    shape: Shape,
-    main: &[u32],
-    preprocessed: &[u32],
-    public_values: &[u32],
-    nodes: &[u32],
     lookups: &[u32],
     tuples: &[u32],
     multiplicities: &[u32],
@@ -239,31 +236,22 @@ pub fn eval_row(
     elements: &[u32],
     challenges: &[u32],
     table: &[u32],
+    vals: &[u32],
     width: usize,
     words: &[u32],
     terminal: LookupTerminal,
-    r: usize,
     base: usize,
+    r: usize,
+    height: usize,
 ) -> Verdict
-    ghost { Source }
-    requires { λ s. ⌜ lent-source shape (now main) (now preprocessed) (now «public_values») (now nodes) (now lookups) (now tuples) (now multiplicities) (now flags) (now elements) (now challenges) ≡ s ⌝ }
-    requires { λ s. ⌜ ColumnInputs p w (s .lookups) (s .challenges) (now table) × Evaluable p (s .traces) (s .nodes)
-        × TraceInputs p (shape .height) width (lookup-count (s .lookups .lookups)) (now words) × Word4 p (ext-words (terminal .0))
-        × (r < shape .height) × (base ≡ r * width) × (lookup-count (s .lookups .lookups) ≤ 64) ⌝ }
-    ensures { λ s v. ⌜ refusal v ≡ row-verdict p w (s .lookups) (s .challenges) (node-values p s) width (now (words .entry)) (ext-words (terminal .0)) (shape .height) r ⌝ }
+    ghost { RowSource }
+    requires { λ s. ⌜ lent-row (now lookups) (now tuples) (now multiplicities) (now flags) (now elements) (now challenges) (now vals) ≡ s ⌝ }
+    requires { λ s. ⌜ ColumnInputs p w (s .lookups) (s .challenges) (now table) × Below p (s .vals)
+        × TraceInputs p height width (lookup-count (s .lookups .lookups)) (now words) × Word4 p (ext-words (terminal .0))
+        × (r < height) × (base ≡ r * width) × (lookup-count (s .lookups .lookups) ≤ 64) ⌝ }
+    ensures { λ s v. ⌜ ((values : ℕ → List ℕ) → values r ≡ s .vals
+        → refusal v ≡ row-verdict p w (s .lookups) (s .challenges) values width (now (words .entry)) (ext-words (terminal .0)) height r) ⌝ }
 {
-    let mut vals = [0u32; 1024];
-    traits::row_values(
-        p,
-        shape,
-        main,
-        preprocessed,
-        public_values,
-        nodes,
-        r,
-        &mut vals,
-    );
-    let count = nodes.len() / NODE_WORDS;
     let fractions = eval_fractions(
         p,
         w,
@@ -274,7 +262,7 @@ pub fn eval_row(
         elements,
         challenges,
         table,
-        &vals[0..count],
+        vals,
         words,
         base,
         r,
@@ -294,7 +282,7 @@ pub fn eval_row(
             sum,
             n,
             r,
-            shape.height,
+            height,
         ),
     )
 }
@@ -336,17 +324,24 @@ pub fn eval_rows(
     ensures { λ s v. ⌜ refusal v ≡ rows-verdict p w (s .lookups) (s .challenges) (node-values p s) width (now (words .entry)) (ext-words (terminal .0)) (shape .height) ⌝ }
 {
     let height = shape.height;
+    let count = nodes.len() / NODE_WORDS;
+    let mut vals = [0u32; 1024];
     let mut base = 0;
     let mut r = 0;
     while r < height {
-        let verdict = eval_row(
+        traits::row_values(
             p,
-            w,
             shape,
             main,
             preprocessed,
             public_values,
             nodes,
+            r,
+            &mut vals,
+        );
+        let verdict = eval_row(
+            p,
+            w,
             lookups,
             tuples,
             multiplicities,
@@ -354,15 +349,19 @@ pub fn eval_rows(
             elements,
             challenges,
             table,
+            &vals[0..count],
             width,
             words,
             terminal,
-            r,
             base,
+            r,
+            height,
         );
         if is_refused(verdict) {
             return verdict;
         }
+        // Zero at the start of every row: only the values that the nodes filled need it.
+        clear(&mut vals[0..count]);
         base = base + width;
         r += 1;
     }

@@ -1,9 +1,10 @@
 //! Times the port's exported functions beside the same work in Rust, interleaved in one run, and compares every result: row evaluation beside the same
 //! loop; generation beside the crate's own source and beside a version tuned by hand (src/tuned.rs); constraints and balance beside the crate's
 //! source, balance beside a hash map as well, also on tuples that were chosen to be slow; and generation at growing heights. Measures how much
-//! stack they take, and how many instructions generation takes, as valgrind's callgrind counts them. Generation, its instructions and
-//! constraints are measured in both fields, a table for each; all else is in field 1. Prints tables; `--only PART` runs one part: evaluation,
-//! generation, instructions, constraints, growth, balance, collisions or stack; `--rounds N` repeats long work N times in the place of 3.
+//! stack they take, and how many instructions generation and constraints take, as valgrind's callgrind counts them. Generation and constraints
+//! are measured in both fields, a table for each; all else is in field 1. Prints tables; `--only PART` runs one part: evaluation, generation,
+//! constraints, instructions, growth, balance, collisions or stack; `--rounds N` repeats long work N times in the place of 3. Whatever the
+//! crate's source would be compared with is measured without it too.
 //!
 //!     cargo run --release --offline --features port --bin bench
 use std::collections::HashMap;
@@ -162,43 +163,115 @@ fn evaluation(random: &mut Random) {
     report("20 nodes, in a table with an empty lookup", &times, " ns");
 }
 
-#[cfg(source)]
-fn crate_generation<'a>(t: &'a Table, words: &'a [u32]) -> Option<Side<'a, (Vec<u32>, Option<Ext>)>> {
-    Some(Box::new(|| harness::oracle::generate(t, words).unwrap()))
-}
-
-#[cfg(not(source))]
-fn crate_generation<'a>(_t: &'a Table, _words: &'a [u32]) -> Option<Side<'a, (Vec<u32>, Option<Ext>)>> {
-    None
-}
-
 fn challenges(random: &mut Random, field: Field, count: u32) -> Vec<Ext> {
     (0..2 * count).map(|_| random.element(field)).collect()
 }
 
-fn generation_heading(field: Field) {
-    let name = format!("generation, field {}", field.number());
-    heading(&[&name, "port", "tuned Rust", "ratio", "by norms too", "ratio", "the crate", "ratio"]);
+/// A table with its challenges, and what generation gives for them.
+struct Job {
+    table: Table,
+    port: delmatik::Table,
+    challenges: Vec<Ext>,
+    trace: Vec<u32>,
+    terminal: Option<Ext>,
 }
 
-/// The port, the tuned version, with either way to invert, and the crate, where its source is at hand.
-fn generation_sides<'a>(t: &'a Table, port: &'a delmatik::Table, challenges: &'a [Ext]) -> Vec<Side<'a, (Vec<u32>, Option<Ext>)>> {
-    let words = challenges.as_flattened();
-    let mut sides: Vec<Side<'_, _>> = vec![
-        Box::new(|| generated(choices(t.field), port, challenges)),
-        Box::new(move || tuned::generate(t, words, Product::Denominators)),
-        Box::new(move || tuned::generate(t, words, Product::Norms)),
-    ];
-    sides.extend(crate_generation(t, words));
-    sides
+impl Job {
+    fn new(shape: &Shape, random: &mut Random, field: Field, rows: usize) -> Self {
+        let table = shape.table(random, field, rows);
+        let (port, challenges) = (wrapped(&table), challenges(random, field, shape.lookups));
+        let (trace, terminal) = generated(choices(field), &port, &challenges);
+        Job { table, port, challenges, trace, terminal }
+    }
+
+    fn columns(&self) -> usize {
+        self.challenges.len() / 2 + 1
+    }
+
+    /// The port, the tuned version, with either way to invert, and the crate, where its source is at hand.
+    fn generation(&self) -> Vec<Side<'_, (Vec<u32>, Option<Ext>)>> {
+        let (t, words) = (&self.table, self.challenges.as_flattened());
+        let mut sides: Vec<Side<'_, _>> = vec![
+            Box::new(|| generated(choices(t.field), &self.port, &self.challenges)),
+            Box::new(move || tuned::generate(t, words, Product::Denominators)),
+            Box::new(move || tuned::generate(t, words, Product::Norms)),
+        ];
+        sides.extend(self.generation_by_crate());
+        sides
+    }
+
+    /// The port, and the crate, where its source is at hand.
+    fn constraints(&self) -> Vec<Side<'_, bool>> {
+        let (choices, terminal) = (choices(self.table.field), self.terminal.map(LookupTerminal));
+        let by_port = move || self.port.constraints(choices, Rule::One, &self.challenges, self.columns(), &self.trace, terminal).is_ok();
+        let mut sides: Vec<Side<'_, _>> = vec![Box::new(by_port)];
+        sides.extend(self.constraints_by_crate());
+        sides
+    }
+
+    #[cfg(source)]
+    fn generation_by_crate(&self) -> Option<Side<'_, (Vec<u32>, Option<Ext>)>> {
+        Some(Box::new(|| harness::oracle::generate(&self.table, self.challenges.as_flattened()).unwrap()))
+    }
+
+    #[cfg(source)]
+    fn constraints_by_crate(&self) -> Option<Side<'_, bool>> {
+        let (words, columns) = (self.challenges.as_flattened(), self.columns() as u64);
+        Some(Box::new(move || harness::oracle::constraints(&self.table, words, columns, &self.trace, self.terminal).unwrap().is_none()))
+    }
+
+    #[cfg(not(source))]
+    fn generation_by_crate(&self) -> Option<Side<'_, (Vec<u32>, Option<Ext>)>> {
+        None
+    }
+
+    #[cfg(not(source))]
+    fn constraints_by_crate(&self) -> Option<Side<'_, bool>> {
+        None
+    }
 }
 
-fn generation(random: &mut Random, field: Field) {
-    generation_heading(field);
-    for shape in &SHAPES {
-        let t = shape.table(random, field, ROWS);
-        let (port, challenges) = (wrapped(&t), challenges(random, field, shape.lookups));
-        report(shape.name, &race(ROWS, generation_sides(&t, &port, &challenges)), " ns");
+/// What is measured in both fields: the work, by its number in the arguments for `count`, and the columns of its table.
+#[derive(Clone, Copy)]
+enum Part {
+    Generation,
+    Constraints,
+}
+
+impl Part {
+    const ALL: [Part; 2] = [Part::Generation, Part::Constraints];
+
+    fn heading(self, field: Field) {
+        let (name, others) = match self {
+            Part::Generation => ("generation", ["tuned Rust", "ratio", "by norms too", "ratio", "the crate", "ratio"].as_slice()),
+            Part::Constraints => ("constraints", ["the crate", "ratio"].as_slice()),
+        };
+        heading(&[&[format!("{name}, field {}", field.number()).as_str(), "port"], others].concat());
+    }
+
+    /// The times of all sides, for a row.
+    fn times(self, job: &Job) -> Vec<f64> {
+        match self {
+            Part::Generation => race(ROWS, job.generation()),
+            Part::Constraints => race(ROWS, job.constraints()),
+        }
+    }
+
+    /// Runs one side once; tells how many there are.
+    fn count(self, job: &Job, side: usize) -> usize {
+        match self {
+            Part::Generation => count(job.generation(), side),
+            Part::Constraints => count(job.constraints(), side),
+        }
+    }
+}
+
+fn timing(part: Part, random: &mut Random) {
+    for field in Field::ALL {
+        part.heading(field);
+        for shape in &SHAPES {
+            report(shape.name, &part.times(&Job::new(shape, random, field, ROWS)), " ns");
+        }
     }
 }
 
@@ -209,11 +282,7 @@ fn counted_work(work: &mut dyn FnMut()) {
     work();
 }
 
-/// Runs one side of a shape once, for `instructions` to count; tells how many sides there are.
-fn count(random: &mut Random, field: Field, shape: &Shape, side: usize) -> usize {
-    let t = shape.table(random, field, COUNTED_ROWS);
-    let (port, challenges) = (wrapped(&t), challenges(random, field, shape.lookups));
-    let mut sides = generation_sides(&t, &port, &challenges);
+fn count<A>(mut sides: Vec<Side<'_, A>>, side: usize) -> usize {
     let mut result = None;
     counted_work(&mut || result = Some(sides[side]()));
     assert!(result.is_some());
@@ -221,44 +290,28 @@ fn count(random: &mut Random, field: Field, shape: &Shape, side: usize) -> usize
 }
 
 /// The instructions of each side for a row. This program is run once more for each of them, under callgrind.
-fn instructions(random: &mut Random, field: Field) {
-    generation_heading(field);
-    for (i, shape) in SHAPES.iter().enumerate() {
-        let counted = |side: usize| {
-            let run = Command::new("valgrind")
-                .args(["--tool=callgrind", "--callgrind-out-file=/dev/null", "--toggle-collect=counted_work"])
-                .arg(std::env::current_exe().unwrap())
-                .args(["--count", &format!("{} {i} {side}", field.number())])
-                .output()
-                .expect("valgrind is at hand");
-            let said = String::from_utf8_lossy(&run.stderr).into_owned();
-            let number = said.lines().find_map(|line| line.split_once("Collected : ")).and_then(|(_, n)| n.trim().parse::<f64>().ok());
-            number.unwrap_or_else(|| panic!("callgrind said: {said}")) / COUNTED_ROWS as f64
-        };
-        let sides = count(random, field, shape, 0);
-        report(shape.name, &(0..sides).map(counted).collect::<Vec<f64>>(), "");
+fn instructions(random: &mut Random) {
+    for (number, part) in Part::ALL.into_iter().enumerate() {
+        for field in Field::ALL {
+            part.heading(field);
+            for (i, shape) in SHAPES.iter().enumerate() {
+                let counted = |side: usize| {
+                    let run = Command::new("valgrind")
+                        .args(["--tool=callgrind", "--callgrind-out-file=/dev/null", "--toggle-collect=counted_work"])
+                        .arg(std::env::current_exe().unwrap())
+                        .args(["--count", &format!("{number} {} {i} {side}", field.number())])
+                        .output()
+                        .expect("valgrind is at hand");
+                    let said = String::from_utf8_lossy(&run.stderr).into_owned();
+                    let counted =
+                        said.lines().find_map(|line| line.split_once("Collected : ")).and_then(|(_, n)| n.trim().parse::<f64>().ok());
+                    counted.unwrap_or_else(|| panic!("callgrind said: {said}")) / COUNTED_ROWS as f64
+                };
+                let sides = part.count(&Job::new(shape, random, field, COUNTED_ROWS), 0);
+                report(shape.name, &(0..sides).map(counted).collect::<Vec<f64>>(), "");
+            }
+        }
     }
-}
-
-#[cfg(source)]
-fn constraints(random: &mut Random, field: Field) {
-    heading(&[&format!("constraints, field {}", field.number()), "port", "the crate", "ratio"]);
-    for shape in &SHAPES {
-        let t = shape.table(random, field, ROWS);
-        let (port, choices, challenges) = (wrapped(&t), choices(field), challenges(random, field, shape.lookups));
-        let words = challenges.as_flattened();
-        let (trace, terminal) = generated(choices, &port, &challenges);
-        let columns = shape.lookups as usize + 1;
-        let wrapped_terminal = terminal.map(LookupTerminal);
-        let by_port = || port.constraints(choices, Rule::One, &challenges, columns, &trace, wrapped_terminal).is_ok();
-        let by_crate = || harness::oracle::constraints(&t, words, columns as u64, &trace, terminal).unwrap().is_none();
-        report(shape.name, &race(ROWS, vec![Box::new(by_port), Box::new(by_crate)]), " ns");
-    }
-}
-
-#[cfg(not(source))]
-fn constraints(_random: &mut Random, _field: Field) {
-    println!("\nthe crate: not run, since the source of p3-lookup 0.8.0 is not at hand");
 }
 
 /// Four lookups at heights from 2^10 to 2^20.
@@ -408,7 +461,8 @@ fn main() {
     let mut random = Random(0x9E3779B97F4A7C15);
     if let Some(which) = argument("--count") {
         let numbers: Vec<usize> = which.split(' ').map(|n| n.parse().unwrap()).collect();
-        count(&mut random, Field::numbered(numbers[0] as u32).unwrap(), &SHAPES[numbers[1]], numbers[2]);
+        let field = Field::numbered(numbers[1] as u32).unwrap();
+        Part::ALL[numbers[0]].count(&Job::new(&SHAPES[numbers[2]], &mut random, field, COUNTED_ROWS), numbers[3]);
         return;
     }
     let only = argument("--only");
@@ -418,13 +472,13 @@ fn main() {
         evaluation(&mut random);
     }
     if wanted("generation") {
-        Field::ALL.into_iter().for_each(|field| generation(&mut random, field));
-    }
-    if wanted("instructions") {
-        Field::ALL.into_iter().for_each(|field| instructions(&mut random, field));
+        timing(Part::Generation, &mut random);
     }
     if wanted("constraints") {
-        Field::ALL.into_iter().for_each(|field| constraints(&mut random, field));
+        timing(Part::Constraints, &mut random);
+    }
+    if wanted("instructions") {
+        instructions(&mut random);
     }
     if wanted("growth") {
         growth(&mut random);

@@ -8,8 +8,8 @@ use Rattle.lists.specs.Count.{or-else}
 use Rattle.expression.specs.Refusal.{refusal}
 use Rattle.logup_column.specs.inner.Requires.{lent-values}
 use Rattle.lookup.specs.Lookups.{lent-lookups}
-use Rattle.logup_column.specs.laws.Values.{vals-below}
-use Rattle.logup_rows.proofs.WriteRowLoops.{values-within, first-values, next-values, cleared, nothing-refused}
+use Rattle.logup_column.specs.laws.Values.{vals-below, values-within, cleared}
+use Rattle.logup_rows.proofs.WriteRowLoops.{first-values, next-values, nothing-refused}
 use Rattle.logup_rows.proofs.FillLoops.{FillLoop, fill-loop-begins, ms-in, ds-in, ms-part, ds-part, fill-loop-turn, fill-loop-ends}
 use borrow.Author.Needs.{needs}
 use Rattle.logup_rows.proofs.block.fill.Statement.{statement}
