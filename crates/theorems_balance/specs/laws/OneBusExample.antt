@@ -1,4 +1,4 @@
--- A table of one row with two lookups on one bus: it meets `OneBus`, its lookups are one group, and the net of (3) is its ledger's word.
+-- A table of one row with two lookups on one bus: it meets `OneBus`, its lookups are one group, and the net of (3) is its ledger's word, in each field.
 use Prim.Native.Nat.{ℕ, zero, suc, _<_}
 use mathlib.Core.Path.{_≡_, refl, _∙_}
 use mathlib.Core.Bool.{true}
@@ -9,8 +9,8 @@ use Rattle.lists.specs.Same.{same-list}
 use Rattle.lists.specs.Count.{total, every, joined}
 use Rattle.lists.specs.Fold.{fold}
 use Rattle.field.specs.Word.{addM, mulM}
-use Rattle.field.specs.Known.{babybear}
-use Rattle.field.specs.laws.Known.{babybear-modulus}
+use Rattle.field.specs.Known.{prime-of}
+use Rattle.field.specs.laws.Known.{modulus-of}
 use Rattle.expression.specs.Words.{all-below, all-within}
 use Rattle.expression.specs.Limits.{cabinet}
 use Rattle.expression.specs.Node.{decode, node}
@@ -66,20 +66,27 @@ same (suc (suc i)) j a b = absurd (omega arith)
 one-bus : OneBus twice
 one-bus = record { some = omega arith; each = same }
 
-has : T (has-ledger cabinet babybear twice)
-unfolding total every joined cabinet all-below all-within node decode row-of window node-value values row-values node-degree degrees traces-within
-    nodes-within traces-fit nodes-fit traces-below constants-below nodes-known degrees-low name-start tuple-start multiplicity-start flag-start
-    element-start tuple-width multiplicity-node flag-node tuple-nodes lookups-within lookups-fit sizes words-below known lengths-agree nodes-present
-    lists-agree in-position has-lookups preprocessed-enough rows-enough has-ledger
-has = tt
+-- what is computed of it in a field
+record Computed (field : ℕ) : Type 0 where
+  has : T (has-ledger cabinet (prime-of field) twice)
+  ledger-two : ledger (prime-of field) twice (3 ∷ []) ≡ 2
 
-ledger-two : ledger babybear twice (3 ∷ []) ≡ 2
-unfolding addM mulM total joined fold node decode row-of window node-value values row-values tuple-start multiplicity-start flag-start element-start
-    tuple-width multiplicity-node flag-node tuple-nodes tuple count lookup-entries row-entries entries same-list post ledger
-ledger-two = refl
+computed : Computed 1 × Computed 2
+unfolding prime-of addM mulM total every joined fold cabinet all-below all-within node decode row-of window node-value values row-values node-degree
+    degrees traces-within nodes-within traces-fit nodes-fit traces-below constants-below nodes-known degrees-low name-start tuple-start
+    multiplicity-start flag-start element-start tuple-width multiplicity-node flag-node tuple-nodes lookups-within lookups-fit sizes words-below
+    known lengths-agree nodes-present lists-agree in-position has-lookups preprocessed-enough rows-enough has-ledger tuple count lookup-entries
+    row-entries entries same-list post ledger
+computed = (record { has = tt; ledger-two = refl }, record { has = tt; ledger-two = refl })
 
 pub one-group : groups (members (twice ∷ [])) ≡ members (twice ∷ []) ∷ []
-one-group = one-bus-ledger cabinet babybear babybear-modulus twice one-bus has .0
+one-group = one-bus-ledger cabinet (prime-of 1) (modulus-of 1) twice one-bus (computed .0 .has) .0
 
-pub net-two : net-of babybear (balance.entries babybear (members (twice ∷ []))) (3 ∷ []) ≡ 2
-net-two = one-bus-ledger cabinet babybear babybear-modulus twice one-bus has .1 (3 ∷ []) ∙ ledger-two
+abbrev Net : ℕ → Type 0
+Net field = net-of (prime-of field) (balance.entries (prime-of field) (members (twice ∷ []))) (3 ∷ []) ≡ 2
+
+net : (field : ℕ) → Computed field → Net field
+net field c = one-bus-ledger cabinet (prime-of field) (modulus-of field) twice one-bus (c .has) .1 (3 ∷ []) ∙ c .ledger-two
+
+pub net-two : Net 1 × Net 2
+net-two = (net 1 (computed .0), net 2 (computed .1))
