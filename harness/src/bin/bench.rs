@@ -167,71 +167,67 @@ fn challenges(random: &mut Random, field: Field, count: u32) -> Vec<Ext> {
     (0..2 * count).map(|_| random.element(field)).collect()
 }
 
-/// A table with its challenges, and what generation gives for them.
+/// A table with its challenges.
 struct Job {
     table: Table,
     port: delmatik::Table,
     challenges: Vec<Ext>,
-    trace: Vec<u32>,
-    terminal: Option<Ext>,
 }
 
 impl Job {
     fn new(shape: &Shape, random: &mut Random, field: Field, rows: usize) -> Self {
         let table = shape.table(random, field, rows);
-        let (port, challenges) = (wrapped(&table), challenges(random, field, shape.lookups));
-        let (trace, terminal) = generated(choices(field), &port, &challenges);
-        Job { table, port, challenges, trace, terminal }
+        Job { port: wrapped(&table), challenges: challenges(random, field, shape.lookups), table }
     }
 
-    fn columns(&self) -> usize {
-        self.challenges.len() / 2 + 1
+    fn generated(&self) -> (Vec<u32>, Option<Ext>) {
+        generated(choices(self.table.field), &self.port, &self.challenges)
     }
 
     /// The port, the tuned version, with either way to invert, and the crate, where its source is at hand.
     fn generation(&self) -> Vec<Side<'_, (Vec<u32>, Option<Ext>)>> {
         let (t, words) = (&self.table, self.challenges.as_flattened());
         let mut sides: Vec<Side<'_, _>> = vec![
-            Box::new(|| generated(choices(t.field), &self.port, &self.challenges)),
+            Box::new(|| self.generated()),
             Box::new(move || tuned::generate(t, words, Product::Denominators)),
             Box::new(move || tuned::generate(t, words, Product::Norms)),
         ];
-        sides.extend(self.generation_by_crate());
+        sides.extend(crate_generation(t, words));
         sides
     }
 
-    /// The port, and the crate, where its source is at hand.
-    fn constraints(&self) -> Vec<Side<'_, bool>> {
-        let (choices, terminal) = (choices(self.table.field), self.terminal.map(LookupTerminal));
-        let by_port = move || self.port.constraints(choices, Rule::One, &self.challenges, self.columns(), &self.trace, terminal).is_ok();
-        let mut sides: Vec<Side<'_, _>> = vec![Box::new(by_port)];
-        sides.extend(self.constraints_by_crate());
+    /// The constraints of the generated trace and terminal, by the port and by the crate, where its source is at hand.
+    fn constraints<'a>(&'a self, trace: &'a [u32], terminal: Option<Ext>) -> Vec<Side<'a, bool>> {
+        let (choices, columns) = (choices(self.table.field), self.challenges.len() / 2 + 1);
+        let wrapped = terminal.map(LookupTerminal);
+        let mut sides: Vec<Side<'_, _>> =
+            vec![Box::new(move || self.port.constraints(choices, Rule::One, &self.challenges, columns, trace, wrapped).is_ok())];
+        sides.extend(crate_constraints(&self.table, self.challenges.as_flattened(), columns, trace, terminal));
         sides
-    }
-
-    #[cfg(source)]
-    fn generation_by_crate(&self) -> Option<Side<'_, (Vec<u32>, Option<Ext>)>> {
-        Some(Box::new(|| harness::oracle::generate(&self.table, self.challenges.as_flattened()).unwrap()))
-    }
-
-    #[cfg(source)]
-    fn constraints_by_crate(&self) -> Option<Side<'_, bool>> {
-        let (words, columns) = (self.challenges.as_flattened(), self.columns() as u64);
-        Some(Box::new(move || harness::oracle::constraints(&self.table, words, columns, &self.trace, self.terminal).unwrap().is_none()))
-    }
-
-    #[cfg(not(source))]
-    fn generation_by_crate(&self) -> Option<Side<'_, (Vec<u32>, Option<Ext>)>> {
-        None
-    }
-
-    #[cfg(not(source))]
-    fn constraints_by_crate(&self) -> Option<Side<'_, bool>> {
-        None
     }
 }
 
-/// What is measured in both fields: the work, by its number in the arguments for `count`, and the columns of its table.
+#[cfg(source)]
+fn crate_generation<'a>(t: &'a Table, words: &'a [u32]) -> Option<Side<'a, (Vec<u32>, Option<Ext>)>> {
+    Some(Box::new(|| harness::oracle::generate(t, words).unwrap()))
+}
+
+#[cfg(source)]
+fn crate_constraints<'a>(t: &'a Table, words: &'a [u32], width: usize, trace: &'a [u32], terminal: Option<Ext>) -> Option<Side<'a, bool>> {
+    Some(Box::new(move || harness::oracle::constraints(t, words, width as u64, trace, terminal).unwrap().is_none()))
+}
+
+#[cfg(not(source))]
+fn crate_generation<'a>(_t: &'a Table, _words: &'a [u32]) -> Option<Side<'a, (Vec<u32>, Option<Ext>)>> {
+    None
+}
+
+#[cfg(not(source))]
+fn crate_constraints<'a>(_: &'a Table, _: &'a [u32], _: usize, _: &'a [u32], _: Option<Ext>) -> Option<Side<'a, bool>> {
+    None
+}
+
+/// What is measured in both fields.
 #[derive(Clone, Copy)]
 enum Part {
     Generation,
@@ -253,15 +249,21 @@ impl Part {
     fn times(self, job: &Job) -> Vec<f64> {
         match self {
             Part::Generation => race(ROWS, job.generation()),
-            Part::Constraints => race(ROWS, job.constraints()),
+            Part::Constraints => {
+                let (trace, terminal) = job.generated();
+                race(ROWS, job.constraints(&trace, terminal))
+            }
         }
     }
 
-    /// Runs one side once; tells how many there are.
+    /// Runs one side once, for `instructions` to count; tells how many sides there are.
     fn count(self, job: &Job, side: usize) -> usize {
         match self {
             Part::Generation => count(job.generation(), side),
-            Part::Constraints => count(job.constraints(), side),
+            Part::Constraints => {
+                let (trace, terminal) = job.generated();
+                count(job.constraints(&trace, terminal), side)
+            }
         }
     }
 }
