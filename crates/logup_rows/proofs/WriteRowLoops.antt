@@ -1,4 +1,4 @@
--- A row's node values, and the next row's.
+-- The node values of the next row, and a verdict after a row.
 use mathlib.Core.Path.{_≡_, refl, sym, ap, _∙_}
 use mathlib.Core.List.{List, _++_}
 use mathlib.Core.Option.{Option, none, some}
@@ -15,14 +15,10 @@ use Rattle.expression.specs.declared.refusal.Verdict.{Verdict}
 use Rattle.expression.specs.declared.refusal.Verdict.the-variants.{Accepted}
 use Rattle.logup_column.specs.laws.Values.{vals-are}
 
-module _ {b : List ℕ} (p : ℕ) (nodes : List ℕ) (t : Traces) (r : ℕ) (e : b ≡ row-values p nodes t r ++ replicate (1024 - node-count nodes) 0) where
-  pub first-values : row-values p nodes t r ≡ take (node-count nodes - 0) b
-  first-values = sym (vals-are p nodes t r e)
-
 -- the values of the row after row r, where it is not row 0 again
 pub next-values : {b : List ℕ} (p : ℕ) (nodes : List ℕ) (t : Traces) (r : ℕ) → b ≡ row-values p nodes t ((r + 1) % t .shape .height) ++ replicate (1024 - node-count nodes) 0
     → r + 1 < t .shape .height → row-values p nodes t (r + 1) ≡ take (node-count nodes - 0) b
-next-values p nodes t r e h = ap (row-values p nodes t) (sym (mod-eq-of-lt h)) ∙ first-values p nodes t ((r + 1) % t .shape .height) e
+next-values p nodes t r e h = ap (row-values p nodes t) (sym (mod-eq-of-lt h)) ∙ sym (vals-are p nodes t ((r + 1) % t .shape .height) e)
 
 -- a verdict after a row without a fault
 pub nothing-refused : (v : Option Refusal) (x : Verdict) → x ≡ Accepted → v ≡ or-else v (refusal x)

@@ -196,12 +196,12 @@ impl Job {
         sides
     }
 
-    /// The constraints of the generated trace and terminal, by the port and by the crate, where its source is at hand.
-    fn constraints<'a>(&'a self, trace: &'a [u32], terminal: Option<Ext>) -> Vec<Side<'a, bool>> {
+    /// The constraints of the generated trace and terminal, by the port and by the crate, where its source is at hand. Neither may refuse them.
+    fn constraints<'a>(&'a self, trace: &'a [u32], terminal: Option<Ext>) -> Vec<Side<'a, ()>> {
         let (choices, columns) = (choices(self.table.field), self.challenges.len() / 2 + 1);
         let wrapped = terminal.map(LookupTerminal);
         let mut sides: Vec<Side<'_, _>> =
-            vec![Box::new(move || self.port.constraints(choices, Rule::One, &self.challenges, columns, trace, wrapped).is_ok())];
+            vec![Box::new(move || self.port.constraints(choices, Rule::One, &self.challenges, columns, trace, wrapped).unwrap())];
         sides.extend(crate_constraints(&self.table, self.challenges.as_flattened(), columns, trace, terminal));
         sides
     }
@@ -213,8 +213,8 @@ fn crate_generation<'a>(t: &'a Table, words: &'a [u32]) -> Option<Side<'a, (Vec<
 }
 
 #[cfg(source)]
-fn crate_constraints<'a>(t: &'a Table, words: &'a [u32], width: usize, trace: &'a [u32], terminal: Option<Ext>) -> Option<Side<'a, bool>> {
-    Some(Box::new(move || harness::oracle::constraints(t, words, width as u64, trace, terminal).unwrap().is_none()))
+fn crate_constraints<'a>(t: &'a Table, words: &'a [u32], width: usize, trace: &'a [u32], terminal: Option<Ext>) -> Option<Side<'a, ()>> {
+    Some(Box::new(move || assert!(harness::oracle::constraints(t, words, width as u64, trace, terminal).unwrap().is_none())))
 }
 
 #[cfg(not(source))]
@@ -223,7 +223,7 @@ fn crate_generation<'a>(_t: &'a Table, _words: &'a [u32]) -> Option<Side<'a, (Ve
 }
 
 #[cfg(not(source))]
-fn crate_constraints<'a>(_: &'a Table, _: &'a [u32], _: usize, _: &'a [u32], _: Option<Ext>) -> Option<Side<'a, bool>> {
+fn crate_constraints<'a>(_: &'a Table, _: &'a [u32], _: usize, _: &'a [u32], _: Option<Ext>) -> Option<Side<'a, ()>> {
     None
 }
 

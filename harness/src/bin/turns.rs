@@ -1,9 +1,11 @@
-//! Runs two builds of `bench` in turn, and prints of the port's costs by each the medians and the lowest, with their ratios: what a change
-//! costs, where single runs differ by more. Each build has its own library and its own wrapper, so that the exported functions may differ.
+//! Runs two builds of `bench` in pairs, now the one first and now the other: what a change costs, where single runs differ by more. Each build
+//! has its own library and its own wrapper, so that the exported functions may differ.
 //!
-//!     turns BENCH_BEFORE BENCH_NOW TIMES --only constraints --rounds 5        # from the third on: the arguments of both
+//!     turns BENCH_BEFORE BENCH_NOW PAIRS --only constraints --rounds 5        # after PAIRS: the arguments of both
 //!
-//! The tables of the second build stand each beside the first build's of the same number, or its last.
+//! Prints for each line the medians of the port's cost by each build, the median of the pairs' ratios, the lowest costs and their ratio, and
+//! the median of the ratios to the first table of the same run. The tables of the second build stand each beside the first build's of the
+//! same number, or its last.
 use std::process::Command;
 
 /// A table that `bench` prints: its heading, and the name and the port's cost of each line.
@@ -33,27 +35,53 @@ fn run(bench: &str, arguments: &[String]) -> Vec<Costs> {
     tables
 }
 
-/// The median and the lowest of a line's cost over the runs, by the line's table and number.
-fn cost(runs: &[Vec<Costs>], table: usize, line: usize) -> [f64; 2] {
-    let mut costs: Vec<f64> = runs.iter().map(|tables| tables[table.min(tables.len() - 1)].lines[line].1).collect();
+/// A line's cost in a run, by the line's table and number.
+fn cost(run: &[Costs], table: usize, line: usize) -> f64 {
+    run[table.min(run.len() - 1)].lines[line].1
+}
+
+fn sorted(costs: impl Iterator<Item = f64>) -> Vec<f64> {
+    let mut costs: Vec<f64> = costs.collect();
     costs.sort_by(f64::total_cmp);
-    [costs[costs.len() / 2], costs[0]]
+    costs
+}
+
+fn median(costs: impl Iterator<Item = f64>) -> f64 {
+    let costs = sorted(costs);
+    costs[costs.len() / 2]
 }
 
 fn main() {
     let arguments: Vec<String> = std::env::args().skip(1).collect();
-    let [before, now, times, ..] = arguments.as_slice() else {
-        panic!("turns BENCH_BEFORE BENCH_NOW TIMES, and the arguments of both");
+    let [before, now, pairs, ..] = arguments.as_slice() else {
+        panic!("turns BENCH_BEFORE BENCH_NOW PAIRS, and the arguments of both");
     };
-    let times: usize = times.parse().expect("TIMES is a number");
-    let both: Vec<_> = (0..times).map(|_| (run(before, &arguments[3..]), run(now, &arguments[3..]))).collect();
-    let (old, new): (Vec<_>, Vec<_>) = both.into_iter().unzip();
-    for (t, table) in new[0].iter().enumerate() {
-        println!("\n| {} | before | now | ratio | lowest before | lowest now | ratio |\n|---|---|---|---|---|---|---|", table.heading);
+    let (pairs, given): (usize, _) = (pairs.parse().expect("PAIRS is a number"), &arguments[3..]);
+    let pair = |i: usize| {
+        if i.is_multiple_of(2) {
+            let old = run(before, given);
+            (old, run(now, given))
+        } else {
+            let new = run(now, given);
+            (run(before, given), new)
+        }
+    };
+    let runs: Vec<(Vec<Costs>, Vec<Costs>)> = (0..pairs).map(pair).collect();
+    for (t, table) in runs[0].1.iter().enumerate() {
+        println!("\n| {} | before | now | of pairs | lowest before | lowest now | ratio | to table 1 |", table.heading);
+        println!("|{}", "---|".repeat(8));
         for (l, (name, _)) in table.lines.iter().enumerate() {
-            let costs = cost(&old, t, l).into_iter().zip(cost(&new, t, l));
-            let columns: String = costs.map(|(old, new)| format!(" {old:.0} | {new:.0} | {:.3} |", new / old)).collect();
-            println!("| {name} |{columns}");
+            let old = || runs.iter().map(|(old, _)| cost(old, t, l));
+            let new = || runs.iter().map(|(_, new)| cost(new, t, l));
+            let (low_old, low_new) = (sorted(old())[0], sorted(new())[0]);
+            let of_pairs = median(old().zip(new()).map(|(old, new)| new / old));
+            let to_first = median(runs.iter().map(|(_, new)| cost(new, t, l) / cost(new, 0, l)));
+            println!(
+                "| {name} | {:.0} | {:.0} | {of_pairs:.3} | {low_old:.0} | {low_new:.0} | {:.3} | {to_first:.3} |",
+                median(old()),
+                median(new()),
+                low_new / low_old
+            );
         }
     }
 }

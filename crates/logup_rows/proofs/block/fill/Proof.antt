@@ -1,15 +1,15 @@
 use lib.ListN.{replicate}
 use mathlib.Core.List.{[]}
 use mathlib.Core.Logic.{⊎-elim}
-use mathlib.Core.Path.{_≡_, refl, ap, _∙_}
+use mathlib.Core.Path.{_≡_, refl, sym, ap, _∙_}
 use native.Mathlib.Omega.{arith}
 use Prim.Native.Nat.{_-_}
 use Rattle.lists.specs.Count.{or-else}
 use Rattle.expression.specs.Refusal.{refusal}
 use Rattle.logup_column.specs.inner.Requires.{lent-values}
 use Rattle.lookup.specs.Lookups.{lent-lookups}
-use Rattle.logup_column.specs.laws.Values.{vals-below, values-within, cleared}
-use Rattle.logup_rows.proofs.WriteRowLoops.{first-values, next-values, nothing-refused}
+use Rattle.logup_column.specs.laws.Values.{vals-are, vals-below, values-within, cleared}
+use Rattle.logup_rows.proofs.WriteRowLoops.{next-values, nothing-refused}
 use Rattle.logup_rows.proofs.FillLoops.{FillLoop, fill-loop-begins, ms-in, ds-in, ms-part, ds-part, fill-loop-turn, fill-loop-ends}
 use borrow.Author.Needs.{needs}
 use Rattle.logup_rows.proofs.block.fill.Statement.{statement}
@@ -235,7 +235,7 @@ loop-again c =
     let e : refusal (c .match .verdict) ≡ or-else (refusal (at-23 .loop .verdict)) (refusal (at-11 .write-pair .result)) = ⊎-elim
     (λ w. ap refusal (w .2) ∙ nothing-refused _ _ (w .1 .given .1)) (λ w. ap refusal (w .3) ∙ w .2 .ensures) (c .match .came) in (
       fill-loop-turn (at-23 .loop .inv .0) (at-21 .pair-rows .result) (at-21 .pair-rows .ensures .2) {verdict′ = c .match .verdict} _ _
-          (at-11 .write-pair .result) (at-11 .write-pair .ensures _ (first-values _ _ _ _ (at-18 .pair-values .ensures .1)) (λ h. next-values _ _ _ _
+          (at-11 .write-pair .result) (at-11 .write-pair .ensures _ (sym (vals-are _ _ _ _ (at-18 .pair-values .ensures .1))) (λ h. next-values _ _ _ _
           (at-18 .pair-values .ensures .3) (omega (arith, at-37 .pre .2, at-21 .pair-rows .ensures .2)))) e,
       cleared _ _ _ _ (at-18 .pair-values .ensures .1) (at-5 .clear .ensures) (at-37 .pre .1 .few),
       cleared _ _ _ _ (at-18 .pair-values .ensures .3) (c .before .before .clear2 .ensures) (at-37 .pre .1 .few),
