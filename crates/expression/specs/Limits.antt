@@ -1,4 +1,5 @@
--- The limits of SPECIFICATION, section 11: how many tables there may be, how large each of them, and how high the degree of a node.
+-- The limits of SPECIFICATION, section 11, of each profile: how many tables there may be, how large each of them, and how high the degree of a
+-- node.
 use Prim.Native.Nat.{_≤_}
 use Rattle.expression.specs.declared.sizes.Limits.{Limits}
 
@@ -20,6 +21,25 @@ cabinet =
       «prefix_width» = 255;
     }
 
+-- the gateway takes "8 lookups, 4 words a tuple and height 4,096; all else is the cabinet's"
+unfoldable pub gateway : Limits
+gateway =
+    record {
+      tables = cabinet .tables;
+      lookups = 8;
+      tuples = cabinet .tuples;
+      «tuple_words» = 4;
+      nodes = cabinet .nodes;
+      «main_columns» = cabinet .«main_columns»;
+      «pre_columns» = cabinet .«pre_columns»;
+      «public_values» = cabinet .«public_values»;
+      height = 4096;
+      «name_bytes» = cabinet .«name_bytes»;
+      degree = cabinet .degree;
+      prefixes = cabinet .prefixes;
+      «prefix_width» = cabinet .«prefix_width»;
+    }
+
 -- what the code asks of limits: its arrays hold a table within them, and no product or sum of sizes leaves 64 bits
 pub record Sane (m : Limits) : Type 0 where
   pub tables : m .tables ≤ 16
@@ -30,4 +50,7 @@ pub record Sane (m : Limits) : Type 0 where
   pub main-columns : m .«main_columns» ≤ 4096
   pub pre-columns : m .«pre_columns» ≤ 4096
   pub height : m .height ≤ 1048576
+  pub name-bytes : m .«name_bytes» ≤ 65535
   pub degree : m .degree ≤ 65535
+  pub prefixes : m .prefixes ≤ 4294967295
+  pub prefix-width : m .«prefix_width» ≤ 4294967295

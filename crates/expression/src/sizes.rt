@@ -1,6 +1,6 @@
 // The sizes that no slice shows, and the limits on them.
 ghost use mathlib.Core.Path.{_≡_};
-ghost use Rattle.expression.specs.Limits.{cabinet};
+ghost use Rattle.expression.specs.Limits.{cabinet, gateway};
 
 pub struct Shape {
     pub main_width: usize,
@@ -25,7 +25,7 @@ pub struct Limits {
     pub prefix_width: u32,
 }
 
-// The limits of SPECIFICATION, section 11.
+// The limits of SPECIFICATION, section 11: of the cabinet, and of the gateway, which differ in three.
 pub fn cabinet() -> Limits
     ensures { λ r. ⌜ r ≡ cabinet ⌝ }
 {
@@ -43,5 +43,16 @@ pub fn cabinet() -> Limits
         degree: 255,
         prefixes: 256,
         prefix_width: 255,
+    }
+}
+
+pub fn gateway() -> Limits
+    ensures { λ r. ⌜ r ≡ gateway ⌝ }
+{
+    Limits {
+        lookups: 8,
+        tuple_words: 4,
+        height: 4096,
+        ..cabinet()
     }
 }

@@ -24,6 +24,7 @@ ghost use Rattle.lists.specs.Count.{joined};
 ghost use Rattle.field.specs.inner.Requires.{KnownPrime};
 ghost use Rattle.field.specs.Element.{Word4};
 ghost use Rattle.field.specs.Ext.{ext-words};
+ghost use Rattle.expression.specs.Limits.{Sane};
 ghost use Rattle.expression.specs.Refusal.{refusal, numbers};
 ghost use Rattle.lookup_challenges.specs.Prefixes.{prefix-by, prefix, prefixes-fit, prefixes-refusal, prefixes-after, prefixes-at};
 ghost use Rattle.lookup_challenges.specs.inner.Requires.{ChallengeLists, challenge-lists, Writable};
@@ -90,7 +91,7 @@ pub fn prefixes(
 ) -> Verdict
     ghost { ChallengeLists }
     requires { λ l. ⌜ challenge-lists (now alpha) (now beta) (now out) ≡ l ⌝ }
-    requires { λ l. ⌜ KnownPrime p × (w < p) × (limits .prefixes ≤ 4294967295) × (limits .«prefix_width» ≤ 4294967295) ⌝ }
+    requires { λ l. ⌜ Sane limits × KnownPrime p × (w < p) ⌝ }
     ensures { λ l r. ⌜ (refusal r ≡ prefixes-refusal limits p (l .alpha) (l .beta) width count (l .out))
         × (now (out .exit) ≡ prefixes-after (refusal r) p w (l .alpha) (l .beta) width count (l .out)) ⌝ }
 {

@@ -18,10 +18,9 @@ use Rattle.expression.specs.declared.refusal.Refusal.the-variants.{SizeAtOdds, 
 use Rattle.expression.specs.declared.refusal.Verdict.{Verdict}
 use Rattle.expression.specs.declared.refusal.Verdict.the-variants as verdict
 use Rattle.expression.specs.declared.sizes.Limits.{Limits}
-use Rattle.expression.specs.Limits.{Sane, cabinet}
+use Rattle.expression.specs.Limits.{Sane}
 use Rattle.expression.specs.Choices.{known, limits-of}
 use Rattle.expression.specs.declared.choices.Choices.{Choices}
-use Rattle.expression.specs.laws.Tested.{limits-sane}
 use Rattle.lookup.specs.Lookups.{Lookups, lookup-count, name-length, name-start, bus-lookups}
 use Rattle.lookup.specs.Requires.{Fitting, Limited}
 use Rattle.lookup.specs.Refusals.{columns-within, form-sizes, form-refusal}
@@ -140,13 +139,13 @@ total-most f zero h = zero-le
 total-most f (suc n) h = omega (arith, total-most f n (λ i g. h i (omega arith)), h n (omega arith))
 
 -- what the tests say of the three lists of the widths
-pub whole : (m : Limits) (p : ℕ) (c : Columns) (nodes : List ℕ) (l : Lookups) → Sane m → m .«name_bytes» ≤ 65535 → Formed m nodes l → form-refusal m p c nodes l ≡ none → ListsExact (l .lookups) (l .names) (l .tuples)
+pub whole : (m : Limits) (p : ℕ) (c : Columns) (nodes : List ℕ) (l : Lookups) → Sane m → Formed m nodes l → form-refusal m p c nodes l ≡ none → ListsExact (l .lookups) (l .names) (l .tuples)
 unfolding form-refusal form-sizes name-start
-whole m p c nodes l g b f e =
+whole m p c nodes l g f e =
     let a = unless-none _ SizeAtOdds _ e in
     let k = passed (columns-within m c) (nodes-within m nodes ∷ lookups-within m (l .lookups) (l .tuples) ∷ nodes-fit nodes ∷ lookups-fit l ∷ []) (a .0) in
     let q : Limited m (l .lookups) (l .tuples) = limited m (l .lookups) (l .tuples) (k .1 .1 .0) in
-    let t : total (name-length (l .lookups)) (lookup-count (l .lookups)) ≤ lookup-count (l .lookups) * 65535 = total-most (name-length (l .lookups)) (lookup-count (l .lookups)) (λ i h. omega (arith, q .name i h)) in
+    let t : total (name-length (l .lookups)) (lookup-count (l .lookups)) ≤ lookup-count (l .lookups) * 65535 = total-most (name-length (l .lookups)) (lookup-count (l .lookups)) (λ i h. omega (arith, q .name i h, g .name-bytes)) in
     record {
       few = f .few-lookups;
       lookups-long = f .fitting .lookups;
@@ -155,11 +154,6 @@ whole m p c nodes l g b f e =
       tuples-long = f .fitting .tuples;
       tuples-few = f .few-tuples;
     }
-
--- what packing asks of the limits, whatever the number of the profile
-pub limits-ask : (profile : ℕ) → Sane (limits-of profile) × (limits-of profile .«name_bytes» ≤ 65535)
-unfolding limits-of cabinet
-limits-ask profile = (limits-sane profile, omega arith)
 
 -- `pack_same_bus`
 module _ (c : Choices) (limit : ℕ) (columns : Columns) (nodes : List ℕ) (l lent : Lookups) {b : Bool} (e : b ≡ known c) where

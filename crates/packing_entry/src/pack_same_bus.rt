@@ -109,7 +109,7 @@ pub fn pack_within(
     ghost { PackSource }
     requires { λ s. ⌜ pack-source (now nodes) (lent-lookups (now lookups) (now names) (now tuples) (now multiplicities) (now flags) (now elements))
         (lent-lookups (now «lookups_out») (now «names_out») (now «tuples_out») (now «multiplicities_out») (now «flags_out») (now «elements_out»)) ≡ s ⌝ }
-    requires { λ s. ⌜ Sane limits × (limits .«name_bytes» ≤ 65535) ⌝ }
+    requires { λ s. ⌜ Sane limits ⌝ }
     ensures { λ s r. ⌜ (r ≡ packing limits p limit columns (s .nodes) (s .own) (s .lent) .answer)
         × (lent-lookups (now («lookups_out» .exit)) (now («names_out» .exit)) (now («tuples_out» .exit)) (now («multiplicities_out» .exit)) (now («flags_out» .exit)) (now («elements_out» .exit))
         ≡ packing limits p limit columns (s .nodes) (s .own) (s .lent) .lists) ⌝ }

@@ -27,7 +27,7 @@ pub mod Cases
 pub mod Example
 pub mod ExampleTrace
 pub mod Error
-pub mod CabinetError
+pub mod OneIn2To67
 pub mod ErrorBits
 pub mod OneEntry
 pub mod Needed

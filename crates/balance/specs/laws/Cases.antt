@@ -170,7 +170,7 @@ pub cases :
     -- an unknown field or profile; the workspace is untouched
     × (run-at 0 1 balanced-1 ≡ record { refusal = some SizeAtOdds; workspace = replicate 10 7 })
     × (run-at 3 1 balanced-1 ≡ record { refusal = some SizeAtOdds; workspace = replicate 10 7 })
-    × (run-at 1 2 balanced-1 ≡ record { refusal = some SizeAtOdds; workspace = replicate 10 7 })
+    × (run-at 1 3 balanced-1 ≡ record { refusal = some SizeAtOdds; workspace = replicate 10 7 })
 unfolding addM subM negM mulM total every joined fold tab flatMap all-below all-within cabinet decode node row-of window node-value values row-values node-degree
     degrees traces-within nodes-within traces-fit nodes-fit traces-below constants-below nodes-known degrees-low name-start tuple-start
     multiplicity-start flag-start element-start tuple-width tuple-nodes lookup-at lookups-of lookups-within lookups-fit sizes words-below known

@@ -1,19 +1,21 @@
 -- The examples of SPECIFICATION, sections 3, 10.1 and 12, that are about the expression table, as one table with one theorem.
 use mathlib.Core.Bool.{Bool, true, false, _&&_}
-use mathlib.Core.List.{List, [], _∷_}
+use mathlib.Core.List.{List, [], _∷_, _++_}
 use Prim.Native.Nat.{ℕ}
 use lib.Dec.{eqb, T}
 use Rattle.lists.specs.Count.{every}
 use Rattle.lists.specs.Same.{same-list}
 use Rattle.lists.specs.Cases.{Case, hold}
-use Rattle.field.specs.Known.{babybear}
+use Rattle.field.specs.Known.{babybear, known-field}
 use Rattle.field.specs.Word.{addM, subM, negM, mulM}
 use Rattle.expression.specs.Words.{all-below, all-within}
-use Rattle.expression.specs.Limits.{cabinet}
+use Rattle.expression.specs.Limits.{cabinet, gateway}
+use Rattle.expression.specs.Choices.{choices-of, known, limits-of}
 use Rattle.expression.specs.Node.{decode, node}
 use Rattle.expression.specs.Window.{Traces, row-of, window}
 use Rattle.expression.specs.Values.{bit, node-value, values, row-values}
 use Rattle.expression.specs.Degree.{node-degree, degrees}
+use Rattle.expression.specs.declared.sizes.Limits.{Limits}
 use Rattle.expression.specs.Tests.{traces-within, traces-below, constants-below, nodes-known, degrees-low}
 
 -- a verdict as a word: 1 where there is no such refusal
@@ -64,11 +66,23 @@ abbrev pub squared-again : List ℕ
 squared-again =
     1 ∷ 0 ∷ 0 ∷ 11 ∷ 0 ∷ 0 ∷ 11 ∷ 1 ∷ 1 ∷ 11 ∷ 2 ∷ 2 ∷ 11 ∷ 3 ∷ 3 ∷ 11 ∷ 4 ∷ 4 ∷ 11 ∷ 5 ∷ 5 ∷ 11 ∷ 6 ∷ 6 ∷ 11 ∷ 7 ∷ 7 ∷ []
 
+-- whether traces of one column each are within the limits, by their heights
+abbrev rows-within : Limits → ℕ → ℕ → List ℕ
+rows-within m height pre-height = verdict (traces-within m (record { «main_width» = 1; height = height; «pre_width» = 1; «pre_height» = pre-height }) [])
+
 abbrev pub cases : List Case
 cases =
     -- refusal 1: main width 0
     record { computed = verdict (traces-within cabinet (record { «main_width» = 0; height = 3; «pre_width» = 1; «pre_height» = 4 }) []); expected = 0 ∷ [] }
     ∷ record { computed = verdict (traces-within cabinet (three-rows .shape) (10 ∷ [])); expected = 1 ∷ [] }
+    -- the gateway: 4,096 rows and one more, of main and of the preprocessed trace; no such limit in the cabinet, and no profile 0 or 3
+    ∷ record { computed = rows-within gateway 4096 4096 ++ rows-within gateway 4097 0 ++ rows-within gateway 0 4097; expected = 1 ∷ 0 ∷ 0 ∷ [] }
+    ∷ record { computed = rows-within cabinet 4097 4097 ++ rows-within cabinet 1048577 0; expected = 1 ∷ 0 ∷ [] }
+    ∷ record {
+      computed = verdict (known (choices-of 1 1)) ++ verdict (known (choices-of 2 2)) ++ verdict (known (choices-of 1 0)) ++ verdict (known (choices-of 1 3));
+      expected = 1 ∷ 1 ∷ 0 ∷ 0 ∷ [];
+    }
+    ∷ record { computed = limits-of 1 .height ∷ limits-of 2 .height ∷ []; expected = 1048576 ∷ 4096 ∷ [] }
     -- refusal 2: a word 2013265921, in a list and in a constant
     ∷ record { computed = verdict (all-below babybear (5 ∷ 2013265921 ∷ [])); expected = 0 ∷ [] }
     ∷ record { computed = verdict (all-below babybear (5 ∷ 2013265920 ∷ [])); expected = 1 ∷ [] }
@@ -98,5 +112,5 @@ cases =
     ∷ []
 
 pub cases-hold : T (hold cases)
-unfolding addM subM negM mulM every all-below all-within cabinet decode node row-of window node-value values row-values node-degree degrees traces-within traces-below constants-below nodes-known degrees-low same-list
+unfolding addM subM negM mulM every all-below all-within cabinet gateway known-field known limits-of decode node row-of window node-value values row-values node-degree degrees traces-within traces-below constants-below nodes-known degrees-low same-list
 cases-hold = tt

@@ -1,6 +1,6 @@
 -- From the tests that passed to what the functions require.
 use mathlib.Core.Path.{_≡_, refl}
-use mathlib.Core.Bool.{Bool, true, false, _||_}
+use mathlib.Core.Bool.{Bool, true, false, cond, _||_}
 use mathlib.Core.List.{List, [], _∷_}
 use Prim.Native.Nat.{ℕ, _*_, _≤_, _<_}
 use native.Mathlib.Nat.{mul-le-mul-left}
@@ -11,7 +11,7 @@ use borrow.Author.Tests.{eqb-true, leb-true}
 use Rattle.field.specs.inner.Requires.{KnownPrime}
 use Rattle.lists.specs.laws.Tests.{both-left, both-right, passed}
 use Rattle.expression.specs.Words.{all-below}
-use Rattle.expression.specs.Limits.{cabinet, Sane}
+use Rattle.expression.specs.Limits.{cabinet, gateway, Sane}
 use Rattle.expression.specs.Choices.{limits-of}
 use Rattle.expression.specs.Node.{node-count}
 use Rattle.expression.specs.Window.{Traces}
@@ -21,7 +21,7 @@ use Rattle.expression.specs.laws.Below.{below-tested}
 use Rattle.expression.specs.declared.sizes.Shape.{Shape}
 use Rattle.expression.specs.declared.sizes.Limits.{Limits}
 
-pub cabinet-sane : Sane cabinet
+cabinet-sane : Sane cabinet
 unfolding cabinet
 cabinet-sane =
     record {
@@ -33,13 +33,41 @@ cabinet-sane =
       main-columns = omega arith;
       pre-columns = omega arith;
       height = omega arith;
+      name-bytes = omega arith;
       degree = omega arith;
+      prefixes = omega arith;
+      prefix-width = omega arith;
     }
 
--- whatever the number of the profile
-pub limits-sane : (profile : ℕ) → Sane (limits-of profile)
+gateway-sane : Sane gateway
+unfolding gateway
+gateway-sane =
+    record {
+      tables = cabinet-sane .tables;
+      lookups = omega arith;
+      tuples = cabinet-sane .tuples;
+      tuple-words = omega arith;
+      nodes = cabinet-sane .nodes;
+      main-columns = cabinet-sane .main-columns;
+      pre-columns = cabinet-sane .pre-columns;
+      height = omega arith;
+      name-bytes = cabinet-sane .name-bytes;
+      degree = cabinet-sane .degree;
+      prefixes = cabinet-sane .prefixes;
+      prefix-width = cabinet-sane .prefix-width;
+    }
+
+-- the limits of a number are those of the gateway or of the cabinet
+pub of-each-profile : (P : Limits → Type 0) → P cabinet → P gateway → (profile : ℕ) → P (limits-of profile)
 unfolding limits-of
-limits-sane profile = cabinet-sane
+of-each-profile P one two profile = by (eqb profile 2)
+  where
+    by : (b : Bool) → P (cond b gateway cabinet)
+    by true = two
+    by false = one
+
+pub limits-sane : (profile : ℕ) → Sane (limits-of profile)
+limits-sane = of-each-profile Sane cabinet-sane gateway-sane
 
 -- refusal 1: sizes within the limits are small
 pub small-tested : (m : Limits) (s : Shape) (public-values : List ℕ) → Sane m → traces-within m s public-values ≡ true → Small s

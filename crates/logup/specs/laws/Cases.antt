@@ -273,9 +273,9 @@ cases =
     ∷ record { computed = generated-at 1 1 1 (additive 1 (2013265921 ∷ [])) five (replicate 8 7777); expected = plain 2 (replicate 8 7777) }
     ∷ record { computed = take 4 (generated-at 2 1 1 (additive 1 (2013265921 ∷ [])) five (replicate 8 7777)); expected = plain 0 [] }
     ∷ record { computed = generated-at 2 1 1 (additive 1 (3 ∷ [])) (lift 2130706433 ++ lift 0) (replicate 8 7777); expected = plain 2 (replicate 8 7777) }
-    -- refusal 1, whatever else is wrong: field 3, profile 2, rule 2; also without lookups
+    -- refusal 1, whatever else is wrong: field 3, profile 3, rule 2; also without lookups
     ∷ record { computed = generated-at 3 1 1 (additive 1 []) [] (7777 ∷ []); expected = plain 1 (7777 ∷ []) }
-    ∷ record { computed = generated-at 1 2 1 (additive 1 (3 ∷ [])) five (replicate 8 7777); expected = plain 1 (replicate 8 7777) }
+    ∷ record { computed = generated-at 1 3 1 (additive 1 (3 ∷ [])) five (replicate 8 7777); expected = plain 1 (replicate 8 7777) }
     ∷ record { computed = generated-at 2 1 2 no-lookup [] (7777 ∷ []); expected = plain 1 (7777 ∷ []) }
     ∷ record { computed = tested-at 0 1 1 (additive 1 (3 ∷ [])) five (lift 0 ++ lift 1006632961) none; expected = plain 1 [] }
     ∷ record { computed = tested-at 2 1 2 no-lookup five [] none; expected = plain 1 [] }

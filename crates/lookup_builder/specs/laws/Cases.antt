@@ -81,7 +81,7 @@ pub cases :
     × (building-with (choices-of 2 1) 2130706433 ≡ record { answer = Refused WordTooLarge; lookups = lent })
     -- an unknown field or profile is 1, before 2, and the lent list stays
     × (building-with (choices-of 3 1) 4294967295 ≡ record { answer = Refused SizeAtOdds; lookups = lent })
-    × (building-with (choices-of 2 2) 0 ≡ record { answer = Refused SizeAtOdds; lookups = lent })
+    × (building-with (choices-of 2 3) 0 ≡ record { answer = Refused SizeAtOdds; lookups = lent })
 unfolding known-field prime-of known limits-of total every first joined all-below all-within cabinet decode node node-degree degrees nodes-within
     nodes-fit constants-below nodes-known degrees-low name-start tuple-start multiplicity-start flag-start element-start tuple-width columns-within
     form-sizes nodes-refusal lists-refusal form-refusal shape-of lookups-within lookups-fit lengths-agree nodes-present lists-agree greatest

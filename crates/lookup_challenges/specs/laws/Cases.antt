@@ -49,7 +49,7 @@ cases =
     ∷ record { computed = fourth 2 1 2130706433; expected = 2 ∷ 0 ∷ 0 ∷ 0 ∷ nine }
     -- an unknown field, an unknown profile: 1, also where 2 would follow
     ∷ record { computed = fourth 3 1 1; expected = 1 ∷ 0 ∷ 0 ∷ 0 ∷ nine }
-    ∷ record { computed = fourth 1 2 2130706430; expected = 1 ∷ 0 ∷ 0 ∷ 0 ∷ nine }
+    ∷ record { computed = fourth 1 3 2130706430; expected = 1 ∷ 0 ∷ 0 ∷ 0 ∷ nine }
     ∷ []
 
 -- each case computes to what SPECIFICATION says

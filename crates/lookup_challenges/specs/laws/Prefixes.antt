@@ -13,6 +13,7 @@ use Rattle.field.specs.Element.{Word4, element}
 use Rattle.field.specs.laws.Slice.{word-element}
 use Rattle.expression.specs.Words.{all-below}
 use Rattle.expression.specs.Requires.{Below}
+use Rattle.expression.specs.Limits.{Sane}
 use Rattle.expression.specs.Refusal.{numbers}
 use Rattle.expression.specs.declared.sizes.Limits.{Limits}
 use Rattle.expression.specs.declared.refusal.Refusal.{Refusal}
@@ -23,11 +24,11 @@ use Rattle.lookup_challenges.specs.inner.Requires.{Writable}
 pub loaded : {p : ℕ} {l e : List ℕ} → Below p l → e ≡ element l 0 → Word4 p e
 loaded {p} {l} {e} b q = rw q (word-element l 0 (b .each))
 
-pub writable : {p : ℕ} {s a b : Bool} (m : Limits) (alpha beta : List ℕ) (width n : ℕ) (out : List ℕ) → 0 < p → m .«prefix_width» ≤ 4294967295 → m .prefixes ≤ 4294967295
+pub writable : {p : ℕ} {s a b : Bool} (m : Limits) (alpha beta : List ℕ) (width n : ℕ) (out : List ℕ) → Sane m → 0 < p
     → s ≡ prefixes-fit m alpha beta width n (length out / 4) → not s ≡ false → a ≡ all-below p alpha → b ≡ all-below p beta → not (a && b) ≡ false
     → Writable p alpha beta width n out
 unfolding prefixes-fit
-writable {p} {s} {a} {b} m alpha beta width n out pos hk hm es hs ea eb h =
+writable {p} {s} {a} {b} m alpha beta width n out g pos es hs ea eb h =
     let t =
     passed (eqb (length alpha) 4) (eqb (length beta) 4 ∷ leb width (m .«prefix_width») ∷ leb n (m .prefixes) ∷ leb n (length out / 4) ∷ []) (sym es ∙ not-false s hs) in
     let u = passed a (b ∷ []) (not-false (a && b) h) in
@@ -36,8 +37,8 @@ writable {p} {s} {a} {b} m alpha beta width n out pos hk hm es hs ea eb h =
       beta-four = eqb-true (length beta) 4 (t .1 .0);
       alpha-below = below-tested alpha pos (sym ea ∙ u .0);
       beta-below = below-tested beta pos (sym eb ∙ u .1 .0);
-      narrow = omega (arith, leb-true width (m .«prefix_width») (t .1 .1 .0));
-      few = omega (arith, leb-true n (m .prefixes) (t .1 .1 .1 .0));
+      narrow = omega (arith, g .prefix-width, leb-true width (m .«prefix_width») (t .1 .1 .0));
+      few = omega (arith, g .prefixes, leb-true n (m .prefixes) (t .1 .1 .1 .0));
       room = omega (arith, leb-true n (length out / 4) (t .1 .1 .1 .1 .0));
     }
 

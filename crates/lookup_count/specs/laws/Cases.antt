@@ -41,7 +41,7 @@ cases =
     ∷ record { computed = negating 1 1 0; expected = 0 ∷ 0 ∷ 0 ∷ 0 ∷ 1 ∷ 4 ∷ 0 ∷ 1 ∷ 0 ∷ 12 ∷ 0 ∷ 0 ∷ [] }
     -- an unknown field, an unknown profile: 1, also where 3 would follow
     ∷ record { computed = counting 3 1 (pos 5); expected = 1 ∷ 0 ∷ 0 ∷ 0 ∷ 0 ∷ 0 ∷ 7 ∷ 7 ∷ 7 ∷ [] }
-    ∷ record { computed = counting 1 2 (pos 5); expected = 1 ∷ 0 ∷ 0 ∷ 0 ∷ 0 ∷ 0 ∷ 7 ∷ 7 ∷ 7 ∷ [] }
+    ∷ record { computed = counting 1 3 (pos 5); expected = 1 ∷ 0 ∷ 0 ∷ 0 ∷ 0 ∷ 0 ∷ 7 ∷ 7 ∷ 7 ∷ [] }
     ∷ record { computed = negating 0 1 1; expected = 1 ∷ 0 ∷ 0 ∷ 0 ∷ 0 ∷ 0 ∷ 0 ∷ 1 ∷ 0 ∷ 7 ∷ 7 ∷ 7 ∷ [] }
     ∷ []
 

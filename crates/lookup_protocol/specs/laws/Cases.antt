@@ -55,7 +55,7 @@ cases =
     ∷ record { computed = terminals 2 (1 ∷ 1 ∷ 0 ∷ 0 ∷ 0 ∷ 1 ∷ 2013265920 ∷ 0 ∷ 0 ∷ 0 ∷ []); expected = 20 ∷ 0 ∷ 0 ∷ 0 ∷ [] }
     -- an unknown field, an unknown profile: 1, also without terminals
     ∷ record { computed = terminals 3 []; expected = 1 ∷ 0 ∷ 0 ∷ 0 ∷ [] }
-    ∷ record { computed = answer (terminals-at (choices-of 1 2) []); expected = 1 ∷ 0 ∷ 0 ∷ 0 ∷ [] }
+    ∷ record { computed = answer (terminals-at (choices-of 1 3) []); expected = 1 ∷ 0 ∷ 0 ∷ 0 ∷ [] }
     -- c12: weight 2013265920, height 1 passes
     ∷ record { computed = weighing 1 2013265920 1; expected = passes }
     -- 19: weight 2013265921, height 1
@@ -74,7 +74,7 @@ cases =
     ∷ record { computed = answer (height-at (choices-of 1 1) [] [] (1 ∷ [])); expected = 1 ∷ 0 ∷ 0 ∷ 0 ∷ [] }
     -- an unknown field, an unknown profile: 1, also without tables
     ∷ record { computed = answer (height-at (choices-of 0 1) [] [] []); expected = 1 ∷ 0 ∷ 0 ∷ 0 ∷ [] }
-    ∷ record { computed = answer (height-at (choices-of 2 2) [] [] []); expected = 1 ∷ 0 ∷ 0 ∷ 0 ∷ [] }
+    ∷ record { computed = answer (height-at (choices-of 2 3) [] [] []); expected = 1 ∷ 0 ∷ 0 ∷ 0 ∷ [] }
     ∷ []
 
 -- each case computes to what SPECIFICATION says

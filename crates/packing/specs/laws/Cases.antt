@@ -210,11 +210,11 @@ pub cases :
     × (widths-at (in-field 2) (mem-tables 1 (2 ∷ 3 ∷ [])) ≡ widths.Refused (WidthsDiffer 0 2 3))
     -- an unknown field or profile is 1, before 5, and the lent lists stay
     × (degree-at (in-field 3) one-column one-node two 0 0 ≡ degree.Refused SizeAtOdds)
-    × (degree-at (choices-of 1 2) one-column one-node two 0 0 ≡ degree.Refused SizeAtOdds)
+    × (degree-at (choices-of 1 3) one-column one-node two 0 0 ≡ degree.Refused SizeAtOdds)
     × (packing-at (in-field 0) 3 one-column one-node five room ≡ record { answer = Refused SizeAtOdds; lists = room })
     × (packing-at (choices-of 2 0) 3 one-column one-node five room ≡ record { answer = Refused SizeAtOdds; lists = room })
     × (widths-at (in-field 3) (mem-tables 0 (2 ∷ 3 ∷ [])) ≡ widths.Refused SizeAtOdds)
-    × (widths-at (choices-of 1 2) (mem-tables 1 (2 ∷ 2 ∷ [])) ≡ widths.Refused SizeAtOdds)
+    × (widths-at (choices-of 1 3) (mem-tables 1 (2 ∷ 2 ∷ [])) ≡ widths.Refused SizeAtOdds)
 unfolding known-field prime-of known limits-of total every first tab flatMap zipWith all-below all-within cabinet decode node node-degree degrees
     nodes-within nodes-fit constants-below nodes-known degrees-low name-start tuple-start multiplicity-start flag-start element-start tuple-width
     multiplicity-node flag-node tuple-nodes lookup-at lookups-of lookups-within lookups-fit lengths-agree nodes-present lists-agree sum-of largest-of

@@ -1,5 +1,5 @@
 -- The theorem of SPECIFICATION, section 9.3, is not empty: any two tables with ledgers and lawful flags have a full set at each pair of
--- which generation accepts both, if the field is large enough; the known ones are, for all tables within the cabinet's limits.
+-- which generation accepts both, if the field is large enough; the known ones are, for all tables within the limits of a profile.
 use mathlib.Core.Path.{_≡_, refl, sym, ap, _∙_, subst}
 use mathlib.Core.Bool.{Bool, true, false, cond, _||_}
 use mathlib.Core.List.{List, [], _∷_, _++_, map, List-discrete, List·Memᴰ, Memᴰ·append-left, Memᴰ·append-right, Memᴰ·map}
@@ -21,7 +21,8 @@ use Rattle.theorems_logup.specs.Distinct.{Distinct}
 use Rattle.theorems_logup.specs.Sets.{Pairing}
 use Rattle.theorems_logup.specs.laws.Exists.{pairings, take-member, take-distinct}
 use Rattle.expression.specs.Choices.{limits-of}
-use Rattle.expression.specs.Limits.{cabinet}
+use Rattle.expression.specs.Limits.{Sane}
+use Rattle.expression.specs.laws.Tested.{limits-sane}
 use Rattle.expression.specs.Tests.{traces-within}
 use Rattle.expression.specs.Values.{row-values}
 use Rattle.expression.specs.declared.sizes.Limits.{Limits}
@@ -113,22 +114,22 @@ met-length (e ∷ es) = go (eqb (e .count) 0 || listed (e .tuple) (met es)) (met
 pub fourth-least : (p : ℕ) → babybear ≤ p → babybear * babybear * babybear * babybear ≤ p * p * p * p
 fourth-least p l = mul-le-mul (mul-le-mul (mul-le-mul l l) l) l
 
--- 64 tuples, height 2^20
-cabinet-entries : (p : ℕ) (t : Table) → T (sizes cabinet t) → length (entries p t) ≤ 67108864
-unfolding cabinet sizes traces-within lookups-within lookups-fit
-cabinet-entries p t ok =
-    let high : t .traces .shape .height ≤ 1048576 = leb→le (t .traces .shape .height) 1048576 (search (and-left, and-right) depth 14) in
-    let few : length (t .lookups .tuples) ≤ 64 = leb→le (length (t .lookups .tuples)) 64 (search (and-left, and-right) depth 14) in
+-- 64 tuples, height 2^20 at most
+entries-few : (m : Limits) (p : ℕ) (t : Table) → Sane m → T (sizes m t) → length (entries p t) ≤ 67108864
+unfolding sizes traces-within lookups-within lookups-fit
+entries-few m p t g ok =
+    let high : t .traces .shape .height ≤ 1048576 = le-trans (leb→le (t .traces .shape .height) (m .height) (search (and-left, and-right) depth 14)) (g .height) in
+    let few : length (t .lookups .tuples) ≤ 64 = le-trans (leb→le (length (t .lookups .tuples)) (m .tuples) (search (and-left, and-right) depth 14)) (g .tuples) in
     let same : length (t .lookups .tuples) ≡ tuple-start (t .lookups .lookups) (lookup-count (t .lookups .lookups)) =
     eqb→eq (length (t .lookups .tuples)) (tuple-start (t .lookups .lookups) (lookup-count (t .lookups .lookups))) (search (and-left, and-right) depth 14) in
     rw (entries-length p t, sym same) (mul-le-mul few high)
 
 -- and so few tuples are met
-pub cabinet-met : (p : ℕ) (t₁ t₂ : Table) → T (has-ledger cabinet p t₁) → T (has-ledger cabinet p t₂) → tuples-met p t₁ t₂ ≤ 134217728
+pub met-few : (m : Limits) (p : ℕ) (t₁ t₂ : Table) → Sane m → T (has-ledger m p t₁) → T (has-ledger m p t₂) → tuples-met p t₁ t₂ ≤ 134217728
 unfolding tuples-met
-cabinet-met p t₁ t₂ ok₁ ok₂ =
+met-few m p t₁ t₂ g ok₁ ok₂ =
     omega
-    (arith, met-length (entries p t₁ ++ entries p t₂), length-append (entries p t₁) (entries p t₂), cabinet-entries p t₁ (ledgered cabinet p t₁ ok₁ .one), cabinet-entries p t₂ (ledgered cabinet p t₂ ok₂ .one))
+    (arith, met-length (entries p t₁ ++ entries p t₂), length-append (entries p t₁) (entries p t₂), entries-few m p t₁ g (ledgered m p t₁ ok₁ .one), entries-few m p t₂ g (ledgered m p t₂ ok₂ .one))
 
 betas-few : (p width n : ℕ) → babybear ≤ p → width ≤ 8 → n ≤ 134217728 → 1 + (width - 1) * n * (n - 1) / 2 ≤ p * p * p * p
 betas-few p width n lp lw ln =
@@ -137,19 +138,18 @@ betas-few p width n lp lw ln =
     let c : (width - 1) * n * (n - 1) ≤ 7 * 134217728 * 134217728 = mul-le-mul (mul-le-mul a ln) b in
     le-trans {m = babybear * babybear * babybear * babybear} (omega arith) (fourth-least p lp)
 
--- A full set exists for all tables within the cabinet's limits, of tuples of at most 8 words, where the prime is no less than babybear
-pub cabinet-full-set-exists : (p w : ℕ) → Certificate p w → babybear ≤ p → FullSetsExist cabinet p (generation cabinet p w)
-cabinet-full-set-exists p w C lp t₁ t₂ width buffers₁ buffers₂ lw ok₁ ok₂ flags₁ flags₂ room₁ room₂ =
-    let few₁ : length (entries p t₁) ≤ 67108864 = cabinet-entries p t₁ (ledgered cabinet p t₁ ok₁ .one) in
-    let few₂ : length (entries p t₂) ≤ 67108864 = cabinet-entries p t₂ (ledgered cabinet p t₂ ok₂ .one) in
-    let few : tuples-met p t₁ t₂ ≤ 134217728 = cabinet-met p t₁ t₂ ok₁ ok₂ in
+-- A full set exists for all tables within the limits of a profile, of tuples of at most 8 words, where the prime is no less than babybear
+full-sets-exist : (m : Limits) (p w : ℕ) → Sane m → Certificate p w → babybear ≤ p → FullSetsExist m p (generation m p w)
+full-sets-exist m p w g C lp t₁ t₂ width buffers₁ buffers₂ lw ok₁ ok₂ flags₁ flags₂ room₁ room₂ =
+    let few₁ : length (entries p t₁) ≤ 67108864 = entries-few m p t₁ g (ledgered m p t₁ ok₁ .one) in
+    let few₂ : length (entries p t₂) ≤ 67108864 = entries-few m p t₂ g (ledgered m p t₂ ok₂ .one) in
+    let few : tuples-met p t₁ t₂ ≤ 134217728 = met-few m p t₁ t₂ g ok₁ ok₂ in
     let many : babybear * babybear * babybear * babybear ≤ p * p * p * p = fourth-least p lp in
-    full-set-exists cabinet p w C t₁ t₂ width buffers₁ buffers₂ ok₁ ok₂ flags₁ flags₂ room₁ room₂
+    full-set-exists m p w C t₁ t₂ width buffers₁ buffers₂ ok₁ ok₂ flags₁ flags₂ room₁ room₂
     (omega arith) (betas-few p width (tuples-met p t₁ t₂) lp lw few)
 
 -- and so in each field, at the entry point
 pub logup-full-sets : KnownFullSets
-unfolding limits-of
 logup-full-sets =
     at-known FullSetsExist
-    (λ c k. cabinet-full-set-exists (prime-of (c .field)) (w-of (c .field)) (certificate-of (c .field)) (prime-least (c .field)))
+    (λ c k. full-sets-exist (limits-of (c .profile)) (prime-of (c .field)) (w-of (c .field)) (limits-sane (c .profile)) (certificate-of (c .field)) (prime-least (c .field)))

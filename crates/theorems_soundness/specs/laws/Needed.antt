@@ -37,7 +37,7 @@ use Rattle.theorems_soundness.specs.Error.{Passes, passing-pairs, AtMost
 use Rattle.theorems_soundness.specs.laws.Choices.{prime-least, known-of, rule-1}
 use Rattle.theorems_soundness.specs.laws.Elements.{element-lift}
 use Rattle.theorems_soundness.specs.laws.Error.{logup-soundness-error}
-use Rattle.theorems_soundness.specs.laws.CabinetError.{logup-error}
+use Rattle.theorems_soundness.specs.laws.OneIn2To67.{logup-error}
 use Rattle.theorems_soundness.specs.laws.Points.{fourth-power, elements, elements-many, elements-distinct, elements-are}
 use Rattle.theorems_soundness.specs.laws.FullSets.{fourth-least}
 use Rattle.theorems_soundness.specs.laws.Cases.{generate-in, limits, m-bus, buffers, low, high, left-table, right-table, word-holds, triple-holds}

@@ -2,7 +2,8 @@ use Rattle.delmatik_bytes.specs.inner.Words.{list, lookups-in}
 use Rattle.wire.specs.laws.Room.{scaled}
 use Rattle.wire.specs.inner.Place.{parts, five-ends}
 use Rattle.delmatik_bytes.specs.laws.Pack.{counts-in}
-use Rattle.packing_entry.proofs.Answers.{limits-ask, whole, held, answer-small, answer-refused, answer-formed}
+use Rattle.expression.specs.laws.Tested.{limits-sane}
+use Rattle.packing_entry.proofs.Answers.{whole, held, answer-small, answer-refused, answer-formed}
 use Rattle.packing_columns.specs.inner.Layout.{counts-hold}
 use Rattle.packing.specs.PackSameBus.{Outcome, counts}
 use Rattle.lookup_degree.specs.laws.Formed.{formed}
@@ -207,7 +208,7 @@ prime-of-requires c κs = search needs
 form-refusal-requires : tie.Need-form-refusal-requires
 form-refusal-requires c κs =
     let at-limits-of = c .before in
-    rw (at-limits-of .limits-of .ensures) (limits-ask _ .0)
+    rw (at-limits-of .limits-of .ensures) (limits-sane _)
 
 enum-known-v : tie.Need-enum-known-v
 enum-known-v c = search needs
@@ -222,11 +223,11 @@ pack-formed-requires c κs =
     let at-limits-of = c .before .before .before .before .before .before in
     let at-if1 = c .before .before .before .before .before .before .before in
     let start = c .before .before .before .before .before .before .before .before .before .before .before .before .before .before .before .before .before .before .before .before .before .before .before in
-    let ask = limits-ask (start .args .choices .profile) in
+    let sane = limits-sane (start .args .choices .profile) in
     let none-refused = sym (refused-is at-form-refusal) ∙ ap refusal (at-enum-told .enum-told .given .1) in
-    let form = formed (limits start) (prime start) (start .args .columns) (nodes start) (given start) (ask .0) none-refused in (
+    let form = formed (limits start) (prime start) (start .args .columns) (nodes start) (given start) sane none-refused in (
       rw (at-limits-of .limits-of .ensures) form,
-      whole (limits start) (prime start) (start .args .columns) (nodes start) (given start) (ask .0) (ask .1) form none-refused,
+      whole (limits start) (prime start) (start .args .columns) (nodes start) (given start) sane form none-refused,
       start .pre .1,
       held (given start) (lent start) (held-so (at-if1 .before)) (at-if1 .if1 .left),
     )

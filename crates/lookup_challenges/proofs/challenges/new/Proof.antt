@@ -1,8 +1,6 @@
-use native.Mathlib.Omega.{arith}
 use borrow.Author.Tests.{not-true, not-false}
 use Rattle.field.specs.laws.Known.{known-prime, w-below}
-use Rattle.expression.specs.Limits.{cabinet}
-use Rattle.expression.specs.Choices.{limits-of}
+use Rattle.expression.specs.laws.Tested.{limits-sane}
 use Rattle.lookup_challenges.specs.Prefixes.{prefixes-at}
 use Rattle.lookup_challenges.specs.laws.Prefixes.{outcome-is}
 use borrow.Author.Needs.{needs}
@@ -26,10 +24,9 @@ w-of-requires : tie.Need-w-of-requires
 w-of-requires c κs = search needs
 
 prefixes-requires : tie.Need-prefixes-requires
-unfolding limits-of cabinet
 prefixes-requires c κs =
     let at-2 = c .before .before in
-    rw (at-2 .prime-of .ensures, c .before .w-of .ensures, at-2 .before .limits-of .ensures) (known-prime _, w-below _, omega arith, omega arith)
+    rw (at-2 .prime-of .ensures, c .before .w-of .ensures, at-2 .before .limits-of .ensures) (limits-sane _, known-prime _, w-below _)
 
 same-length : tie.Need-same-length
 same-length c = search needs

@@ -59,10 +59,10 @@ write-requires c κs =
     let at-5 = at-4 .before in
     let at-6 = at-5 .before in
     let at-10 = at-6 .before .before .before .before in (
-      at-10 .pre .0,
       at-10 .pre .1,
+      at-10 .pre .2,
       writable (at-10 .args .limits) (at-10 .args .alpha .now) (at-10 .args .beta .now) (at-10 .args .width) (at-10 .args
-          .count) (at-10 .args .out .now) (omega (arith, at-10 .pre .0 .big)) (at-10 .pre .3) (at-10 .pre .2) (at-6 .fits2 .ensures) (at-5 .if1 .left)
+          .count) (at-10 .args .out .now) (at-10 .pre .0) (omega (arith, at-10 .pre .1 .big)) (at-6 .fits2 .ensures) (at-5 .if1 .left)
           (at-4 .all-below .ensures) (c .before .before .before .all-below2 .ensures) (c .before .before .if2 .left),
     )
 

@@ -1,5 +1,6 @@
 use Rattle.packing.specs.PackSameBus.{in-numbers}
-use Rattle.packing_entry.proofs.Answers.{limits-ask, choice-unknown, choices-known}
+use Rattle.expression.specs.laws.Tested.{limits-sane}
+use Rattle.packing_entry.proofs.Answers.{choice-unknown, choices-known}
 use Rattle.lookup.specs.Lookups.{lent-lookups}
 use mathlib.Core.Path.{ap}
 use borrow.Author.Needs.{needs}
@@ -25,7 +26,7 @@ prime-of-requires : tie.Need-prime-of-requires
 prime-of-requires c κs = search needs
 
 pack-within-requires : tie.Need-pack-within-requires
-pack-within-requires c κs = rw (c .before .before .before .before .before .before .before .limits-of .ensures) (limits-ask _)
+pack-within-requires c κs = rw (c .before .before .before .before .before .before .before .limits-of .ensures) (limits-sane _)
 
 same-length : tie.Need-same-length
 same-length c = search needs

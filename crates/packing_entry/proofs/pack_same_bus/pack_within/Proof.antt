@@ -43,9 +43,9 @@ pack-formed-requires c κs =
     let own = lent-lookups (args .lookups .now) (args .names .now) (args .tuples .now) (args .multiplicities .now) (args .flags .now) (args .elements
     .now) in
     let none-refused = sym (at-8 .form-refusal .ensures) ∙ ap refusal (at-6 .enum-told .given .1) in
-    let f : Formed (args .limits) (args .nodes .now) own = formed (args .limits) (args .p) (args .columns) (args .nodes .now) own (at-24 .pre .0) none-refused in (
+    let f : Formed (args .limits) (args .nodes .now) own = formed (args .limits) (args .p) (args .columns) (args .nodes .now) own (at-24 .pre) none-refused in (
       f,
-      whole (args .limits) (args .p) (args .columns) (args .nodes .now) own (at-24 .pre .0) (at-24 .pre .1) f none-refused,
+      whole (args .limits) (args .p) (args .columns) (args .nodes .now) own (at-24 .pre) f none-refused,
       held own lent (at-10
           .counts-hold .ensures) (at-9 .if1 .left),
     )

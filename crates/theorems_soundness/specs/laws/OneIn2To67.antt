@@ -1,4 +1,4 @@
--- The soundness error for tables within the cabinet's limits: 2^27 tuples of at most 8 words.
+-- The soundness error for tables within the limits of a profile: at most 2^27 tuples of at most 8 words.
 use mathlib.Core.Path.{_≡_, refl, sym, subst}
 use mathlib.Core.Logic.{⊎-elim}
 use mathlib.Core.List.{List, [], _∷_, _++_, List·Memᴰ, List·Memᴰ·head, List·Memᴰ·append-cases}
@@ -15,7 +15,9 @@ use Rattle.field.specs.laws.Known.{modulus-of, certificate-of}
 use Rattle.theorems_logup.specs.laws.Support.{support, support-is}
 use Rattle.expression.specs.Choices.{limits-of}
 use Rattle.expression.specs.Words.{all-within}
-use Rattle.expression.specs.Limits.{cabinet}
+use Rattle.expression.specs.Limits.{Sane}
+use Rattle.expression.specs.laws.Tested.{limits-sane}
+use Rattle.expression.specs.declared.sizes.Limits.{Limits}
 use Rattle.expression.specs.laws.Below.{within-tested}
 use Rattle.lookup.specs.Lookups.{tuple-start, tuple-width}
 use Rattle.lookup.specs.Table.{Table}
@@ -31,16 +33,19 @@ use Rattle.theorems_soundness.specs.laws.Ledgers.{whence}
 use Rattle.theorems_soundness.specs.laws.Soundness.{met-count}
 use Rattle.theorems_soundness.specs.laws.Entered.{ledgered}
 use Rattle.theorems_soundness.specs.laws.Error.{soundness-error}
-use Rattle.theorems_soundness.specs.laws.FullSets.{fourth-least, cabinet-met}
+use Rattle.theorems_soundness.specs.laws.FullSets.{fourth-least, met-few}
 
--- 8 words a tuple, if there is one
-cabinet-width : (p width : ℕ) (t : Table) → T (sizes cabinet t) → AllWide width t → (e : Entry) → List·Memᴰ e (entries p t) → width ≤ 8
-unfolding cabinet sizes lookups-within tuple-width
-cabinet-width p width t ok wide e mem =
+-- 8 words a tuple at most, if there is one
+width-low : (m : Limits) (p width : ℕ) (t : Table) → Sane m → T (sizes m t) → AllWide width t → (e : Entry) → List·Memᴰ e (entries p t) → width ≤ 8
+unfolding sizes lookups-within tuple-width
+width-low m p width t g ok wide e mem =
     let o = whence p t mem in
-    let narrow : T (all-within 8 (t .lookups .tuples)) = search (and-left, and-right) depth 14 in
-    subst (λ (n : ℕ). n ≤ 8) (wide (o .lookup) (o .number) (o .lookup-there) (o .number-there))
-    (within-tested 8 (t .lookups .tuples) (true-of (all-within 8 (t .lookups .tuples)) narrow) (tuple-start (t .lookups .lookups) (o .lookup) + o .number))
+    let low : T (all-within (m .«tuple_words») (t .lookups .tuples)) = search (and-left, and-right) depth 14 in
+    le-trans
+    (subst (λ (n : ℕ). n ≤ m .«tuple_words») (wide (o .lookup) (o .number) (o .lookup-there) (o .number-there))
+    (within-tested (m .«tuple_words») (t .lookups .tuples) (true-of (all-within (m .«tuple_words») (t .lookups .tuples)) low)
+    (tuple-start (t .lookups .lookups) (o .lookup) + o .number)))
+    (g .tuple-words)
 
 few-of : (p a b : ℕ) → babybear ≤ p → a ≤ 939524096 → b ≤ 134217728 → p ^ 4 * (a * b / 2 + b) * 2 ^ 67 ≤ p ^ 8
 few-of p a b lp la lb =
@@ -51,8 +56,8 @@ few-of p a b lp la lb =
     let few : (a * b / 2 + b) * 2 ^ 67 ≤ p ^ 4 = le-trans (mul-le-mul-right (2 ^ 67) d) (le-trans (lit≤ tt) elements) in
     rw (mul-assoc (p ^ 4) (a * b / 2 + b) (2 ^ 67), sym (eighth-power p), fourth-power p) (mul-le-mul-left (p ^ 4) few)
 
-module _ (p w : ℕ) (C : Certificate p w) (t₁ t₂ : Table) (width : ℕ) (wide₁ : AllWide width t₁) (wide₂ : AllWide width t₂)
-    (ok₁ : T (has-ledger cabinet p t₁)) (ok₂ : T (has-ledger cabinet p t₂)) where
+module _ (m : Limits) (g : Sane m) (p w : ℕ) (C : Certificate p w) (t₁ t₂ : Table) (width : ℕ) (wide₁ : AllWide width t₁) (wide₂ : AllWide width t₂)
+    (ok₁ : T (has-ledger m p t₁)) (ok₂ : T (has-ledger m p t₂)) where
   abbrev both : List Entry
   both = entries p t₁ ++ entries p t₂
 
@@ -61,9 +66,9 @@ module _ (p w : ℕ) (C : Certificate p w) (t₁ t₂ : Table) (width : ℕ) (wi
 
   -- a list that is met has at most 8 words
   narrow-of : (l : List ℕ) → List·Memᴰ l S → width ≤ 8
-  narrow-of l m =
-      let (e, k, _, _) = support-is (K p w C) (N p w C) both .occurs l m in
-      ⊎-elim (cabinet-width p width t₁ (ledgered cabinet p t₁ ok₁ .one) wide₁ e) (cabinet-width p width t₂ (ledgered cabinet p t₂ ok₂ .one) wide₂ e)
+  narrow-of l member =
+      let (e, k, _, _) = support-is (K p w C) (N p w C) both .occurs l member in
+      ⊎-elim (width-low m p width t₁ g (ledgered m p t₁ ok₁ .one) wide₁ e) (width-low m p width t₂ g (ledgered m p t₂ ok₂ .one) wide₂ e)
       (List·Memᴰ·append-cases (entries p t₁) k)
 
   words-few : (s : List (List ℕ)) → ((l : List ℕ) → List·Memᴰ l s → width ≤ 8) → length s ≤ 134217728 → (width - 1) * length s ≤ 939524096
@@ -75,19 +80,18 @@ module _ (p w : ℕ) (C : Certificate p w) (t₁ t₂ : Table) (width : ℕ) (wi
 
   few-pass : babybear ≤ p → passing-pairs p width (tuples-met p t₁ t₂) * 2 ^ 67 ≤ p ^ 8
   few-pass lp =
-      let few : tuples-met p t₁ t₂ ≤ 134217728 = cabinet-met p t₁ t₂ ok₁ ok₂ in
+      let few : tuples-met p t₁ t₂ ≤ 134217728 = met-few m p t₁ t₂ g ok₁ ok₂ in
       let count : tuples-met p t₁ t₂ ≡ length S = met-count p w C t₁ t₂ in
       few-of p ((width - 1) * tuples-met p t₁ t₂) (tuples-met p t₁ t₂ - 1) lp (rw count (words-few S narrow-of (rw count at few))) (omega arith)
 
 -- in a field whose prime is no less than babybear
-cabinet-error : (p w : ℕ) → Modulus p → Certificate p w → babybear ≤ p → OneIn2To67 cabinet p (generation cabinet p w)
-cabinet-error p w M C lp t₁ t₂ bus width pairs buffers₁ buffers₂ c differ dist pass =
-    le-trans (soundness-error cabinet p w M C t₁ t₂ bus width pairs buffers₁ buffers₂ c differ dist pass)
-    (le-div-iff-mul-le (lit< tt) .1 (few-pass p w C t₁ t₂ width (c .wide₁) (c .wide₂) (c .ledger₁) (c .ledger₂) lp))
+error-low : (m : Limits) (p w : ℕ) → Sane m → Modulus p → Certificate p w → babybear ≤ p → OneIn2To67 m p (generation m p w)
+error-low m p w g M C lp t₁ t₂ bus width pairs buffers₁ buffers₂ c differ dist pass =
+    le-trans (soundness-error m p w M C t₁ t₂ bus width pairs buffers₁ buffers₂ c differ dist pass)
+    (le-div-iff-mul-le (lit< tt) .1 (few-pass m g p w C t₁ t₂ width (c .wide₁) (c .wide₂) (c .ledger₁) (c .ledger₂) lp))
 
 -- and so in each known one, at the entry point
 pub logup-error : KnownError
-unfolding limits-of
 logup-error =
     at-known OneIn2To67
-    (λ c k. cabinet-error (prime-of (c .field)) (w-of (c .field)) (modulus-of (c .field)) (certificate-of (c .field)) (prime-least (c .field)))
+    (λ c k. error-low (limits-of (c .profile)) (prime-of (c .field)) (w-of (c .field)) (limits-sane (c .profile)) (modulus-of (c .field)) (certificate-of (c .field)) (prime-least (c .field)))

@@ -1,0 +1,9 @@
+pub mod Narrower
+pub mod Refusals
+pub mod Profiles
+pub mod Calls
+pub mod TableExamples
+pub mod LookupExamples
+pub mod OtherExamples
+pub mod BalanceExamples
+pub mod Examples

@@ -1,0 +1,64 @@
+-- The theorem is met at every entry point: calls at the gateway's limits of lookups and words, which it answers by another number than 1, through the
+-- theorem itself. That one lookup or one word more is refused in the gateway alone is computed beside the numbers.
+use Prim.Native.Nat.{ℕ}
+use mathlib.Core.Path.{_≡_, sym, ap, _∙_}
+use mathlib.Core.Logic.{_≢_}
+use mathlib.Core.List.{List}
+use native.Mathlib.Omega.{arith}
+use Rattle.expression.specs.Choices.{choices-of}
+use Rattle.expression.specs.Words.{word}
+use Rattle.theorems_profiles.specs.laws.Profiles.{gateway-in-cabinet}
+use Rattle.theorems_profiles.specs.laws.Calls as calls
+use Rattle.theorems_profiles.specs.laws.TableExamples as tables
+use Rattle.theorems_profiles.specs.laws.LookupExamples as lookups
+use Rattle.theorems_profiles.specs.laws.OtherExamples as others
+use Rattle.theorems_profiles.specs.laws.BalanceExamples as balances
+
+-- another number than 1 at this place of the list
+not-1 : {ns : List ℕ} (expected : List ℕ) (i : ℕ) → ns ≡ expected → word expected i ≢ 1 → word ns i ≢ 1
+not-1 expected i e h q = h (ap (λ (ns : List ℕ). word ns i) (sym e) ∙ q)
+
+pub record Met (field : ℕ) : Type 0 where
+  pub generation : calls.generated 8 4 (choices-of field 2) ≡ calls.generated 8 4 (choices-of field 1)
+  pub constraints : calls.tested 8 4 field (choices-of field 2) ≡ calls.tested 8 4 field (choices-of field 1)
+  pub degree : calls.degree-of-first 8 4 (choices-of field 2) ≡ calls.degree-of-first 8 4 (choices-of field 1)
+  pub packing : calls.packed 8 4 (choices-of field 2) ≡ calls.packed 8 4 (choices-of field 1)
+  pub building : calls.built 8 4 (choices-of field 2) ≡ calls.built 8 4 (choices-of field 1)
+  pub widths : calls.widest 8 4 (choices-of field 2) ≡ calls.widest 8 4 (choices-of field 1)
+  pub height-bound : calls.bounded 8 4 (choices-of field 2) ≡ calls.bounded 8 4 (choices-of field 1)
+  pub terminals : calls.summed 8 4 (choices-of field 2) ≡ calls.summed 8 4 (choices-of field 1)
+  pub prefixes : calls.prefixed 8 4 (choices-of field 2) ≡ calls.prefixed 8 4 (choices-of field 1)
+  pub from-i32 : calls.counted 8 4 (choices-of field 2) ≡ calls.counted 8 4 (choices-of field 1)
+  pub negated : calls.turned 8 4 (choices-of field 2) ≡ calls.turned 8 4 (choices-of field 1)
+  pub balance : calls.balanced 8 4 (choices-of field 2) ≡ calls.balanced 8 4 (choices-of field 1)
+  pub generation-on-bytes : calls.generated-bytes 8 4 (choices-of field 2) ≡ calls.generated-bytes 8 4 (choices-of field 1)
+  pub packing-on-bytes : calls.packed-bytes 8 4 (choices-of field 2) ≡ calls.packed-bytes 8 4 (choices-of field 1)
+  pub balance-on-bytes : calls.balanced-bytes 8 4 (choices-of field 2) ≡ calls.balanced-bytes 8 4 (choices-of field 1)
+
+in-cabinet : (field : ℕ) → tables.Computed field → lookups.Computed field → others.Computed field → balances.Computed field → Met field
+in-cabinet field t l o b =
+    let all = gateway-in-cabinet in
+    let on-words = all .on-words in
+    record {
+      generation = on-words .generation 1 _ _ _ field (not-1 tables.answers 0 (t .within) (λ e. omega arith));
+      constraints = on-words .constraints 1 _ _ _ _ _ field (not-1 tables.answers 1 (t .within) (λ e. omega arith));
+      degree = on-words .degree _ _ _ _ _ field (not-1 lookups.answers 0 (l .within) (λ e. omega arith));
+      packing = on-words .packing _ _ _ _ _ field (not-1 lookups.answers 1 (l .within) (λ e. omega arith));
+      building = on-words .building _ _ _ _ _ field (not-1 lookups.answers 2 (l .within) (λ e. omega arith));
+      widths = on-words .widths _ field (not-1 lookups.answers 3 (l .within) (λ e. omega arith));
+      height-bound = on-words .height-bound _ _ _ field (not-1 others.answers 0 (o .within) (λ e. omega arith));
+      terminals = on-words .terminals _ field (not-1 others.answers 1 (o .within) (λ e. omega arith));
+      prefixes = on-words .prefixes _ _ _ _ _ field (not-1 others.answers 2 (o .within) (λ e. omega arith));
+      from-i32 = on-words .from-i32 _ _ _ field (not-1 others.answers 3 (o .within) (λ e. omega arith));
+      negated = on-words .negated _ _ _ field (not-1 others.answers 4 (o .within) (λ e. omega arith));
+      balance = on-words .balance _ _ field (not-1 balances.answers 0 (b .within) (λ e. omega arith));
+      generation-on-bytes = all .generation-on-bytes 1 _ _ _ _ _ _ field (not-1 tables.answers 2 (t .within) (λ e. omega arith));
+      packing-on-bytes = all .packing-on-bytes _ _ _ _ _ _ _ _ field (not-1 lookups.answers 4 (l .within) (λ e. omega arith));
+      balance-on-bytes = all .balance-on-bytes _ _ _ _ field (not-1 balances.answers 1 (b .within) (λ e. omega arith));
+    }
+
+pub met : Met 1 × Met 2
+met = (
+  in-cabinet 1 (tables.computed .0) (lookups.computed .0) (others.computed .0) (balances.computed .0),
+  in-cabinet 2 (tables.computed .1) (lookups.computed .1) (others.computed .1) (balances.computed .1),
+)
