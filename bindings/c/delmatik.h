@@ -33,9 +33,13 @@ extern "C" {
 #define DELMATIK_BABYBEAR 1
 #define DELMATIK_KOALABEAR 2
 
-/* The profile of a call; any other number is refusal 1, before anything else is read.
- * In the cabinet a call keeps the limits of docs/SPECIFICATION.md, section 11, and what passes one is refusal 1. */
+/* The profile of a call, whose limits it keeps (docs/SPECIFICATION.md, section 11): what passes one is refusal 1. Any other number is refusal 1,
+ * before anything else is read.
+ * In the cabinet a table has at most 64 lookups, a tuple 8 words, and either trace 2^20 rows.
+ * In the gateway a table has at most 8 lookups, a tuple 4 words, and either trace 4,096 rows; all other limits are the cabinet's.
+ * A call that the gateway does not refuse by 1 has the same answer and outputs in the cabinet. */
 #define DELMATIK_CABINET 1
+#define DELMATIK_GATEWAY 2
 
 /* The tuple rule of generation and constraints; any other number is refusal 1, before anything else is read.
  * By rule 1 the first word of a tuple goes with the highest power of beta, and the last with beta^0. */

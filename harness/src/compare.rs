@@ -4,11 +4,11 @@ use std::fmt::Debug;
 
 use crate::exports::{Exports, Model, Rooms, built_words, marked};
 use crate::generator::{Case, List};
-use crate::model::{self, Answer};
+use crate::model::{self, Answer, Profile};
 use crate::plain::{Ext, Field};
 use crate::port::Port;
 use crate::table::{Plan, Table, bytes_of, word};
-use crate::wrapper::Wrapper;
+use crate::wrapper::{Refused, Wrapper};
 
 /// How a function's answer was compared.
 #[derive(Clone, Copy, Debug, PartialEq, Eq, PartialOrd, Ord)]
@@ -29,19 +29,23 @@ pub struct Disagreement {
     pub text: String,
 }
 
-/// How many tables there were in each field, in how many cases a choice was unknown, and how often each function gave each number.
+/// How many tables there were in each field and profile, in how many cases a choice was unknown, how often each function gave each number, was
+/// compared with the port, and was called once more in the cabinet.
 #[derive(Default)]
 pub struct Tally {
     pub fields: BTreeMap<Field, u64>,
+    pub profiles: BTreeMap<Profile, u64>,
     pub unknown: u64,
     pub counts: BTreeMap<(&'static str, u32, Compared), u64>,
     pub ported: BTreeMap<&'static str, u64>,
+    pub repeated: BTreeMap<&'static str, u64>,
 }
 
 type Checked = Result<Compared, String>;
 
 pub fn check(case: &Case, port: Option<Port>, tally: &mut Tally) -> Result<(), Disagreement> {
     *tally.fields.entry(case.field()).or_default() += case.tables.len() as u64;
+    *tally.profiles.entry(case.chosen().profile).or_default() += case.tables.len() as u64;
     tally.unknown += u64::from(case.choices.known_with_rule().is_none());
     let mut run = |function: &'static str, (answer, compared): (Answer, Checked)| match compared {
         Ok(compared) => {
@@ -86,8 +90,8 @@ pub fn asked(case: &Case) -> (u64, Vec<u32>, Option<Ext>) {
         }
         _ => (vec![], (0 < n).then_some([0; 4])),
     };
-    // Sizes that generation refuses are refused here too, whatever the trace.
-    let cells = if answer.number == 1 { 0 } else { width as usize * t.height as usize * 4 };
+    // Of the length that the sizes say, also where one is over a limit: the limit alone refuses it then.
+    let cells = if t.fits() { width as usize * t.height as usize * 4 } else { 0 };
     let mut trace = vec![5; cells];
     let needed = 4 * (n + 1);
     for (to, from) in trace.chunks_exact_mut(4 * width as usize).zip(rows.chunks_exact(needed)) {
@@ -215,7 +219,8 @@ mod against_crate {
         let (width, trace, terminal) = asked(case);
         let answer = model::constraints(t, &case.challenges, width, &trace, terminal);
         let words = [&case.challenges[..], &trace, &terminal.unwrap_or_default()].concat();
-        if matches!(answer.number, 1 | 2) || !oracle::takes(t) || !below_p(t.field, &words) {
+        let whole = || case.challenges.len().is_multiple_of(4) && trace.len() as u64 == 4 * width * t.height;
+        if !oracle::takes(t) || !whole() || !below_p(t.field, &words) {
             return (answer, Ok(Compared::Untaken));
         }
         let run = || oracle::constraints(t, &case.challenges, width, &trace, terminal);
@@ -245,7 +250,7 @@ mod against_crate {
         let t = &case.tables[0];
         let (answer, degree) = model::degree(t, lookup as u64, case.transition);
         if answer.number != 0 || !oracle::takes(t) {
-            let limit = oracle::takes(t) && answer.number == 4;
+            let limit = oracle::takes(t) && lookup < t.lookup_count();
             return (answer, Ok(if limit { Compared::Limit } else { Compared::Untaken }));
         }
         (answer, answers(oracle::degree(t, lookup, case.transition as usize), degree))
@@ -331,7 +336,7 @@ mod against_crate {
     }
 
     pub fn terminals(case: &Case) -> (Answer, Checked) {
-        let answer = model::terminals(case.field(), &case.terminals);
+        let answer = model::terminals(case.chosen(), &case.terminals);
         let checked = match answer.number {
             0 | 20 => answers(oracle::terminals(case.field(), &case.terminals), answer.number == 0),
             _ => Ok(Compared::Untaken),
@@ -341,7 +346,7 @@ mod against_crate {
 
     pub fn prefixes(case: &Case) -> (Answer, Checked) {
         let (alpha, beta) = (case.challenge(0), case.challenge(1));
-        let (answer, prefixes) = model::prefixes(case.field(), alpha, beta, case.prefix_width, case.prefixes);
+        let (answer, prefixes) = model::prefixes(case.chosen(), alpha, beta, case.prefix_width, case.prefixes);
         let run = || oracle::prefixes(case.field(), alpha, beta, case.prefix_width, case.prefixes);
         let checked = match answer.number {
             0 => answers(run(), prefixes),
@@ -396,16 +401,44 @@ fn lent_numbers<const N: usize>() -> [u64; N] {
     std::array::from_fn(|i| 0xFEDCBA9876543210 + i as u64)
 }
 
+/// What a call gives back: its answer, and all that was lent to it to be written, as it is afterwards.
+trait Given: PartialEq + Debug {
+    fn number(&self) -> u32;
+}
+
+impl Given for Answer {
+    fn number(&self) -> u32 {
+        self.number
+    }
+}
+
+impl<T: PartialEq + Debug> Given for Refused<T> {
+    fn number(&self) -> u32 {
+        self.as_ref().err().map_or(0, |answer| answer.number)
+    }
+}
+
+impl<A: Given, L: PartialEq + Debug> Given for (A, L) {
+    fn number(&self) -> u32 {
+        self.0.number()
+    }
+}
+
+const MODEL: Port = Port { exports: &Model, wrapper: &Model };
+
 /// The model and the port, beside each other.
 struct Beside<'a> {
     case: &'a Case,
+    /// The same in the cabinet, of a case in the gateway.
+    in_cabinet: Option<Case>,
     port: Port<'a>,
     tally: &'a mut Tally,
 }
 
-/// The model beside the port, on every input: the answer, and every word that was lent to be written.
+/// The model beside the port, on every input, and the gateway beside the cabinet: the answer, and every word that was lent to be written.
 pub fn check_port(case: &Case, port: Port, tally: &mut Tally) -> Result<(), Disagreement> {
-    let mut beside = Beside { case, port, tally };
+    let in_cabinet = (case.chosen().profile == Profile::Gateway).then(|| case.in_cabinet());
+    let mut beside = Beside { case, in_cabinet, port, tally };
     beside.of_one_table()?;
     beside.of_several_tables()?;
     beside.of_words()?;
@@ -414,43 +447,60 @@ pub fn check_port(case: &Case, port: Port, tally: &mut Tally) -> Result<(), Disa
 }
 
 impl Beside<'_> {
-    /// What an exported function answers, and all that was lent to it to be written, as it is afterwards.
-    fn exported<T: PartialEq + Debug>(&mut self, function: &'static str, call: impl Fn(&dyn Exports) -> T) -> Result<(), Disagreement> {
-        self.same(function, call(&Model), call(self.port.exports))
+    fn exported<T: Given>(&mut self, function: &'static str, call: impl Fn(&dyn Exports, &Case) -> T) -> Result<(), Disagreement> {
+        self.called(function, |port, case| call(port.exports, case))
     }
 
-    fn wrapped<T: PartialEq + Debug>(&mut self, function: &'static str, call: impl Fn(&dyn Wrapper) -> T) -> Result<(), Disagreement> {
-        self.same(function, call(&Model), call(self.port.wrapper))
+    fn wrapped<T: Given>(&mut self, function: &'static str, call: impl Fn(&dyn Wrapper, &Case) -> T) -> Result<(), Disagreement> {
+        self.called(function, |port, case| call(port.wrapper, case))
     }
 
-    fn same<T: PartialEq + Debug>(&mut self, function: &'static str, model: T, port: T) -> Result<(), Disagreement> {
+    /// A function that takes a profile: that of the choices, or in the wrapper that of the tables, of the case that the call is given. What the
+    /// gateway does not refuse by 1 is called once more in the cabinet, on the same lent memory.
+    fn called<T: Given>(&mut self, function: &'static str, call: impl Fn(Port, &Case) -> T) -> Result<(), Disagreement> {
+        let (model, port) = (call(MODEL, self.case), call(self.port, self.case));
+        self.beside_model(function, &model, &port)?;
+        match &self.in_cabinet {
+            Some(case) if port.number() != 1 => {
+                *self.tally.repeated.entry(function).or_default() += 1;
+                same(function, "gateway and cabinet", &port, &call(self.port, case))
+            }
+            _ => Ok(()),
+        }
+    }
+
+    /// A function that takes no profile.
+    fn unprofiled<T: PartialEq + Debug>(&mut self, function: &'static str, call: impl Fn(Port) -> T) -> Result<(), Disagreement> {
+        self.beside_model(function, &call(MODEL), &call(self.port))
+    }
+
+    fn beside_model<T: PartialEq + Debug>(&mut self, function: &'static str, model: &T, port: &T) -> Result<(), Disagreement> {
         *self.tally.ported.entry(function).or_default() += 1;
-        let text = || format!("model and port differ:\n{model:?}\n{port:?}");
-        if model == port { Ok(()) } else { Err(Disagreement { function, text: text() }) }
+        same(function, "model and port", model, port)
     }
 
     fn of_one_table(&mut self) -> Result<(), Disagreement> {
         let (case, t) = (self.case, &self.case.tables[0]);
-        self.exported("generation", |port| {
+        self.exported("generation", |port, case| {
             let (mut trace, mut terminal) = (lent(case.buffer), lent_words());
             let answer = port.generate(case.choices, t, &case.challenges, &mut trace, &mut terminal);
-            (answer, terminal, trace)
+            (answer, (terminal, trace))
         })?;
         for (width, trace, terminal) in [asked(case), asked_narrow(case)] {
             // An absent terminal's words are not read; any mark but 0 says that it is there.
             let mut terminal = terminal.map_or([0, u32::MAX, 1, 2, 3], |t| marked(Some(t)));
             terminal[0] *= case.seed as u32 | 1;
-            self.exported("constraints", |port| port.constraints(case.choices, t, &case.challenges, width, &trace, terminal))?;
+            self.exported("constraints", |port, case| port.constraints(case.choices, t, &case.challenges, width, &trace, terminal))?;
         }
         for lookup in 0..t.lookup_count() as u64 + 1 {
-            self.exported("degree", |port| {
+            self.exported("degree", |port, case| {
                 let [mut degree] = lent_numbers();
                 (port.degree(case.choices, t, lookup, word(case.transition), &mut degree), degree)
             })?;
         }
         let [lookups, names, tuples, multiplicities, flags, elements] = t.lengths();
         let packed = |i: usize, n: usize| case.edited(List::Packed(i), lent(n));
-        self.exported("packing", |port| {
+        self.exported("packing", |port, case| {
             let mut used = lent_numbers();
             let mut out = Table {
                 lookups: packed(0, lookups),
@@ -461,15 +511,15 @@ impl Beside<'_> {
                 elements: packed(5, elements),
                 ..Table::default()
             };
-            (port.pack(case.choices, t, case.limit, &mut out, &mut used), used, out)
+            (port.pack(case.choices, t, case.limit, &mut out, &mut used), (used, out))
         })?;
         let mut plan = Plan::of(&case.interactions);
         let room = built_words(&plan);
         plan.interactions = case.edited(List::Interactions, plan.interactions);
         plan.weights = case.edited(List::Weights, plan.weights);
-        self.exported("building", |port| {
+        self.exported("building", |port, case| {
             let (mut lookups, [mut used]) = (case.edited(List::Built, lent(room)), lent_numbers());
-            (port.build(case.choices, t, &plan, &mut lookups, &mut used), used, lookups)
+            (port.build(case.choices, t, &plan, &mut lookups, &mut used), (used, lookups))
         })
     }
 
@@ -478,15 +528,15 @@ impl Beside<'_> {
         let all = Table::joined(tables);
         let three = |t: &Table| [t.lookup_count(), t.names.len(), t.tuples.len()].map(|n| n as u32);
         let sizes = case.edited(List::BusSizes, tables.iter().flat_map(three).collect());
-        self.exported("widths", |port| {
+        self.exported("widths", |port, case| {
             let [mut widest] = lent_numbers();
             (port.widths(case.choices, &all, &sizes, &mut widest), widest)
         })?;
         let counts = case.edited(List::Counts, tables.iter().map(|t| t.lookup_count() as u32).collect());
         let heights = case.edited(List::Heights, case.heights.iter().map(|h| word(*h)).collect());
-        self.exported("height bound", |port| port.height_bound(case.choices, &all.lookups, &counts, &heights))?;
+        self.exported("height bound", |port, case| port.height_bound(case.choices, &all.lookups, &counts, &heights))?;
         let sizes = case.edited(List::Sizes, tables.iter().flat_map(Table::sizes).collect());
-        self.exported("balance", |port| {
+        self.exported("balance", |port, case| {
             let mut workspace = lent(case.workspace);
             (port.balance(case.choices, &all, &sizes, case.seed, &mut workspace), workspace)
         })
@@ -497,44 +547,44 @@ impl Beside<'_> {
         let mut given = case.edited(List::Terminals, case.terminals.iter().flat_map(|t| marked(*t)).collect());
         // Any mark but 0 says that a terminal is there.
         given.iter_mut().step_by(5).for_each(|mark| *mark = mark.wrapping_mul(case.seed as u32 | 1));
-        self.exported("terminals", |port| port.terminals(case.choices, &given))?;
+        self.exported("terminals", |port, case| port.terminals(case.choices, &given))?;
 
         let (alpha, beta) = (case.edited(List::Alpha, case.challenge(0).into()), case.edited(List::Beta, case.challenge(1).into()));
-        let room = 4 * case.prefixes.min(model::PREFIXES + 1) as usize;
-        self.exported("prefixes", |port| {
+        let room = 4 * case.prefixes.min(model::CABINET.prefixes + 1) as usize;
+        self.exported("prefixes", |port, case| {
             let mut out = case.edited(List::Prefixes, lent(room));
             (port.prefixes(case.choices, &alpha, &beta, case.prefix_width, case.prefixes, &mut out), out)
         })?;
         let element = case.edited(List::Element, case.challenge(0).into());
-        self.exported("power", |port| {
+        self.unprofiled("power", |port| {
             let mut out = case.edited(List::ElementOut, lent(4));
-            (port.power(case.choices.field, &element, case.exponent, &mut out), out)
+            (port.exports.power(case.choices.field, &element, case.exponent, &mut out), out)
         })?;
-        self.exported("inverse", |port| {
+        self.unprofiled("inverse", |port| {
             let mut out = case.edited(List::ElementOut, lent(4));
-            (port.inverse(case.choices.field, &element, &mut out), out)
+            (port.exports.inverse(case.choices.field, &element, &mut out), out)
         })?;
 
         let nodes = case.edited(List::Nodes, [&case.tables[0].nodes[..], &lent(3)].concat());
-        self.exported("count from a number", |port| {
+        self.exported("count from a number", |port, case| {
             let (mut nodes, mut count) = (nodes.clone(), lent_words());
-            (port.count_from_i32(case.choices, &mut nodes, case.counted, case.count, &mut count), count, nodes)
+            (port.count_from_i32(case.choices, &mut nodes, case.counted, case.count, &mut count), (count, nodes))
         })?;
-        self.exported("negated count", |port| {
+        self.exported("negated count", |port, case| {
             let (mut nodes, mut count) = (nodes.clone(), lent_words());
-            (port.count_negated(case.choices, &mut nodes, case.counted, case.negated, &mut count), count, nodes)
+            (port.count_negated(case.choices, &mut nodes, case.counted, case.negated, &mut count), (count, nodes))
         })?;
         let [node, weight] = case.negated;
-        self.exported("bounded and provided counts", |port| {
+        self.unprofiled("bounded and provided counts", |port| {
             let (mut bounded, mut provided) = (lent_words(), lent_words());
-            port.count_bounded(node, weight, &mut bounded);
-            port.count_provided(node, &mut provided);
+            port.exports.count_bounded(node, weight, &mut bounded);
+            port.exports.count_provided(node, &mut provided);
             (bounded, provided)
         })?;
         let (trace, [lookups, height, row]) = (lent(case.buffer), case.reader);
-        self.exported("row", |port| {
+        self.unprofiled("row", |port| {
             let mut part = lent_numbers();
-            port.row(&trace, lookups, height, row, &mut part);
+            port.exports.row(&trace, lookups, height, row, &mut part);
             part
         })
     }
@@ -547,13 +597,13 @@ impl Beside<'_> {
             written: case.edited(List::Written, lent(written)),
         };
         let (t, challenges) = (table_bytes(case, &case.tables[0]), edited(9, &case.challenges));
-        self.exported("generation on bytes", |port| {
+        self.exported("generation on bytes", |port, case| {
             let (mut trace, mut terminal) = (edited(10, &lent(case.buffer)), lent_words());
             let mut rooms = rooms(trace_words(&t) + t.nodes.len() / 4 + challenges.len() / 4 + lookup_words(&t), trace.len() / 4);
-            (port.generate_bytes(case.choices, &t, &challenges, &mut trace, &mut rooms, &mut terminal), terminal, trace, rooms)
+            (port.generate_bytes(case.choices, &t, &challenges, &mut trace, &mut rooms, &mut terminal), (terminal, trace, rooms))
         })?;
         let lengths = case.tables[0].lengths();
-        self.exported("packing on bytes", |port| {
+        self.exported("packing on bytes", |port, case| {
             let mut used = lent_numbers();
             let mut out = Table {
                 lookups: edited(11, &lent(lengths[0])),
@@ -565,15 +615,15 @@ impl Beside<'_> {
                 ..Table::default()
             };
             let mut rooms = rooms(t.nodes.len() / 4 + lookup_words(&t), lookup_words(&out));
-            (port.pack_bytes(case.choices, &t, case.limit, &mut out, &mut rooms, &mut used), used, out, rooms)
+            (port.pack_bytes(case.choices, &t, case.limit, &mut out, &mut rooms, &mut used), (used, out, rooms))
         })?;
         let all = table_bytes(case, &Table::joined(&case.tables));
         let sizes = edited(9, case.tables.iter().map(Table::sizes).collect::<Vec<_>>().as_flattened());
-        self.exported("balance on bytes", |port| {
+        self.exported("balance on bytes", |port, case| {
             let mut workspace = edited(10, &lent(case.workspace));
             let read = trace_words(&all) + all.nodes.len() / 4 + sizes.len() / 4 + lookup_words(&all);
             let mut rooms = rooms(read, workspace.len() / 4);
-            (port.balance_bytes(case.choices, &all, &sizes, case.seed, &mut workspace, &mut rooms), workspace, rooms)
+            (port.balance_bytes(case.choices, &all, &sizes, case.seed, &mut workspace, &mut rooms), (workspace, rooms))
         })
     }
 
@@ -583,68 +633,77 @@ impl Beside<'_> {
         let plan = Plan::of(&case.interactions);
         let built = model::build(t, &plan, built_words(&plan)).1.records();
         let records = if t.fits() { t.records() } else { built.clone() };
-        self.wrapped("wrapper: with", |w| (w.with(t, &records), w.with(t, &built)))?;
-        self.wrapped("wrapper: lookup_count", |w| w.lookup_count(t))?;
-        self.wrapped("wrapper: sizes", |w| w.sizes(t))?;
+        self.unprofiled("wrapper: with", |port| [&records, &built].map(|lookups| port.wrapper.with(t, lookups)))?;
+        self.unprofiled("wrapper: lookup_count", |port| port.wrapper.lookup_count(t))?;
+        self.unprofiled("wrapper: sizes", |port| port.wrapper.sizes(t))?;
         let (width, trace, terminal) = asked(case);
         if let (challenges, []) = case.challenges.as_chunks() {
-            self.wrapped("wrapper: generate", |w| w.generate(t, challenges))?;
-            self.wrapped("wrapper: constraints", |w| w.constraints(t, challenges, width, &trace, terminal))?;
+            self.wrapped("wrapper: generate", |w, case| w.generate(&case.tables[0], challenges))?;
+            self.wrapped("wrapper: constraints", |w, case| w.constraints(&case.tables[0], challenges, width, &trace, terminal))?;
         }
-        self.wrapped("wrapper: generate_into", |w| {
+        self.wrapped("wrapper: generate_into", |w, case| {
             let mut trace = lent(case.buffer);
-            (w.generate_into(t, &case.challenges, &mut trace), trace)
+            (w.generate_into(&case.tables[0], &case.challenges, &mut trace), trace)
         })?;
-        self.wrapped("wrapper: constraints_on", |w| w.constraints_on(t, &case.challenges, width, &trace, terminal))?;
-        self.wrapped("wrapper: degree", |w| w.degree(t, case.seed % 3, word(case.transition)))?;
-        self.wrapped("wrapper: pack", |w| w.pack(t, case.limit))?;
-        self.wrapped("wrapper: build", |w| w.build(t, &case.interactions))?;
-        self.wrapped("wrapper: widths", |w| w.widths(&case.tables))?;
-        self.wrapped("wrapper: height_bound", |w| w.height_bound(&case.tables, &case.heights))?;
-        self.wrapped("wrapper: terminals", |w| w.terminals(field, &case.terminals))?;
+        self.wrapped("wrapper: constraints_on", |w, case| w.constraints_on(&case.tables[0], &case.challenges, width, &trace, terminal))?;
+        self.wrapped("wrapper: degree", |w, case| w.degree(&case.tables[0], case.seed % 3, word(case.transition)))?;
+        self.wrapped("wrapper: pack", |w, case| w.pack(&case.tables[0], case.limit).map(handed_back))?;
+        self.wrapped("wrapper: build", |w, case| w.build(&case.tables[0], &case.interactions).map(handed_back))?;
+        self.wrapped("wrapper: widths", |w, case| w.widths(&case.tables))?;
+        self.wrapped("wrapper: height_bound", |w, case| w.height_bound(&case.tables, &case.heights))?;
+        self.wrapped("wrapper: terminals", |w, case| w.terminals(case.chosen(), &case.terminals))?;
         let (alpha, beta) = (case.challenge(0), case.challenge(1));
-        self.wrapped("wrapper: prefixes", |w| w.prefixes(field, alpha, beta, case.prefix_width, case.prefixes))?;
-        self.wrapped("wrapper: power", |w| w.power(field, alpha, case.exponent))?;
-        self.wrapped("wrapper: inverse", |w| (w.inverse(field, alpha), w.inverse(field, [0; 4])))?;
-        self.wrapped("wrapper: balance", |w| {
+        self.wrapped("wrapper: prefixes", |w, case| w.prefixes(case.chosen(), alpha, beta, case.prefix_width, case.prefixes))?;
+        self.unprofiled("wrapper: power", |port| port.wrapper.power(field, alpha, case.exponent))?;
+        self.unprofiled("wrapper: inverse", |port| [alpha, [0; 4]].map(|a| port.wrapper.inverse(field, a)))?;
+        self.wrapped("wrapper: balance", |w, case| {
             let mut workspace = lent(case.workspace);
             (w.balance(&case.tables, &mut workspace), workspace)
         })?;
-        self.wrapped("wrapper: balance_with_seed", |w| {
+        self.wrapped("wrapper: balance_with_seed", |w, case| {
             let mut workspace = lent(case.workspace);
             (w.balance_with_seed(&case.tables, case.seed, &mut workspace), workspace)
         })?;
 
         let [node, weight] = case.negated;
-        self.wrapped("wrapper: Count::bounded", |w| w.count_bounded(node, weight))?;
-        self.wrapped("wrapper: Count::provided", |w| w.count_provided(node))?;
-        self.wrapped("wrapper: Count::from_i32", |w| {
+        self.unprofiled("wrapper: Count::bounded", |port| port.wrapper.count_bounded(node, weight))?;
+        self.unprofiled("wrapper: Count::provided", |port| port.wrapper.count_provided(node))?;
+        self.wrapped("wrapper: Count::from_i32", |w, case| {
             let mut nodes = t.nodes.clone();
-            (w.count_from_i32(field, &mut nodes, case.count), nodes)
+            (w.count_from_i32(case.chosen(), &mut nodes, case.count), nodes)
         })?;
-        self.wrapped("wrapper: Count::negated", |w| {
+        self.wrapped("wrapper: Count::negated", |w, case| {
             let mut nodes = t.nodes.clone();
-            (w.count_negated(field, &mut nodes, case.negated), nodes)
+            (w.count_negated(case.chosen(), &mut nodes, case.negated), nodes)
         })?;
         let (trace, [lookups, height, row]) = (lent(case.buffer), case.reader);
-        self.wrapped("wrapper: row", |w| w.row(&trace, lookups, height, row))?;
+        self.unprofiled("wrapper: row", |port| port.wrapper.row(&trace, lookups, height, row))?;
 
-        let b = table_bytes(case, t);
-        self.wrapped("wrapper: bytes::of", |w| w.bytes_of(&case.challenges))?;
-        self.wrapped("wrapper: bytes::generate_into", |w| {
+        self.unprofiled("wrapper: bytes::of", |port| port.wrapper.bytes_of(&case.challenges))?;
+        self.wrapped("wrapper: bytes::generate_into", |w, case| {
             let mut trace = case.edited(List::Bytes(10), lent_bytes(4 * case.buffer));
-            (w.generate_bytes(&b, &bytes_of(&case.challenges), &mut trace), trace)
+            (w.generate_bytes(&table_bytes(case, &case.tables[0]), &bytes_of(&case.challenges), &mut trace), trace)
         })?;
-        self.wrapped("wrapper: bytes::pack", |w| w.pack_bytes(&b, case.limit))?;
-        self.wrapped("wrapper: bytes::balance", |w| {
+        self.wrapped("wrapper: bytes::pack", |w, case| w.pack_bytes(&table_bytes(case, &case.tables[0]), case.limit).map(handed_back))?;
+        self.wrapped("wrapper: bytes::balance", |w, case| {
             let mut workspace = case.edited(List::Bytes(10), lent_bytes(4 * case.workspace));
             (w.balance_bytes(&case.tables, &mut workspace), workspace)
         })?;
-        self.wrapped("wrapper: bytes::balance_with_seed", |w| {
+        self.wrapped("wrapper: bytes::balance_with_seed", |w, case| {
             let mut workspace = case.edited(List::Bytes(10), lent_bytes(4 * case.workspace));
             (w.balance_bytes_with_seed(&case.tables, case.seed, &mut workspace), workspace)
         })
     }
+}
+
+fn same<T: PartialEq + Debug>(function: &'static str, whose: &str, one: &T, other: &T) -> Result<(), Disagreement> {
+    let text = || format!("{whose} differ:\n{one:?}\n{other:?}");
+    if one == other { Ok(()) } else { Err(Disagreement { function, text: text() }) }
+}
+
+/// A table that is handed back, without the profile of the table that it came from.
+fn handed_back<W>(table: Table<W>) -> Table<W> {
+    Table { profile: Profile::default(), ..table }
 }
 
 /// The lists of a table as bytes, with the case's edits.

@@ -1,6 +1,6 @@
 //! The exported functions over lent words: what a call reads is borrowed, and every word that it may write is lent to be written. The port
 //! has them, the model as a reference, and the wrong ports of the tests.
-use crate::model::{self, ACCEPTED, Answer, Choices, refused};
+use crate::model::{self, ACCEPTED, Answer, Choices, Chosen, refused};
 use crate::plain::{Ext, Field};
 use crate::table::{LOOKUP_WORDS, NODE_WORDS, Plan, Table, bytes_of, words_of};
 
@@ -11,7 +11,7 @@ pub struct Rooms {
     pub written: Vec<u32>,
 }
 
-/// Each gives the number and details of its answer, and computes in the field of its choices: a table's own is not looked at. The rule is for
+/// Each gives the number and details of its answer, by the field and profile of its choices: a table's own are not looked at. The rule is for
 /// `generate`, `constraints` and `generate_bytes` alone. A terminal is five words, a mark and four words. The lists of several tables are one
 /// table, whose own sizes are not looked at. `power` and `inverse` have no details and take the field's number alone.
 pub trait Exports {
@@ -89,8 +89,8 @@ fn lookup_lists(t: &Table<u8>) -> [&[u8]; 5] {
 
 impl Exports for Model {
     fn generate(&self, choices: Choices, t: &Table, challenges: &[u32], trace: &mut [u32], terminal: &mut [u32; 5]) -> Answer {
-        let Some(field) = choices.known_with_rule() else { return refused(1) };
-        let (answer, given) = model::generate(&t.over(field), challenges, trace);
+        let Some(chosen) = choices.known_with_rule() else { return refused(1) };
+        let (answer, given) = model::generate(&t.over(chosen), challenges, trace);
         if !(1..=12).contains(&answer.number) {
             *terminal = marked(given);
         }
@@ -106,13 +106,13 @@ impl Exports for Model {
         trace: &[u32],
         [mark, words @ ..]: [u32; 5],
     ) -> Answer {
-        let Some(field) = choices.known_with_rule() else { return refused(1) };
-        model::constraints(&t.over(field), challenges, width, trace, (mark != 0).then_some(words))
+        let Some(chosen) = choices.known_with_rule() else { return refused(1) };
+        model::constraints(&t.over(chosen), challenges, width, trace, (mark != 0).then_some(words))
     }
 
     fn degree(&self, choices: Choices, t: &Table, lookup: u64, transition: u32, degree: &mut u64) -> Answer {
-        let Some(field) = choices.known() else { return refused(1) };
-        let (answer, found) = model::degree(&t.over(field), lookup, transition.into());
+        let Some(chosen) = choices.known() else { return refused(1) };
+        let (answer, found) = model::degree(&t.over(chosen), lookup, transition.into());
         if answer == ACCEPTED {
             *degree = found;
         }
@@ -121,11 +121,11 @@ impl Exports for Model {
 
     /// A lent list that is shorter than the table's own is 1, as any size at odds.
     fn pack(&self, choices: Choices, t: &Table, limit: u64, out: &mut Table, used: &mut [u64; 6]) -> Answer {
-        let Some(field) = choices.known() else { return refused(1) };
+        let Some(chosen) = choices.known() else { return refused(1) };
         if out.lengths().iter().zip(t.lengths()).any(|(lent, own)| *lent < own) {
             return refused(1);
         }
-        let (answer, packed) = model::pack(&t.over(field), limit);
+        let (answer, packed) = model::pack(&t.over(chosen), limit);
         if answer == ACCEPTED {
             let mut lists = Table::default();
             lists.set_records(&packed);
@@ -141,8 +141,8 @@ impl Exports for Model {
     }
 
     fn build(&self, choices: Choices, t: &Table, plan: &Plan, lookups: &mut [u32], used: &mut u64) -> Answer {
-        let Some(field) = choices.known() else { return refused(1) };
-        let (answer, built) = model::build(&t.over(field), plan, lookups.len());
+        let Some(chosen) = choices.known() else { return refused(1) };
+        let (answer, built) = model::build(&t.over(chosen), plan, lookups.len());
         if answer == ACCEPTED {
             put(&built.lookups, lookups);
             *used = built.lookups.len() as u64;
@@ -151,7 +151,7 @@ impl Exports for Model {
     }
 
     fn widths(&self, choices: Choices, all: &Table, sizes: &[u32], widest: &mut u64) -> Answer {
-        let Some(tables) = choices.known().and_then(|field| model::bus_tables(&all.over(field), sizes)) else { return refused(1) };
+        let Some(tables) = choices.known().and_then(|chosen| model::bus_tables(&all.over(chosen), sizes)) else { return refused(1) };
         let (answer, width) = model::widths(&tables);
         if answer == ACCEPTED {
             *widest = width;
@@ -160,27 +160,27 @@ impl Exports for Model {
     }
 
     fn height_bound(&self, choices: Choices, lookups: &[u32], counts: &[u32], heights: &[u32]) -> Answer {
-        let Some(tables) = choices.known().and_then(|field| model::weighed_tables(field, lookups, counts)) else { return refused(1) };
+        let Some(tables) = choices.known().and_then(|chosen| model::weighed_tables(chosen, lookups, counts)) else { return refused(1) };
         model::height_bound(&tables, &heights.iter().map(|h| u64::from(*h)).collect::<Vec<u64>>())
     }
 
     fn terminals(&self, choices: Choices, terminals: &[u32]) -> Answer {
-        let (Some(field), (each, [])) = (choices.known(), terminals.as_chunks::<5>()) else { return refused(1) };
-        model::terminals(field, &each.iter().map(|[mark, words @ ..]| (*mark != 0).then_some(*words)).collect::<Vec<Option<Ext>>>())
+        let (Some(chosen), (each, [])) = (choices.known(), terminals.as_chunks::<5>()) else { return refused(1) };
+        model::terminals(chosen, &each.iter().map(|[mark, words @ ..]| (*mark != 0).then_some(*words)).collect::<Vec<Option<Ext>>>())
     }
 
     fn prefixes(&self, choices: Choices, alpha: &[u32], beta: &[u32], width: u64, count: u64, out: &mut [u32]) -> Answer {
-        let (Some(field), Ok(alpha), Ok(beta)) = (choices.known(), alpha.try_into(), beta.try_into()) else { return refused(1) };
+        let (Some(chosen), Ok(alpha), Ok(beta)) = (choices.known(), alpha.try_into(), beta.try_into()) else { return refused(1) };
         if (out.len() as u128) < 4 * u128::from(count) {
             return refused(1);
         }
-        let (answer, prefixes) = model::prefixes(field, alpha, beta, width, count);
+        let (answer, prefixes) = model::prefixes(chosen, alpha, beta, width, count);
         put(prefixes.as_flattened(), out);
         answer
     }
 
     fn balance(&self, choices: Choices, all: &Table, sizes: &[u32], _seed: u64, workspace: &mut [u32]) -> Answer {
-        let tables = choices.known().and_then(|field| model::whole_tables(&all.over(field), sizes));
+        let tables = choices.known().and_then(|chosen| model::whole_tables(&all.over(chosen), sizes));
         tables.map_or(refused(1), |tables| model::balance(&tables, workspace))
     }
 
@@ -233,15 +233,15 @@ impl Exports for Model {
     }
 
     fn count_from_i32(&self, choices: Choices, nodes: &mut [u32], used: u64, x: i32, count: &mut [u32; 2]) -> Answer {
-        let Some(field) = choices.known().filter(|_| model::room_for_node(nodes.len(), used)) else { return refused(1) };
-        let (word, weight) = model::count_of(field, x);
+        let Some(chosen) = with_room(choices, nodes, used) else { return refused(1) };
+        let (word, weight) = model::count_of(chosen.field, x);
         put(&[0, word, 0], &mut nodes[NODE_WORDS * used as usize..]);
         *count = [used as u32, weight];
         ACCEPTED
     }
 
     fn count_negated(&self, choices: Choices, nodes: &mut [u32], used: u64, [node, weight]: [u32; 2], count: &mut [u32; 2]) -> Answer {
-        if choices.known().is_none() || !model::room_for_node(nodes.len(), used) {
+        if with_room(choices, nodes, used).is_none() {
             return refused(1);
         }
         if used <= u64::from(node) {
@@ -271,6 +271,11 @@ impl Exports for Model {
     fn inverse(&self, field: u32, a: &[u32], out: &mut [u32]) -> u32 {
         on_element(field, a, out, model::inverse)
     }
+}
+
+/// What is chosen, where the numbers are known and node `used` can be added.
+fn with_room(choices: Choices, nodes: &[u32], used: u64) -> Option<Chosen> {
+    choices.known().filter(|chosen| model::room_for_node(chosen.profile.limits(), nodes.len(), used))
 }
 
 fn on_element(field: u32, a: &[u32], out: &mut [u32], function: impl Fn(Field, Ext) -> Ext) -> u32 {

@@ -1,16 +1,17 @@
-//! Random tables in either field with what each function needs besides, damaged copies of them, and a fixed list of tables at the limits.
+//! Random tables in either field and profile with what each function needs besides, damaged copies of them, and a fixed list of tables at the
+//! limits.
 use std::fmt;
 
-use crate::model::{self, Choices};
+use crate::model::{self, Choices, Chosen, Limits, Profile};
 use crate::plain::{self, Ext, Field, Random};
-use crate::table::{Interaction, LOOKUP_WORDS, Lookup, Part, Table, line};
+use crate::table::{Interaction, LOOKUP_WORDS, Lookup, NODE_WORDS, Part, Table, line};
 
 /// One input for each function. Those of one table take the first.
 #[derive(Clone, Debug, PartialEq)]
 pub struct Case {
-    /// The numbers of the exported functions. They name the tables' field, or one of them is unknown.
+    /// The numbers of the exported functions. They name the tables' field and profile, or one of them is unknown.
     pub choices: Choices,
-    /// All of one field.
+    /// All of one field and one profile.
     pub tables: Vec<Table>,
     pub challenges: Vec<u32>,
     /// The words of generation's trace buffer.
@@ -108,7 +109,7 @@ impl List {
 impl Edit {
     fn any(random: &mut Random) -> Edit {
         let at_prime = random.at_prime();
-        let word = random.pick(&[0, 1, 2, 3, 5, 16, 64, 65, at_prime, at_prime, u32::MAX]);
+        let word = random.pick(&[0, 1, 2, 3, 5, 9, 16, 64, 65, 4096, 4097, at_prime, at_prime, u32::MAX]);
         match random.below(4) {
             0 => Edit::Push(word),
             1 => Edit::Pop,
@@ -137,6 +138,18 @@ impl OfWord for u8 {
 impl Case {
     pub fn field(&self) -> Field {
         self.tables[0].field
+    }
+
+    pub fn chosen(&self) -> Chosen {
+        self.tables[0].chosen()
+    }
+
+    /// The same case in the cabinet.
+    pub fn in_cabinet(&self) -> Case {
+        let mut case = self.clone();
+        case.choices.profile = Profile::Cabinet.number();
+        case.tables.iter_mut().for_each(|t| t.profile = Profile::Cabinet);
+        case
     }
 
     /// A list with this case's edits of it.
@@ -376,7 +389,7 @@ impl Maker<'_> {
     fn lookup(&mut self) -> Lookup {
         let bus = (!self.random.one_in(4)).then(|| self.random.name());
         // Mostly one width for each bus.
-        let usual = bus.as_ref().map_or(1, Vec::len).min(8) as u64;
+        let usual = bus.as_ref().map_or(1, Vec::len).min(self.table.profile.limits().tuple_words as usize) as u64;
         let width = if self.loose || self.random.one_in(12) { self.random.below(5) } else { usual };
         let exclusive = self.random.one_in(3);
         let branches = self.random.pick(&[0, 1, 1, 1, 1, 2, 2, 3]);
@@ -441,16 +454,42 @@ fn number_columns(lookups: &mut [Lookup]) {
     }
 }
 
-/// A table that none of refusals 1 to 5 meets, unless it has more lookups or tuples than the limits.
-pub fn table(random: &mut Random, field: Field) -> Table {
+/// Brings one size of a table to the limit of its profile, or one over it.
+fn to_limit(random: &mut Random, t: &mut Table) {
+    let (limits, over) = (t.profile.limits(), random.below(2));
+    let mut records = t.records();
+    match random.below(8) {
+        0..=2 => records = records.iter().cycle().take(limits.lookups + over as usize).cloned().collect(),
+        3..=5 => {
+            let words = limits.tuple_words as usize + over as usize;
+            records.iter_mut().flat_map(|r| &mut r.tuples).for_each(|tuple| tuple.resize(words, 0));
+        }
+        rows => {
+            // The preprocessed trace alone, or both.
+            t.pre_height = limits.height + over;
+            t.height = if rows == 6 { t.height } else { t.pre_height };
+            t.main.resize((t.main_width * t.height) as usize, 0);
+            t.preprocessed.resize((t.pre_width * t.pre_height) as usize, 0);
+        }
+    }
+    number_columns(&mut records);
+    t.set_records(&records);
+}
+
+/// A table that none of refusals 1 to 5 meets, unless it has more than the limits of something.
+pub fn table(random: &mut Random, Chosen { field, profile }: Chosen) -> Table {
     let loose = random.one_in(15);
-    let mut maker = Maker { random, table: Table { field, ..Table::default() }, sizes: vec![], loose };
+    let mut maker = Maker { random, table: Table { field, profile, ..Table::default() }, sizes: vec![], loose };
     maker.traces();
     maker.nodes();
     let mut lookups = maker.lookups();
     number_columns(&mut lookups);
     let mut table = maker.table;
     table.set_records(&lookups);
+    // The cabinet's limits are left to the list below: tables of that size take long.
+    if profile == Profile::Gateway && maker.random.one_in(16) {
+        to_limit(maker.random, &mut table);
+    }
     // A mark word other than 0 counts as 1.
     for entry in table.lookups.chunks_exact_mut(LOOKUP_WORDS) {
         for mark in [0, 4] {
@@ -478,14 +517,20 @@ fn mirror(random: &mut Random, table: &Table) -> Table {
     mirror
 }
 
-fn interactions(random: &mut Random, nodes: usize) -> Vec<Interaction> {
+fn interactions(random: &mut Random, t: &Table) -> Vec<Interaction> {
+    let nodes = t.node_count();
     if nodes == 0 {
         return vec![];
     }
+    // Of the gateway's now and then one more than it takes.
+    let (most, widest) = match t.profile {
+        Profile::Cabinet => (5, 2),
+        Profile::Gateway => (model::GATEWAY.lookups as u64 + 1, u64::from(model::GATEWAY.tuple_words) + 1),
+    };
     let odd_one = random.one_in(10);
     let part = |random: &mut Random| {
         let node = |random: &mut Random| random.below(nodes as u64) as u32;
-        let width = if odd_one { random.below(3) } else { 2 };
+        let width = if odd_one { random.below(widest + 1) } else { 2 };
         Part { elements: (0..width).map(|_| node(random)).collect(), multiplicity: node(random), weight: random.weight() }
     };
     let interaction = |random: &mut Random| match random.below(3) {
@@ -496,7 +541,7 @@ fn interactions(random: &mut Random, nodes: usize) -> Vec<Interaction> {
             Interaction::Exclusive(random.name(), (0..random.below(4)).map(|_| (flag(random), part(random))).collect())
         }
     };
-    (0..random.below(6)).map(|_| interaction(random)).collect()
+    (0..random.below(most + 1)).map(|_| interaction(random)).collect()
 }
 
 fn terminals(random: &mut Random, field: Field) -> Vec<Option<Ext>> {
@@ -542,16 +587,16 @@ fn longer(random: &mut Random) -> (List, Edit) {
     (random.pick(&[packed, packed, List::Built, List::Prefixes, List::Nodes]), Edit::Push(random.draw() as u32))
 }
 
-/// The choices of a call in this field; now and then one of them is unknown, or all.
-fn choices(random: &mut Random, field: Field) -> Choices {
-    let mut choices = Choices::of(field);
+/// The choices of a call in this field and profile; now and then one of them is unknown, or all.
+fn choices(random: &mut Random, chosen: Chosen) -> Choices {
+    let mut choices = Choices::of(chosen);
     if random.one_in(16) {
-        let (other, unknown) = (random.pick(&[0, 3, 257, 1 << 31, u32::MAX]), random.pick(&[0, 2, 3, 257, u32::MAX]));
+        let (unknown, rule) = (random.pick(&[0, 3, 257, 1 << 31, u32::MAX]), random.pick(&[0, 2, 3, 257, u32::MAX]));
         match random.below(4) {
-            0 => choices.field = other,
+            0 => choices.field = unknown,
             1 => choices.profile = unknown,
-            2 => choices.rule = unknown,
-            _ => choices = Choices { field: other, profile: unknown, rule: unknown },
+            2 => choices.rule = rule,
+            _ => choices = Choices { field: unknown, profile: unknown, rule },
         }
     }
     choices
@@ -559,7 +604,8 @@ fn choices(random: &mut Random, field: Field) -> Choices {
 
 /// The tables with inputs for each function that none of refusals 1 to 12 meets, unknown choices aside.
 fn case_of(random: &mut Random, tables: Vec<Table>) -> Case {
-    let (field, n) = (tables[0].field, tables[0].lookup_count());
+    let (chosen, n) = (tables[0].chosen(), tables[0].lookup_count());
+    let Chosen { field, profile } = chosen;
     let shared = random.one_in(2).then(|| [random.challenge(field), random.challenge(field)].concat());
     let pair = |random: &mut Random| shared.clone().unwrap_or_else(|| [random.challenge(field), random.challenge(field)].concat());
     let mut challenges: Vec<u32> = (0..n).flat_map(|_| pair(random)).collect();
@@ -570,7 +616,7 @@ fn case_of(random: &mut Random, tables: Vec<Table>) -> Case {
     // Numbers of its own, so that the tables that are drawn do not depend on these.
     let apart = &mut Random(random.0 ^ 0x9E3779B97F4A7C15 | 1);
     Case {
-        choices: choices(apart, field),
+        choices: choices(apart, chosen),
         buffer: used(&tables[0]) + random.below(8).saturating_sub(5) as usize,
         challenges,
         extra_columns: random.below(8).saturating_sub(5),
@@ -582,11 +628,11 @@ fn case_of(random: &mut Random, tables: Vec<Table>) -> Case {
         limit: random.below(9),
         transition: random.below(2),
         workspace: if tables[0].height > 100 { 100_000 } else { workspace as usize },
-        heights: tables.iter().map(|t| if random.one_in(3) { random.below(1 << 20) } else { t.height }).collect(),
+        heights: tables.iter().map(|t| if random.one_in(3) { random.below(profile.limits().height) } else { t.height }).collect(),
         terminals: terminals(random, field),
         prefix_width: 1 + random.below(9),
         prefixes: random.below(6),
-        interactions: interactions(random, tables[0].node_count()),
+        interactions: interactions(random, &tables[0]),
         count: match random.below(6) {
             0 => i32::MIN,
             1 => i32::MAX,
@@ -604,17 +650,19 @@ fn case_of(random: &mut Random, tables: Vec<Table>) -> Case {
     }
 }
 
-/// A case in either field.
+/// A case in either field, a third of them in the gateway.
 pub fn case(random: &mut Random) -> Case {
+    let profile = if random.one_in(3) { Profile::Gateway } else { Profile::Cabinet };
     let field = random.pick(&Field::ALL);
-    case_in(random, field)
+    case_in(random, Chosen { field, profile })
 }
 
-pub fn case_in(random: &mut Random, field: Field) -> Case {
-    let mut tables = vec![table(random, field)];
+pub fn case_in(random: &mut Random, chosen: impl Into<Chosen>) -> Case {
+    let chosen = chosen.into();
+    let mut tables = vec![table(random, chosen)];
     for _ in 0..random.pick(&[0, 0, 1, 1, 2]) {
         let last = tables.last().unwrap().clone();
-        let next = if random.one_in(3) { table(random, field) } else { mirror(random, &last) };
+        let next = if random.one_in(3) { table(random, chosen) } else { mirror(random, &last) };
         tables.push(next);
     }
     case_of(random, tables)
@@ -659,7 +707,7 @@ pub fn damage(random: &mut Random, case: &mut Case) {
                 _ => case.terminals.resize(16 + random.below(2) as usize, None),
             },
             _ => {
-                let height = random.pick(&[0, 1, 1 << 20, (1 << 20) + 1, u64::MAX]);
+                let height = random.pick(&[0, 1, 4096, 4097, 1 << 20, (1 << 20) + 1, u64::MAX]);
                 match random.below(3) {
                     0 => case.heights.push(height),
                     1 => shorten(&mut case.heights),
@@ -694,7 +742,7 @@ fn damage_table(random: &mut Random, t: &mut Table) {
             t.main.resize((t.main_width * t.height) as usize, 1);
         }
         _ => {
-            let size = random.pick(&[0, 1, 64, 65, 256, 257, 1 << 20, (1 << 20) + 1, 1 << 32, 1 << 63, u64::MAX]);
+            let size = random.pick(&[0, 1, 64, 65, 256, 257, 4096, 4097, 1 << 20, (1 << 20) + 1, 1 << 32, 1 << 63, u64::MAX]);
             let place = random.below(4);
             *[&mut t.main_width, &mut t.height, &mut t.pre_width, &mut t.pre_height][place as usize] = size;
         }
@@ -716,8 +764,8 @@ fn damage_list(random: &mut Random, list: &mut Vec<u32>) {
 }
 
 /// One lookup ("mem", one tuple of one column, multiplicity 1) over a main column.
-fn plain_table(field: Field, height: u64) -> Table {
-    let mut t = Table { field, main_width: 1, height, ..Table::default() };
+fn plain_table(Chosen { field, profile }: Chosen, height: u64) -> Table {
+    let mut t = Table { field, profile, main_width: 1, height, ..Table::default() };
     t.main = (0..height as u32).map(|row| row % 5).collect();
     t.nodes = vec![1, 0, 0, 0, 1, 0, 12, 1, 0];
     t.set_records(&[on_bus(0, vec![0], 1)]);
@@ -729,11 +777,11 @@ fn on_bus(column: u32, tuple: Vec<u32>, multiplicity: u32) -> Lookup {
 }
 
 /// Interactions at building's limits, or one over, for a table of three nodes.
-fn to_build(over: usize) -> Vec<(String, Vec<Interaction>)> {
+fn to_build(limits: &Limits, over: usize) -> Vec<(String, Vec<Interaction>)> {
     let part = |width: usize, weight: u32| Part { elements: vec![0; width], multiplicity: 1, weight };
     let global = |bytes: usize, part: Part| Interaction::Global(vec![b'x'; bytes], part);
-    let (lookups, tuples) = (model::LOOKUPS + over, model::TUPLES + over);
-    let (words, bytes) = (model::TUPLE_WORDS as usize + over, model::NAME_BYTES as usize + over);
+    let (lookups, tuples) = (limits.lookups + over, limits.tuples + over);
+    let (words, bytes) = (limits.tuple_words as usize + over, limits.name_bytes as usize + over);
     let (weight, node) = (u32::MAX - 1 + over as u32, 2 + over as u32);
     vec![
         (format!("{lookups} globals to build"), vec![global(0, part(1, 1)); lookups]),
@@ -746,117 +794,117 @@ fn to_build(over: usize) -> Vec<(String, Vec<Interaction>)> {
     ]
 }
 
+/// Tables that meet one limit of a table each, or pass it by one.
+fn tables_at_limits(chosen: Chosen, over: usize) -> Vec<(String, Table)> {
+    let limits = chosen.profile.limits();
+    let mut tables = vec![];
+    let mut add = |name: String, change: &dyn Fn(&mut Table)| {
+        let mut t = plain_table(chosen, 3);
+        change(&mut t);
+        tables.push((name, t));
+    };
+    let n = limits.lookups + over;
+    add(format!("{n} lookups"), &|t| t.set_records(&(0..n as u32).map(|i| on_bus(i, vec![0], 1 + i % 2)).collect::<Vec<_>>()));
+    let n = limits.tuples + over;
+    let many = Lookup { tuples: vec![vec![0]; n], multiplicities: vec![1; n], ..on_bus(0, vec![], 1) };
+    add(format!("{n} tuples"), &|t| t.set_records(std::slice::from_ref(&many)));
+    let n = limits.tuple_words as usize + over;
+    add(format!("{n} words a tuple"), &|t| t.set_records(&[on_bus(0, vec![0; n], 1)]));
+    let n = limits.nodes + over;
+    add(format!("{n} nodes"), &|t| {
+        while t.node_count() < n {
+            let last = t.node_count() as u32 - 1;
+            t.add_node(9, last, 0);
+        }
+        t.set_records(&[on_bus(0, vec![t.node_count() as u32 - 1], 1)]);
+    });
+    let n = limits.main_columns + over as u64;
+    add(format!("{n} main columns"), &|t| {
+        t.main_width = n;
+        t.main = (0..3 * n as u32).collect();
+        t.nodes[1] = n as u32 - 1;
+    });
+    let n = limits.pre_columns + over as u64;
+    add(format!("{n} preprocessed columns"), &|t| {
+        (t.pre_width, t.pre_height) = (n, 3);
+        t.preprocessed = (0..3 * n as u32).collect();
+        t.nodes[0] = 4;
+        t.nodes[1] = n as u32 - 1;
+    });
+    let n = limits.public_values + over;
+    add(format!("{n} public values"), &|t| {
+        t.public_values = vec![2; n];
+        t.nodes[0] = 5;
+        t.nodes[1] = n as u32 - 1;
+    });
+    let n = limits.height + over as u64;
+    add(format!("height {n}"), &|t| *t = plain_table(chosen, n));
+    add(format!("preprocessed height {n}"), &|t| (t.pre_width, t.pre_height, t.preprocessed) = (1, n, vec![1; n as usize]));
+    add(format!("preprocessed height {n} without columns"), &|t| t.pre_height = n);
+    let n = limits.name_bytes as usize + over;
+    add(format!("{n} bytes a name"), &|t| t.set_records(&[Lookup { bus: Some(vec![b'x'; n]), ..on_bus(0, vec![0], 1) }]));
+    add(format!("degree {}", 255 + over), &|t| {
+        // Degrees 2, 4, .., 128 from node 3 on; their product with the column has degree 255.
+        for last in [0, 3, 4, 5, 6, 7, 8] {
+            t.add_node(11, last, last);
+        }
+        for (a, b) in [(9, 8), (10, 7), (11, 6), (12, 5), (13, 4), (14, 3), (15, 0)] {
+            t.add_node(11, a, b);
+        }
+        let last = t.node_count() as u32 - 1;
+        t.add_node(if over == 1 { 11 } else { 9 }, last, 0);
+        t.set_records(&[on_bus(0, vec![last + 1], 1)]);
+    });
+    tables
+}
+
 /// Adds a case of these tables, with a change.
 type Add<'a> = dyn FnMut(String, Vec<Table>, &dyn Fn(&mut Case)) + 'a;
 
-/// The limits of docs/SPECIFICATION.md in each field, each met and passed by one, words at the primes and unknown choices, with a name.
+/// The limits of docs/SPECIFICATION.md in each field and profile, each met and passed by one, words at the primes and unknown choices, with a
+/// name.
 pub fn boundaries() -> Vec<(String, Case)> {
-    Field::ALL.into_iter().flat_map(boundaries_in).map(|(name, case)| (format!("{name}, field {}", case.field().number()), case)).collect()
+    let chosen = Profile::ALL.into_iter().flat_map(|profile| Field::ALL.map(|field| Chosen { field, profile }));
+    chosen.flat_map(boundaries_in).collect()
 }
 
-fn boundaries_in(field: Field) -> Vec<(String, Case)> {
+fn boundaries_in(chosen: Chosen) -> Vec<(String, Case)> {
+    let Chosen { field, profile } = chosen;
+    let limits = profile.limits();
     let mut random = Random(7);
     let mut cases = vec![];
     let mut add = |name: String, tables: Vec<Table>, change: &dyn Fn(&mut Case)| {
         let mut case = case_of(&mut random, tables);
-        case.choices = Choices::of(field);
+        case.choices = Choices::of(chosen);
         case.workspace = 640;
         case.challenges = (0..2 * case.tables[0].lookup_count()).flat_map(|_| random.element(field)).collect();
         case.heights = case.tables.iter().map(|t| t.height).collect();
         change(&mut case);
-        cases.push((name, case));
+        cases.push((format!("{name}, field {}, profile {}", field.number(), profile.number()), case));
     };
     let same = |_: &mut Case| ();
     for over in 0..2 {
         let table = |change: &dyn Fn(&mut Table)| {
-            let mut t = plain_table(field, 3);
+            let mut t = plain_table(chosen, 3);
             change(&mut t);
             vec![t]
         };
-        let n = model::TABLES + over;
-        add(format!("{n} tables"), vec![plain_table(field, 2); n], &same);
-        let n = model::LOOKUPS + over;
-        add(
-            format!("{n} lookups"),
-            table(&|t| t.set_records(&(0..n as u32).map(|i| on_bus(i, vec![0], 1 + i % 2)).collect::<Vec<_>>())),
-            &same,
-        );
-        let n = model::TUPLES + over;
-        let many = Lookup { tuples: vec![vec![0]; n], multiplicities: vec![1; n], ..on_bus(0, vec![], 1) };
-        add(format!("{n} tuples"), table(&|t| t.set_records(std::slice::from_ref(&many))), &same);
-        let n = model::TUPLE_WORDS as usize + over;
-        add(format!("{n} words a tuple"), table(&|t| t.set_records(&[on_bus(0, vec![0; n], 1)])), &same);
-        let n = model::NODES + over;
-        add(
-            format!("{n} nodes"),
-            table(&|t| {
-                while t.node_count() < n {
-                    let last = t.node_count() as u32 - 1;
-                    t.add_node(9, last, 0);
-                }
-                t.set_records(&[on_bus(0, vec![t.node_count() as u32 - 1], 1)]);
-            }),
-            &same,
-        );
-        let n = model::MAIN_COLUMNS + over as u64;
-        add(
-            format!("{n} main columns"),
-            table(&|t| {
-                t.main_width = n;
-                t.main = (0..3 * n as u32).collect();
-                t.nodes[1] = n as u32 - 1;
-            }),
-            &same,
-        );
-        let n = model::PRE_COLUMNS + over as u64;
-        add(
-            format!("{n} preprocessed columns"),
-            table(&|t| {
-                (t.pre_width, t.pre_height) = (n, 3);
-                t.preprocessed = (0..3 * n as u32).collect();
-                t.nodes[0] = 4;
-                t.nodes[1] = n as u32 - 1;
-            }),
-            &same,
-        );
-        let n = model::PUBLIC_VALUES + over;
-        add(
-            format!("{n} public values"),
-            table(&|t| {
-                t.public_values = vec![2; n];
-                t.nodes[0] = 5;
-                t.nodes[1] = n as u32 - 1;
-            }),
-            &same,
-        );
-        let n = model::HEIGHT + over as u64;
-        add(format!("height {n}"), vec![plain_table(field, n)], &same);
-        add(
-            format!("preprocessed height {n}"),
-            table(&|t| {
-                (t.pre_width, t.pre_height) = (1, n);
-                t.preprocessed = vec![1; n as usize];
-            }),
-            &same,
-        );
-        let n = model::NAME_BYTES as usize + over;
-        add(format!("{n} bytes a name"), table(&|t| t.set_records(&[Lookup { bus: Some(vec![b'x'; n]), ..on_bus(0, vec![0], 1) }])), &same);
-        add(
-            format!("degree {}", 255 + over),
-            table(&|t| {
-                // Degrees 2, 4, .., 128 from node 3 on; their product with the column has degree 255.
-                for last in [0, 3, 4, 5, 6, 7, 8] {
-                    t.add_node(11, last, last);
-                }
-                for (a, b) in [(9, 8), (10, 7), (11, 6), (12, 5), (13, 4), (14, 3), (15, 0)] {
-                    t.add_node(11, a, b);
-                }
-                let last = t.node_count() as u32 - 1;
-                t.add_node(if over == 1 { 11 } else { 9 }, last, 0);
-                t.set_records(&[on_bus(0, vec![last + 1], 1)]);
-            }),
-            &same,
-        );
+        let n = limits.tables + over;
+        add(format!("{n} tables"), vec![plain_table(chosen, 2); n], &same);
+        add(format!("{n} terminals"), table(&|_| ()), &|c| c.terminals = vec![None; n]);
+        for (name, t) in tables_at_limits(chosen, over) {
+            // Functions over several tables read the limits of each. The tallest tables take long: they stand alone.
+            if t.main.len().max(t.preprocessed.len()) < 10_000 {
+                let mut before = plain_table(chosen, 3);
+                before.set_records(&[]);
+                add(format!("{name}, in the second table"), vec![before, t.clone()], &same);
+            }
+            add(name, vec![t], &same);
+        }
+        let n = limits.height + over as u64;
+        add(format!("height {n} for the height bound alone"), table(&|_| ()), &|c| c.heights = vec![n]);
+        let n = limits.nodes + over;
+        add(format!("a count as node {}", n - 1), table(&|t| t.nodes.resize(NODE_WORDS * n, 0)), &|c| c.counted = n as u64 - 1);
         // Not named by any lookup; squared so often, the degree of a tree passes every number.
         for times in [7 + over, 100] {
             add(
@@ -883,7 +931,7 @@ fn boundaries_in(field: Field) -> Vec<(String, Case)> {
             }),
             &|c| c.limit = 9,
         );
-        for (name, interactions) in to_build(over) {
+        for (name, interactions) in to_build(limits, over) {
             add(name, table(&|_| ()), &|c| c.interactions = interactions.clone());
         }
         // A lent list that is too short is found before a node that is absent.
@@ -897,7 +945,7 @@ fn boundaries_in(field: Field) -> Vec<(String, Case)> {
             c.workspace = 30 - over
         });
         add(format!("trace buffer of {} words", 24 - over), table(&|_| ()), &|c| c.buffer = 24 - over);
-        add(format!("height {over}"), vec![plain_table(field, n)], &same);
+        add(format!("height {over}"), vec![plain_table(chosen, n)], &same);
         add(
             format!("preprocessed height {}", 3 - over),
             table(&|t| {
@@ -908,15 +956,15 @@ fn boundaries_in(field: Field) -> Vec<(String, Case)> {
         );
     }
     for height in [1023, 1024, 1025, 2048, 2049] {
-        add(format!("height {height}"), vec![plain_table(field, height)], &same);
+        add(format!("height {height}"), vec![plain_table(chosen, height)], &same);
     }
     for word in AT_PRIMES {
-        at_prime(&mut add, field, word);
+        at_prime(&mut add, chosen, word);
     }
-    for choices in unknown(field) {
+    for choices in unknown(chosen) {
         // Accepted but for the choices; without lookups; and such as 1, 2 or 5 refuses by itself.
         let mut add = |name: &str, change: fn(&mut Table)| {
-            add(format!("{choices:?}, {name}"), vec![plain_table(field, 3)], &|c| {
+            add(format!("{choices:?}, {name}"), vec![plain_table(chosen, 3)], &|c| {
                 c.choices = choices;
                 change(&mut c.tables[0]);
             });
@@ -931,19 +979,19 @@ fn boundaries_in(field: Field) -> Vec<(String, Case)> {
 }
 
 /// Choices that are known but for a number.
-fn unknown(field: Field) -> Vec<Choices> {
-    let known = Choices::of(field);
+fn unknown(chosen: Chosen) -> Vec<Choices> {
+    let known = Choices::of(chosen);
     let fields = [0, 3, u32::MAX].map(|field| Choices { field, ..known });
-    let profiles = [0, 2, u32::MAX].map(|profile| Choices { profile, ..known });
+    let profiles = [0, 3, u32::MAX].map(|profile| Choices { profile, ..known });
     let rules = [0, 2, u32::MAX].map(|rule| Choices { rule, ..known });
     [fields, profiles, rules].concat()
 }
 
 /// A word, wherever the prime decides.
-fn at_prime(add: &mut Add, field: Field, word: u32) {
+fn at_prime(add: &mut Add, chosen: Chosen, word: u32) {
     let same = |_: &mut Case| ();
     let table = |change: &dyn Fn(&mut Table)| {
-        let mut t = plain_table(field, 3);
+        let mut t = plain_table(chosen, 3);
         change(&mut t);
         vec![t]
     };
@@ -969,7 +1017,7 @@ fn at_prime(add: &mut Add, field: Field, word: u32) {
     add(format!("count {word}"), table(&|_| ()), &|c| c.count = word as i32);
     add(format!("count -{word}"), table(&|_| ()), &|c| c.count = -(word as i32));
     let heavy = |weight: u32| {
-        let mut t = plain_table(field, 1);
+        let mut t = plain_table(chosen, 1);
         t.set_records(&[Lookup { weight, ..on_bus(0, vec![0], 1) }]);
         t
     };

@@ -9,6 +9,7 @@ pub mod model;
 pub mod oracle;
 pub mod plain;
 pub mod port;
+pub mod report;
 pub mod shrink;
 pub mod table;
 pub mod tuned;

@@ -3,7 +3,7 @@
 use std::ops::Range;
 
 use crate::plain::{self, Ext, Field};
-use crate::table::{Entry, LOOKUP_WORDS, Lookup, NODE_WORDS, Plan, SIZES, Table, Widths, front};
+use crate::table::{Entry, LOOKUP_WORDS, Lookup, NODE_WORDS, Plan, SIZES, Table, Widths, chosen_of, front};
 
 /// A refusal's number and three details; number 0 where the call is accepted.
 #[derive(Clone, Copy, Debug, Default, PartialEq, Eq)]
@@ -31,40 +31,102 @@ pub struct Choices {
     pub rule: u32,
 }
 
-/// The cabinet, whose limits follow.
-pub const PROFILE: u32 = 1;
+/// What known numbers choose. A field alone chooses the cabinet.
+#[derive(Clone, Copy, Debug, Default, PartialEq, Eq)]
+pub struct Chosen {
+    pub field: Field,
+    pub profile: Profile,
+}
+
+/// Whose limits a call keeps.
+#[derive(Clone, Copy, Debug, Default, PartialEq, Eq, PartialOrd, Ord)]
+pub enum Profile {
+    #[default]
+    Cabinet = 1,
+    Gateway = 2,
+}
+
 pub const RULE: u32 = 1;
 
 impl Choices {
-    /// Those of a call in this field.
-    pub fn of(field: Field) -> Choices {
-        Choices { field: field.number(), profile: PROFILE, rule: RULE }
+    /// Those of a call in this field and profile.
+    pub fn of(chosen: impl Into<Chosen>) -> Choices {
+        let Chosen { field, profile } = chosen.into();
+        Choices { field: field.number(), profile: profile.number(), rule: RULE }
     }
 
-    /// The field, where it and the profile are known.
-    pub fn known(self) -> Option<Field> {
-        Field::numbered(self.field).filter(|_| self.profile == PROFILE)
+    /// Field and profile, where both are known.
+    pub fn known(self) -> Option<Chosen> {
+        Some(Chosen { field: Field::numbered(self.field)?, profile: Profile::numbered(self.profile)? })
     }
 
     /// The same for a function that takes the rule.
-    pub fn known_with_rule(self) -> Option<Field> {
+    pub fn known_with_rule(self) -> Option<Chosen> {
         self.known().filter(|_| self.rule == RULE)
     }
 }
 
-pub const TABLES: usize = 16;
-pub const LOOKUPS: usize = 64;
-pub const TUPLES: usize = 64;
-pub const TUPLE_WORDS: u32 = 8;
-pub const NODES: usize = 1024;
-pub const MAIN_COLUMNS: u64 = 256;
-pub const PRE_COLUMNS: u64 = 64;
-pub const PUBLIC_VALUES: usize = 64;
-pub const HEIGHT: u64 = 1 << 20;
-pub const NAME_BYTES: u32 = 16;
-pub const PREFIXES: u64 = 256;
-pub const PREFIX_WIDTH: u64 = 255;
-pub const DEGREE: u64 = 255;
+impl From<Field> for Chosen {
+    fn from(field: Field) -> Chosen {
+        Chosen { field, profile: Profile::Cabinet }
+    }
+}
+
+impl Profile {
+    pub const ALL: [Profile; 2] = [Profile::Cabinet, Profile::Gateway];
+
+    pub fn number(self) -> u32 {
+        self as u32
+    }
+
+    pub fn numbered(number: u32) -> Option<Profile> {
+        Profile::ALL.into_iter().find(|profile| profile.number() == number)
+    }
+
+    pub fn limits(self) -> &'static Limits {
+        match self {
+            Profile::Cabinet => &CABINET,
+            Profile::Gateway => &GATEWAY,
+        }
+    }
+}
+
+/// How much of each a call may have. The height is that of either trace.
+#[derive(Debug)]
+pub struct Limits {
+    pub tables: usize,
+    pub lookups: usize,
+    pub tuples: usize,
+    pub tuple_words: u32,
+    pub nodes: usize,
+    pub main_columns: u64,
+    pub pre_columns: u64,
+    pub public_values: usize,
+    pub height: u64,
+    pub name_bytes: u32,
+    pub degree: u64,
+    pub prefixes: u64,
+    pub prefix_width: u64,
+}
+
+pub const CABINET: Limits = Limits {
+    tables: 16,
+    lookups: 64,
+    tuples: 64,
+    tuple_words: 8,
+    nodes: 1024,
+    main_columns: 256,
+    pre_columns: 64,
+    public_values: 64,
+    height: 1 << 20,
+    name_bytes: 16,
+    degree: 255,
+    prefixes: 256,
+    prefix_width: 255,
+};
+
+/// A machine with less memory.
+pub const GATEWAY: Limits = Limits { lookups: 8, tuple_words: 4, height: 4096, ..CABINET };
 
 /// The first number whose test fails, or 0. Tests are tried in the order given, so none sees words that an earlier one refuses.
 fn first_refused(tests: &[(u32, &dyn Fn() -> bool)]) -> u32 {
@@ -74,22 +136,23 @@ fn first_refused(tests: &[(u32, &dyn Fn() -> bool)]) -> u32 {
 // Refusal 1.
 
 fn plan_sizes_fit(t: &Table) -> bool {
+    let limits = t.profile.limits();
     0 < t.main_width
-        && t.main_width <= MAIN_COLUMNS
-        && t.pre_width <= PRE_COLUMNS
-        && t.public_values.len() <= PUBLIC_VALUES
+        && t.main_width <= limits.main_columns
+        && t.pre_width <= limits.pre_columns
+        && t.public_values.len() <= limits.public_values
         && t.nodes.len().is_multiple_of(NODE_WORDS)
-        && t.node_count() <= NODES
+        && t.node_count() <= limits.nodes
         && lookup_sizes_fit(t)
 }
 
 /// What the lookups' words alone show.
 fn words_within(t: &Table) -> bool {
-    let entries = t.entries();
+    let (limits, entries) = (t.profile.limits(), t.entries());
     t.lookups.len().is_multiple_of(LOOKUP_WORDS)
-        && entries.len() <= LOOKUPS
-        && entries.iter().all(|e| e.name_length <= NAME_BYTES)
-        && entries.iter().map(|e| u64::from(e.tuples)).sum::<u64>() <= TUPLES as u64
+        && entries.len() <= limits.lookups
+        && entries.iter().all(|e| e.name_length <= limits.name_bytes)
+        && entries.iter().map(|e| u64::from(e.tuples)).sum::<u64>() <= limits.tuples as u64
 }
 
 /// What they show with the names and the tuples' widths.
@@ -97,7 +160,7 @@ fn widths_within(t: &Table) -> bool {
     let entries = t.entries();
     let total = |field: fn(&Entry) -> u32| entries.iter().map(|e| field(e) as usize).sum::<usize>();
     words_within(t)
-        && t.tuples.iter().all(|w| *w <= TUPLE_WORDS)
+        && t.tuples.iter().all(|w| *w <= t.profile.limits().tuple_words)
         && t.names.len() == total(|e| e.name_length)
         && t.tuples.len() == total(|e| e.tuples)
 }
@@ -114,8 +177,8 @@ fn lookup_sizes_fit(t: &Table) -> bool {
 
 fn sizes_fit(t: &Table) -> bool {
     plan_sizes_fit(t)
-        && t.height <= HEIGHT
-        && t.pre_height <= HEIGHT
+        && t.height <= t.profile.limits().height
+        && t.pre_height <= t.profile.limits().height
         && t.main.len() as u64 == t.main_width * t.height
         && t.preprocessed.len() as u64 == t.pre_width * t.pre_height
 }
@@ -151,7 +214,7 @@ pub fn nodes_known(t: &Table) -> bool {
 }
 
 /// The degree of each node; sums of degrees stay below 2^64 by saturating.
-fn degrees(t: &Table, transition: u64) -> Vec<u64> {
+pub fn degrees(t: &Table, transition: u64) -> Vec<u64> {
     let mut degrees: Vec<u64> = vec![];
     for i in 0..t.node_count() {
         let [kind, a, b] = t.node(i);
@@ -170,7 +233,7 @@ fn degrees(t: &Table, transition: u64) -> Vec<u64> {
 }
 
 fn degrees_low(t: &Table) -> bool {
-    degrees(t, 1).iter().all(|d| *d <= DEGREE)
+    degrees(t, 1).iter().all(|d| *d <= t.profile.limits().degree)
 }
 
 fn list_lengths_agree(t: &Table) -> bool {
@@ -565,7 +628,7 @@ pub fn build(t: &Table, plan: &Plan, room: usize) -> (Answer, Table) {
     let Plan { kinds: [locals, globals, exclusives], interactions, weights, lists } = plan;
     let count = kinds_sum(plan);
     let tuples = |i: usize| u64::from(interactions[2 * i + 1]);
-    let fits = count <= LOOKUPS as u128
+    let fits = count <= t.profile.limits().lookups as u128
         && interactions.len() as u128 == 2 * count
         && (0..count as usize).map(tuples).sum::<u64>() == lists.tuples.len() as u64
         && weights.len() == lists.tuples.len()
@@ -574,7 +637,8 @@ pub fn build(t: &Table, plan: &Plan, room: usize) -> (Answer, Table) {
     if !fits {
         return (refused(1), Table::default());
     }
-    let mut built = Table { field: t.field, main_width: t.main_width, pre_width: t.pre_width, nodes: t.nodes.clone(), ..lists.clone() };
+    let mut built =
+        Table { main_width: t.main_width, pre_width: t.pre_width, nodes: t.nodes.clone(), ..lists.over(t.chosen()).into_owned() };
     built.public_values = t.public_values.clone();
     built.lookups = vec![];
     let mut weights = &weights[..];
@@ -611,8 +675,8 @@ pub fn count_of(field: Field, n: i32) -> (u32, u32) {
 }
 
 /// Whether node `used` can be added to a list of so many words.
-pub fn room_for_node(nodes: usize, used: u64) -> bool {
-    used < NODES as u64 && used < (nodes / NODE_WORDS) as u64
+pub fn room_for_node(limits: &Limits, nodes: usize, used: u64) -> bool {
+    used < limits.nodes as u64 && used < (nodes / NODE_WORDS) as u64
 }
 
 /// Where a row of the trace begins and how many words it has; zeros where it is not there.
@@ -638,10 +702,15 @@ pub fn inverse(field: Field, a: Ext) -> Ext {
     power(field, a, u128::from(field.prime()).pow(4) - 2)
 }
 
+/// The limits of the call that these tables are of.
+fn limits_of(tables: &[Table]) -> &'static Limits {
+    chosen_of(tables).profile.limits()
+}
+
 /// The widest bus tuple. The function has the lookups' words, names and widths only: of 5 it tests what these words show.
 pub fn widths(tables: &[Table]) -> (Answer, u64) {
     let number = first_refused(&[
-        (1, &|| tables.len() <= TABLES && tables.iter().all(widths_within)),
+        (1, &|| tables.len() <= limits_of(tables).tables && tables.iter().all(widths_within)),
         (5, &|| tables.iter().all(list_lengths_agree)),
     ]);
     if number != 0 {
@@ -658,9 +727,10 @@ pub fn widths(tables: &[Table]) -> (Answer, u64) {
 
 /// The sum of weight × height. The function has the lookups' words only.
 pub fn height_bound(tables: &[Table], heights: &[u64]) -> Answer {
-    let fit = || heights.len() == tables.len() && heights.iter().all(|h| *h <= HEIGHT);
+    let limits = limits_of(tables);
+    let fit = || heights.len() == tables.len() && heights.iter().all(|h| *h <= limits.height);
     let number = first_refused(&[
-        (1, &|| tables.len() <= TABLES && fit() && tables.iter().all(words_within)),
+        (1, &|| tables.len() <= limits.tables && fit() && tables.iter().all(words_within)),
         (5, &|| tables.iter().all(list_lengths_agree)),
     ]);
     if number != 0 {
@@ -672,8 +742,8 @@ pub fn height_bound(tables: &[Table], heights: &[u64]) -> Answer {
     if below { ACCEPTED } else { Answer { number: 19, details: [sum, 0, 0] } }
 }
 
-pub fn terminals(field: Field, terminals: &[Option<Ext>]) -> Answer {
-    if TABLES < terminals.len() {
+pub fn terminals(Chosen { field, profile }: Chosen, terminals: &[Option<Ext>]) -> Answer {
+    if profile.limits().tables < terminals.len() {
         return refused(1);
     }
     let present = || terminals.iter().flatten();
@@ -683,9 +753,9 @@ pub fn terminals(field: Field, terminals: &[Option<Ext>]) -> Answer {
     if sum(field, present().copied()) == [0; 4] { ACCEPTED } else { refused(20) }
 }
 
-pub fn prefixes(field: Field, alpha: Ext, beta: Ext, width: u64, count: u64) -> (Answer, Vec<Ext>) {
+pub fn prefixes(Chosen { field, profile }: Chosen, alpha: Ext, beta: Ext, width: u64, count: u64) -> (Answer, Vec<Ext>) {
     let number = first_refused(&[
-        (1, &|| width <= PREFIX_WIDTH && count <= PREFIXES),
+        (1, &|| width <= profile.limits().prefix_width && count <= profile.limits().prefixes),
         (2, &|| words_below(field, &alpha) && words_below(field, &beta)),
         (12, &|| width != 0),
     ]);
@@ -734,6 +804,7 @@ pub fn bus_tables(all: &Table, sizes: &[u32]) -> Option<Vec<Table>> {
     let own = split(sizes, 0, [(LOOKUP_WORDS, all.lookups.len()), (1, all.names.len()), (1, all.tuples.len())])?;
     let table = |Own { parts: [lookups, names, tuples], .. }| Table {
         field: all.field,
+        profile: all.profile,
         lookups: all.lookups[lookups].to_vec(),
         names: all.names[names].to_vec(),
         tuples: all.tuples[tuples].to_vec(),
@@ -743,9 +814,9 @@ pub fn bus_tables(all: &Table, sizes: &[u32]) -> Option<Vec<Table>> {
 }
 
 /// The tables of the height bound, of which there are lookups.
-pub fn weighed_tables(field: Field, lookups: &[u32], counts: &[u32]) -> Option<Vec<Table>> {
+pub fn weighed_tables(Chosen { field, profile }: Chosen, lookups: &[u32], counts: &[u32]) -> Option<Vec<Table>> {
     let own = split(counts, 0, [(LOOKUP_WORDS, lookups.len())])?;
-    let table = |Own { parts: [part], .. }| Table { field, lookups: lookups[part].to_vec(), ..Table::default() };
+    let table = |Own { parts: [part], .. }| Table { field, profile, lookups: lookups[part].to_vec(), ..Table::default() };
     Some(own.into_iter().map(table).collect())
 }
 
@@ -769,6 +840,7 @@ pub fn whole_tables(all: &Table, sizes: &[u32]) -> Option<Vec<Table>> {
         let [main, preprocessed, public_values, nodes, lookups, names, tuples, multiplicities, flags, elements] = parts;
         Table {
             field: all.field,
+            profile: all.profile,
             main_width: shape[0].into(),
             height: shape[1].into(),
             pre_width: shape[2].into(),
@@ -806,7 +878,7 @@ fn before(a: &[u32], b: &[u32]) -> bool {
 
 pub fn balance(tables: &[Table], workspace: &mut [u32]) -> Answer {
     let number = first_refused(&[
-        (1, &|| tables.len() <= TABLES && tables.iter().all(sizes_fit)),
+        (1, &|| tables.len() <= limits_of(tables).tables && tables.iter().all(sizes_fit)),
         (2, &|| tables.iter().all(|t| traces_below(t) && constants_below(t))),
         (3, &|| tables.iter().all(nodes_known)),
         (4, &|| tables.iter().all(degrees_low)),

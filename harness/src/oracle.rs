@@ -20,7 +20,7 @@ use serde::Transparent;
 
 use crate::model;
 use crate::plain::{Ext, Field};
-use crate::table::{Interaction, Lookup, Part, Table, field_of};
+use crate::table::{Interaction, Lookup, Part, Table, chosen_of};
 
 type Expression<const P: u32> = SymbolicExpression<MontyField31<P>>;
 
@@ -109,12 +109,12 @@ pub fn build(t: &Table, interactions: &[Interaction]) -> Run<Vec<Lookup>> {
 
 /// The widest bus tuple, or the two widths that differ.
 pub fn widths(tables: &[Table]) -> Run<Result<u64, (u64, u64)>> {
-    in_field!(field_of(tables), widths(tables))
+    in_field!(chosen_of(tables).field, widths(tables))
 }
 
 /// Accepted, or the sum that is too large.
 pub fn height_bound(tables: &[Table], heights: &[u64]) -> Run<Result<(), u128>> {
-    in_field!(field_of(tables), height_bound(tables, heights))
+    in_field!(chosen_of(tables).field, height_bound(tables, heights))
 }
 
 /// Whether the sum of the terminals is zero.
@@ -146,7 +146,7 @@ pub fn count_provided(t: &Table, node: u32) -> Run<(u32, u32)> {
 
 /// `check_lookups`: its panic's message where something is not balanced.
 pub fn balance(tables: &[Table]) -> Run<()> {
-    in_field!(field_of(tables), balance(tables))
+    in_field!(chosen_of(tables).field, balance(tables))
 }
 
 /// How the crate names a group in the message of a panic.

@@ -27,9 +27,9 @@ mod exported {
 
     use super::*;
     use crate::exports::Rooms;
-    use crate::model::{Answer, Choices};
+    use crate::model::{self, Answer, Choices, Chosen};
     use crate::plain::{Ext, Field};
-    use crate::table::{Interaction, Lookup, Part, Plan, SIZES, Table, field_of};
+    use crate::table::{Interaction, Lookup, Part, Plan, SIZES, Table, chosen_of};
     use crate::wrapper::Refused;
 
     /// A size that is no number of this machine is over every limit all the same.
@@ -205,12 +205,17 @@ mod exported {
         }
     }
 
-    /// The wrapper's choices for a field.
-    pub fn choices(field: Field) -> delmatik::Choices {
-        delmatik::Choices { field: chosen(field), profile: Profile::Cabinet }
+    /// The wrapper's choices for a field and profile.
+    pub fn choices(chosen: impl Into<Chosen>) -> delmatik::Choices {
+        let Chosen { field, profile } = chosen.into();
+        let profile = match profile {
+            model::Profile::Cabinet => Profile::Cabinet,
+            model::Profile::Gateway => Profile::Gateway,
+        };
+        delmatik::Choices { field: field_of(field), profile }
     }
 
-    fn chosen(field: Field) -> delmatik::Field {
+    fn field_of(field: Field) -> delmatik::Field {
         match field {
             Field::BabyBear => delmatik::Field::BabyBear,
             Field::KoalaBear => delmatik::Field::KoalaBear,
@@ -219,12 +224,12 @@ mod exported {
 
     /// Those of some tables.
     fn choices_of(tables: &[Table]) -> delmatik::Choices {
-        choices(field_of(tables))
+        choices(chosen_of(tables))
     }
 
-    /// A table of one crate as a table of another: their parts have the same names, but the wrapper's has no field.
+    /// A table of one crate as a table of another: their parts have the same names, but the wrapper's has no field and no profile.
     macro_rules! moved {
-        ($table:expr, $size:expr, $into:ident, $($field:ident)?) => {{
+        ($table:expr, $size:expr, $into:ident, $($chosen:ident)*) => {{
             let (t, size) = ($table, $size);
             $into {
                 main_width: size(t.main_width),
@@ -241,7 +246,7 @@ mod exported {
                 multiplicities: t.multiplicities,
                 flags: t.flags,
                 elements: t.elements,
-                $($field,)?
+                $($chosen,)*
             }
         }};
     }
@@ -255,16 +260,16 @@ mod exported {
         tables.iter().map(wrapped).collect()
     }
 
-    fn unwrapped(field: Field, t: Words) -> Table {
-        moved!(t, |n| n as u64, Table, field)
+    fn unwrapped(Chosen { field, profile }: Chosen, t: Words) -> Table {
+        moved!(t, |n| n as u64, Table, field profile)
     }
 
     fn wrapped_bytes(t: &Table<u8>) -> Bytes {
         moved!(t.clone(), size, Bytes,)
     }
 
-    fn unwrapped_bytes(field: Field, t: Bytes) -> Table<u8> {
-        moved!(t, |n| n as u64, Table, field)
+    fn unwrapped_bytes(Chosen { field, profile }: Chosen, t: Bytes) -> Table<u8> {
+        moved!(t, |n| n as u64, Table, field profile)
     }
 
     /// The tables as bytes, by the wrapper's own conversion, and the bytes of their sizes.
@@ -303,7 +308,7 @@ mod exported {
 
     impl Wrapper for Exported {
         fn with(&self, t: &Table, lookups: &[Lookup]) -> Table {
-            unwrapped(t.field, wrapped(t).with(&lookups.iter().map(lookup).collect::<Vec<_>>()))
+            unwrapped(t.chosen(), wrapped(t).with(&lookups.iter().map(lookup).collect::<Vec<_>>()))
         }
 
         fn lookup_count(&self, t: &Table) -> usize {
@@ -315,37 +320,37 @@ mod exported {
         }
 
         fn generate(&self, t: &Table, challenges: &[Ext]) -> Refused<(Vec<u32>, Option<Ext>)> {
-            let generated = wrapped(t).generate(choices(t.field), Rule::One, challenges).map_err(answer)?;
+            let generated = wrapped(t).generate(choices(t.chosen()), Rule::One, challenges).map_err(answer)?;
             Ok((generated.trace, element(generated.terminal)))
         }
 
         fn generate_into(&self, t: &Table, challenges: &[u32], trace: &mut [u32]) -> Refused<Option<Ext>> {
-            wrapped(t).generate_into(choices(t.field), Rule::One, challenges, trace).map(element).map_err(answer)
+            wrapped(t).generate_into(choices(t.chosen()), Rule::One, challenges, trace).map(element).map_err(answer)
         }
 
         fn constraints(&self, t: &Table, challenges: &[Ext], width: u64, trace: &[u32], terminal: Option<Ext>) -> Refused<()> {
             wrapped(t)
-                .constraints(choices(t.field), Rule::One, challenges, size(width), trace, terminal.map(LookupTerminal))
+                .constraints(choices(t.chosen()), Rule::One, challenges, size(width), trace, terminal.map(LookupTerminal))
                 .map_err(answer)
         }
 
         fn constraints_on(&self, t: &Table, challenges: &[u32], width: u64, trace: &[u32], terminal: Option<Ext>) -> Refused<()> {
             wrapped(t)
-                .constraints_on(choices(t.field), Rule::One, challenges, size(width), trace, terminal.map(LookupTerminal))
+                .constraints_on(choices(t.chosen()), Rule::One, challenges, size(width), trace, terminal.map(LookupTerminal))
                 .map_err(answer)
         }
 
         fn degree(&self, t: &Table, lookup: u64, transition: u32) -> Refused<u64> {
-            wrapped(t).degree(choices(t.field), size(lookup), transition).map_err(answer)
+            wrapped(t).degree(choices(t.chosen()), size(lookup), transition).map_err(answer)
         }
 
         fn pack(&self, t: &Table, limit: u64) -> Refused<Table> {
-            wrapped(t).pack(choices(t.field), limit).map(|packed| unwrapped(t.field, packed)).map_err(answer)
+            wrapped(t).pack(choices(t.chosen()), limit).map(|packed| unwrapped(t.chosen(), packed)).map_err(answer)
         }
 
         fn build(&self, t: &Table, interactions: &[Interaction]) -> Refused<Table> {
-            let built = wrapped(t).build(choices(t.field), &interactions.iter().map(interaction).collect::<Vec<_>>());
-            built.map(|built| unwrapped(t.field, built)).map_err(answer)
+            let built = wrapped(t).build(choices(t.chosen()), &interactions.iter().map(interaction).collect::<Vec<_>>());
+            built.map(|built| unwrapped(t.chosen(), built)).map_err(answer)
         }
 
         fn widths(&self, tables: &[Table]) -> Refused<u64> {
@@ -357,12 +362,12 @@ mod exported {
             delmatik::height_bound(choices_of(tables), &all_wrapped(tables), &heights).map_err(answer)
         }
 
-        fn terminals(&self, field: Field, terminals: &[Option<Ext>]) -> Refused<()> {
-            delmatik::terminals(choices(field), &terminals.iter().map(|t| t.map(LookupTerminal)).collect::<Vec<_>>()).map_err(answer)
+        fn terminals(&self, chosen: Chosen, terminals: &[Option<Ext>]) -> Refused<()> {
+            delmatik::terminals(choices(chosen), &terminals.iter().map(|t| t.map(LookupTerminal)).collect::<Vec<_>>()).map_err(answer)
         }
 
-        fn prefixes(&self, field: Field, alpha: Ext, beta: Ext, width: u64, count: u64) -> Refused<Vec<Ext>> {
-            delmatik::prefixes(choices(field), alpha, beta, size(width), size(count)).map_err(answer)
+        fn prefixes(&self, chosen: Chosen, alpha: Ext, beta: Ext, width: u64, count: u64) -> Refused<Vec<Ext>> {
+            delmatik::prefixes(choices(chosen), alpha, beta, size(width), size(count)).map_err(answer)
         }
 
         fn balance(&self, tables: &[Table], workspace: &mut [u32]) -> Refused<()> {
@@ -374,11 +379,11 @@ mod exported {
         }
 
         fn power(&self, field: Field, a: Ext, n: u32) -> Refused<Ext> {
-            delmatik::power(chosen(field), a, n).map_err(answer)
+            delmatik::power(field_of(field), a, n).map_err(answer)
         }
 
         fn inverse(&self, field: Field, a: Ext) -> Refused<Ext> {
-            delmatik::inverse(chosen(field), a).map_err(answer)
+            delmatik::inverse(field_of(field), a).map_err(answer)
         }
 
         fn count_bounded(&self, node: u32, weight: u32) -> [u32; 2] {
@@ -389,12 +394,12 @@ mod exported {
             count(Count::provided(node))
         }
 
-        fn count_from_i32(&self, field: Field, nodes: &mut Vec<u32>, x: i32) -> Refused<[u32; 2]> {
-            Count::from_i32(choices(field), nodes, x).map(count).map_err(answer)
+        fn count_from_i32(&self, chosen: Chosen, nodes: &mut Vec<u32>, x: i32) -> Refused<[u32; 2]> {
+            Count::from_i32(choices(chosen), nodes, x).map(count).map_err(answer)
         }
 
-        fn count_negated(&self, field: Field, nodes: &mut Vec<u32>, [node, weight]: [u32; 2]) -> Refused<[u32; 2]> {
-            Count { node, weight }.negated(choices(field), nodes).map(count).map_err(answer)
+        fn count_negated(&self, chosen: Chosen, nodes: &mut Vec<u32>, [node, weight]: [u32; 2]) -> Refused<[u32; 2]> {
+            Count { node, weight }.negated(choices(chosen), nodes).map(count).map_err(answer)
         }
 
         fn row(&self, trace: &[u32], lookups: u64, height: u64, row: u64) -> Vec<u32> {
@@ -406,11 +411,11 @@ mod exported {
         }
 
         fn generate_bytes(&self, t: &Table<u8>, challenges: &[u8], trace: &mut [u8]) -> Refused<Option<Ext>> {
-            wrapped_bytes(t).generate_into(choices(t.field), Rule::One, challenges, trace).map(element).map_err(answer)
+            wrapped_bytes(t).generate_into(choices(t.chosen()), Rule::One, challenges, trace).map(element).map_err(answer)
         }
 
         fn pack_bytes(&self, t: &Table<u8>, limit: u64) -> Refused<Table<u8>> {
-            wrapped_bytes(t).pack(choices(t.field), limit).map(|packed| unwrapped_bytes(t.field, packed)).map_err(answer)
+            wrapped_bytes(t).pack(choices(t.chosen()), limit).map(|packed| unwrapped_bytes(t.chosen(), packed)).map_err(answer)
         }
 
         fn balance_bytes(&self, tables: &[Table], workspace: &mut [u8]) -> Refused<()> {

@@ -53,7 +53,8 @@ fn smaller_cases(case: &Case) -> Vec<Case> {
             });
         }
     }
-    with(&|c| c.choices = Choices::of(c.field()));
+    with(&|c| c.choices = Choices::of(c.chosen()));
+    with(&|c| *c = c.in_cabinet());
     with(&|c| c.interactions.clear());
     with(&|c| shorten(&mut c.interactions));
     with(&|c| c.interactions.iter_mut().for_each(of_node_0));

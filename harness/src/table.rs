@@ -2,13 +2,15 @@
 use std::borrow::Cow;
 use std::fmt;
 
+use crate::model::{Chosen, Profile};
 use crate::plain::Field;
 
 /// The lists are words, or the bytes of words.
 #[derive(Clone, Debug, Default, PartialEq, Eq)]
 pub struct Table<W = u32> {
-    /// The field that its words are of. The tables of one call are of one field.
+    /// The field that its words are of, and the profile whose limits it is to keep. The tables of one call are of one field and one profile.
     pub field: Field,
+    pub profile: Profile,
     pub main_width: u64,
     pub height: u64,
     pub pre_width: u64,
@@ -128,6 +130,12 @@ impl Plan {
     }
 }
 
+impl<W> Table<W> {
+    pub fn chosen(&self) -> Chosen {
+        Chosen { field: self.field, profile: self.profile }
+    }
+}
+
 pub const LOOKUP_WORDS: usize = 8;
 pub const NODE_WORDS: usize = 3;
 
@@ -144,9 +152,10 @@ pub struct Entry {
 }
 
 impl Table {
-    /// The same words in this field.
-    pub fn over(&self, field: Field) -> Cow<'_, Table> {
-        if self.field == field { Cow::Borrowed(self) } else { Cow::Owned(Table { field, ..self.clone() }) }
+    /// The same words in this field and profile.
+    pub fn over(&self, chosen: Chosen) -> Cow<'_, Table> {
+        let Chosen { field, profile } = chosen;
+        if self.chosen() == chosen { Cow::Borrowed(self) } else { Cow::Owned(Table { field, profile, ..self.clone() }) }
     }
 
     pub fn entries(&self) -> Vec<Entry> {
@@ -271,8 +280,10 @@ impl Table {
     /// The lists of all tables, one table after the other.
     pub fn joined(tables: &[Table]) -> Table {
         let words = |list: fn(&Table) -> &[u32]| tables.iter().flat_map(list).copied().collect();
+        let Chosen { field, profile } = chosen_of(tables);
         Table {
-            field: field_of(tables),
+            field,
+            profile,
             main: words(|t| &t.main),
             preprocessed: words(|t| &t.preprocessed),
             public_values: words(|t| &t.public_values),
@@ -291,6 +302,7 @@ impl Table {
     pub fn bytes(&self) -> Table<u8> {
         Table {
             field: self.field,
+            profile: self.profile,
             main_width: self.main_width,
             height: self.height,
             pre_width: self.pre_width,
@@ -314,6 +326,7 @@ impl Table<u8> {
     pub fn words(&self) -> Table {
         Table {
             field: self.field,
+            profile: self.profile,
             main_width: self.main_width,
             height: self.height,
             pre_width: self.pre_width,
@@ -373,6 +386,7 @@ impl fmt::Display for Table {
     fn fmt(&self, f: &mut fmt::Formatter<'_>) -> fmt::Result {
         let lines = [
             line("field", &[self.field.number()]),
+            line("profile", &[self.profile.number()]),
             line("table", &[self.main_width, self.height, self.pre_width, self.pre_height]),
             line("main", &self.main),
             line("preprocessed", &self.preprocessed),
@@ -384,9 +398,9 @@ impl fmt::Display for Table {
     }
 }
 
-/// The field of the tables of a call, any where there is none.
-pub fn field_of(tables: &[Table]) -> Field {
-    tables.first().map_or_else(Field::default, |t| t.field)
+/// The field and profile of the tables of a call, any where there is none.
+pub fn chosen_of(tables: &[Table]) -> Chosen {
+    tables.first().map_or_else(Chosen::default, Table::chosen)
 }
 
 /// Takes so many words from the front of a list.

@@ -1,7 +1,7 @@
 //! The safe functions of bindings/rust, over the harness's own tables: a value, or the refusal. The wrapper has them, the model as a reference, and
-//! the wrong wrappers of the tests. Its types have known fields, profiles and rules alone; a table is of its own field.
+//! the wrong wrappers of the tests. Its types have known fields, profiles and rules alone; a table is of its own field and profile.
 use crate::exports::{Exports, Model};
-use crate::model::{self, ACCEPTED, Answer};
+use crate::model::{self, ACCEPTED, Answer, Chosen};
 use crate::plain::{Ext, Field};
 use crate::table::{Interaction, LOOKUP_WORDS, Lookup, NODE_WORDS, Plan, SIZES, Table, bytes_of, words_of};
 
@@ -20,8 +20,8 @@ pub trait Wrapper {
     fn build(&self, t: &Table, interactions: &[Interaction]) -> Refused<Table>;
     fn widths(&self, tables: &[Table]) -> Refused<u64>;
     fn height_bound(&self, tables: &[Table], heights: &[u64]) -> Refused<()>;
-    fn terminals(&self, field: Field, terminals: &[Option<Ext>]) -> Refused<()>;
-    fn prefixes(&self, field: Field, alpha: Ext, beta: Ext, width: u64, count: u64) -> Refused<Vec<Ext>>;
+    fn terminals(&self, chosen: Chosen, terminals: &[Option<Ext>]) -> Refused<()>;
+    fn prefixes(&self, chosen: Chosen, alpha: Ext, beta: Ext, width: u64, count: u64) -> Refused<Vec<Ext>>;
     fn balance(&self, tables: &[Table], workspace: &mut [u32]) -> Refused<()>;
     fn balance_with_seed(&self, tables: &[Table], seed: u64, workspace: &mut [u32]) -> Refused<()>;
     fn power(&self, field: Field, a: Ext, n: u32) -> Refused<Ext>;
@@ -30,8 +30,8 @@ pub trait Wrapper {
     /// A count is its node and its weight.
     fn count_bounded(&self, node: u32, weight: u32) -> [u32; 2];
     fn count_provided(&self, node: u32) -> [u32; 2];
-    fn count_from_i32(&self, field: Field, nodes: &mut Vec<u32>, x: i32) -> Refused<[u32; 2]>;
-    fn count_negated(&self, field: Field, nodes: &mut Vec<u32>, of: [u32; 2]) -> Refused<[u32; 2]>;
+    fn count_from_i32(&self, chosen: Chosen, nodes: &mut Vec<u32>, x: i32) -> Refused<[u32; 2]>;
+    fn count_negated(&self, chosen: Chosen, nodes: &mut Vec<u32>, of: [u32; 2]) -> Refused<[u32; 2]>;
     fn row(&self, trace: &[u32], lookups: u64, height: u64, row: u64) -> Vec<u32>;
 
     fn bytes_of(&self, words: &[u32]) -> Vec<u8>;
@@ -67,8 +67,9 @@ impl Wrapper for Model {
 
     fn generate(&self, t: &Table, challenges: &[Ext]) -> Refused<(Vec<u32>, Option<Ext>)> {
         // As many words as any table within the limits needs.
-        let rows = if t.lookups.is_empty() { 0 } else { t.height.min(model::HEIGHT) as usize };
-        let mut trace = vec![0; 4 * rows * (t.lookup_count().min(model::LOOKUPS) + 1)];
+        let limits = t.profile.limits();
+        let rows = if t.lookups.is_empty() { 0 } else { t.height.min(limits.height) as usize };
+        let mut trace = vec![0; 4 * rows * (t.lookup_count().min(limits.lookups) + 1)];
         let (answer, terminal) = model::generate(t, elements(challenges), &mut trace);
         unless_refused(answer, (trace, terminal))
     }
@@ -112,12 +113,12 @@ impl Wrapper for Model {
         unless_refused(model::height_bound(tables, heights), ())
     }
 
-    fn terminals(&self, field: Field, terminals: &[Option<Ext>]) -> Refused<()> {
-        unless_refused(model::terminals(field, terminals), ())
+    fn terminals(&self, chosen: Chosen, terminals: &[Option<Ext>]) -> Refused<()> {
+        unless_refused(model::terminals(chosen, terminals), ())
     }
 
-    fn prefixes(&self, field: Field, alpha: Ext, beta: Ext, width: u64, count: u64) -> Refused<Vec<Ext>> {
-        let (answer, prefixes) = model::prefixes(field, alpha, beta, width, count);
+    fn prefixes(&self, chosen: Chosen, alpha: Ext, beta: Ext, width: u64, count: u64) -> Refused<Vec<Ext>> {
+        let (answer, prefixes) = model::prefixes(chosen, alpha, beta, width, count);
         unless_refused(answer, prefixes)
     }
 
@@ -147,17 +148,17 @@ impl Wrapper for Model {
         [node, 0]
     }
 
-    fn count_from_i32(&self, field: Field, nodes: &mut Vec<u32>, x: i32) -> Refused<[u32; 2]> {
-        let (word, weight) = model::count_of(field, x);
-        added(nodes, [0, word, 0]).map(|node| [node, weight])
+    fn count_from_i32(&self, chosen: Chosen, nodes: &mut Vec<u32>, x: i32) -> Refused<[u32; 2]> {
+        let (word, weight) = model::count_of(chosen.field, x);
+        added(chosen, nodes, [0, word, 0]).map(|node| [node, weight])
     }
 
-    fn count_negated(&self, _field: Field, nodes: &mut Vec<u32>, [node, weight]: [u32; 2]) -> Refused<[u32; 2]> {
+    fn count_negated(&self, chosen: Chosen, nodes: &mut Vec<u32>, [node, weight]: [u32; 2]) -> Refused<[u32; 2]> {
         let there = (node as usize) < nodes.len() / NODE_WORDS;
-        if !there && nodes.len() / NODE_WORDS < model::NODES {
+        if !there && nodes.len() / NODE_WORDS < chosen.profile.limits().nodes {
             return Err(model::refused(3));
         }
-        added(nodes, [12, node, 0]).map(|node| [node, weight])
+        added(chosen, nodes, [12, node, 0]).map(|node| [node, weight])
     }
 
     fn row(&self, trace: &[u32], lookups: u64, height: u64, row: u64) -> Vec<u32> {
@@ -206,9 +207,9 @@ impl Wrapper for Model {
 }
 
 /// The number of a node that is added to a table of nodes; words that make no whole node give way to it.
-fn added(nodes: &mut Vec<u32>, node: [u32; 3]) -> Refused<u32> {
+fn added(chosen: Chosen, nodes: &mut Vec<u32>, node: [u32; 3]) -> Refused<u32> {
     let used = nodes.len() / NODE_WORDS;
-    if model::NODES <= used {
+    if chosen.profile.limits().nodes <= used {
         return Err(model::refused(1));
     }
     nodes.truncate(NODE_WORDS * used);

@@ -3,10 +3,10 @@
 #![cfg(source)]
 use harness::exports::{Exports, marked};
 use harness::generator;
-use harness::model::{ACCEPTED, Answer, Choices};
+use harness::model::{ACCEPTED, Answer, Choices, Profile};
 use harness::oracle::{self, Run};
 use harness::plain::{Ext, Field, lift};
-use harness::table::{Interaction, Lookup, Part, Plan, Table, field_of};
+use harness::table::{Interaction, Lookup, Part, Plan, Table, chosen_of};
 
 #[cfg(feature = "port")]
 const PORT: &dyn Exports = &harness::port::Exported;
@@ -20,29 +20,29 @@ const P: u32 = FIELD.prime();
 // The port's functions in the field of a table, with room for all that they write.
 
 fn choices(tables: &[Table]) -> Choices {
-    Choices::of(field_of(tables))
+    Choices::of(chosen_of(tables))
 }
 
 fn generate(t: &Table, challenges: &[u32]) -> Answer {
-    PORT.generate(Choices::of(t.field), t, challenges, &mut vec![7; 12_000], &mut [7; 5])
+    PORT.generate(Choices::of(t.chosen()), t, challenges, &mut vec![7; 12_000], &mut [7; 5])
 }
 
 fn constraints(t: &Table, challenges: &[u32], width: u64, trace: &[u32], terminal: Option<Ext>) -> Answer {
-    PORT.constraints(Choices::of(t.field), t, challenges, width, trace, marked(terminal))
+    PORT.constraints(Choices::of(t.chosen()), t, challenges, width, trace, marked(terminal))
 }
 
 fn degree(t: &Table, lookup: u64, transition: u32) -> Result<u64, u32> {
     let mut degree = 7;
-    let answer = PORT.degree(Choices::of(t.field), t, lookup, transition, &mut degree);
+    let answer = PORT.degree(Choices::of(t.chosen()), t, lookup, transition, &mut degree);
     if answer == ACCEPTED { Ok(degree) } else { Err(answer.number) }
 }
 
 fn pack(t: &Table, limit: u64) -> Answer {
-    PORT.pack(Choices::of(t.field), t, limit, &mut t.clone(), &mut [7; 6])
+    PORT.pack(Choices::of(t.chosen()), t, limit, &mut t.clone(), &mut [7; 6])
 }
 
 fn build(t: &Table, interactions: &[Interaction]) -> Answer {
-    PORT.build(Choices::of(t.field), t, &Plan::of(interactions), &mut [7; 1000], &mut 7)
+    PORT.build(Choices::of(t.chosen()), t, &Plan::of(interactions), &mut [7; 1000], &mut 7)
 }
 
 fn widths(tables: &[Table]) -> Answer {
@@ -148,7 +148,9 @@ fn limits_of_a_table() {
         "preprocessed height 1048577",
         "17 bytes a name",
     ];
-    for name in names.iter().flat_map(|name| [1, 2].map(|field| format!("{name}, field {field}"))) {
+    let of_gateway = ["9 lookups", "5 words a tuple", "height 4097", "preprocessed height 4097"];
+    let names = names.map(|name| (name, 1)).into_iter().chain(of_gateway.map(|name| (name, 2)));
+    for name in names.flat_map(|(name, profile)| [1, 2].map(|field| format!("{name}, field {field}, profile {profile}"))) {
         let (_, case) = cases.iter().find(|(other, _)| *other == name).unwrap();
         let t = &case.tables[0];
         assert_eq!(generate(t, &case.challenges).number, 1, "{name}");
@@ -160,7 +162,7 @@ fn limits_of_a_table() {
 fn unknown_choices() {
     let t = table(&[3], &[]);
     let known = Choices::of(FIELD);
-    for choices in [Choices { field: 3, ..known }, Choices { profile: 2, ..known }, Choices { rule: 2, ..known }] {
+    for choices in [Choices { field: 3, ..known }, Choices { profile: 3, ..known }, Choices { rule: 2, ..known }] {
         assert_eq!(PORT.generate(choices, &t, &[], &mut [], &mut [7; 5]).number, 1);
     }
 }
@@ -190,10 +192,17 @@ fn many_and_wide_prefixes() {
 fn limits_of_building() {
     let part = |width: usize| Part { elements: vec![0; width], multiplicity: 2, weight: 1 };
     let global = |bytes: usize, width: usize| Interaction::Global(vec![b'x'; bytes], part(width));
-    let t = table(&[3], &[]);
-    for interactions in [vec![global(1, 1); 65], vec![Interaction::Local(vec![part(1); 65])], vec![global(1, 9)], vec![global(17, 1)]] {
-        assert_eq!(build(&t, &interactions).number, 1);
-        assert_eq!(oracle::build(&t, &interactions).map(|built| built.len()), Ok(interactions.len()));
+    let (cabinet, gateway) = (table(&[3], &[]), Table { profile: Profile::Gateway, ..table(&[3], &[]) });
+    for (t, interactions) in [
+        (&cabinet, vec![global(1, 1); 65]),
+        (&cabinet, vec![Interaction::Local(vec![part(1); 65])]),
+        (&cabinet, vec![global(1, 9)]),
+        (&cabinet, vec![global(17, 1)]),
+        (&gateway, vec![global(1, 1); 9]),
+        (&gateway, vec![global(1, 5)]),
+    ] {
+        assert_eq!(build(t, &interactions).number, 1);
+        assert_eq!(oracle::build(t, &interactions).map(|built| built.len()), Ok(interactions.len()));
     }
 }
 
@@ -442,7 +451,7 @@ fn rows_missing() {
 #[test]
 fn short_buffer() {
     let t = table(&[3], &[once(0)]);
-    assert_eq!(PORT.generate(Choices::of(t.field), &t, &pairs(1), &mut [7; 7], &mut [7; 5]).number, 10);
+    assert_eq!(PORT.generate(Choices::of(t.chosen()), &t, &pairs(1), &mut [7; 7], &mut [7; 5]).number, 10);
     assert_eq!(generated(&t, &pairs(1)), Ok(8));
 }
 

@@ -1,8 +1,8 @@
 //! Readings that docs/DECISIONS.md records, each with its smallest example: of the port's exported functions, or, without the feature `port`, of the model.
-use harness::exports::{Exports, marked};
+use harness::exports::{Exports, Rooms, marked};
 use harness::model::{ACCEPTED, Answer, Choices};
 use harness::plain::{Ext, Field, lift};
-use harness::table::{Lookup, Table};
+use harness::table::{Interaction, LOOKUP_WORDS, Lookup, Part, Plan, Table, bytes_of};
 
 #[cfg(feature = "port")]
 const PORT: &dyn Exports = &harness::port::Exported;
@@ -178,10 +178,125 @@ fn products_are_of_the_field() {
     assert_eq!([1, 2].map(power), [(0, lift(11)), (0, lift(3))]);
 }
 
+/// A table of so many lookups, each with one tuple of so many words. Without preprocessed rows there is no such trace.
+fn sized(lookups: u32, words: usize, height: usize, pre_height: usize) -> Table {
+    let lookup = |column| Lookup { column, tuples: vec![vec![0; words]], ..table(Some(b"mem")).records().remove(0) };
+    let mut t = Table { height: height as u64, main: vec![3; height], ..table(None) };
+    (t.pre_width, t.pre_height, t.preprocessed) = (u64::from(0 < pre_height), pre_height as u64, vec![0; pre_height]);
+    t.set_records(&(0..lookups).map(lookup).collect::<Vec<_>>());
+    t
+}
+
+/// What each function that takes a profile answers and writes for such a table, by its name. Building is given interactions that make its
+/// lookups, the constraints the trace of the cabinet.
+fn given(choices: Choices, t: &Table) -> Vec<(&'static str, Answer, String)> {
+    let mut given = vec![];
+    let mut add = |name: &'static str, answer: Answer, written: &dyn std::fmt::Debug| given.push((name, answer, format!("{written:?}")));
+    let (challenges, width) = (PAIR.repeat(t.lookup_count()), t.lookup_count() as u64 + 1);
+    let trace = || (vec![7; 4 * (width * t.height) as usize], [7; 5]);
+
+    let (mut rows, mut terminal) = trace();
+    add("generation", PORT.generate(choices, t, &challenges, &mut rows, &mut terminal), &(&rows, terminal));
+    let (mut rows, mut terminal) = trace();
+    PORT.generate(Choices { profile: 1, ..choices }, t, &challenges, &mut rows, &mut terminal);
+    add("constraints", PORT.constraints(choices, t, &challenges, width, &rows, terminal), &());
+    let mut degree = 7;
+    add("degree", PORT.degree(choices, t, 0, 0, &mut degree), &degree);
+    let (mut out, mut used) = (t.clone(), [7; 6]);
+    add("packing", PORT.pack(choices, t, 9, &mut out, &mut used), &(&out, used));
+    let part = Part { elements: vec![0; t.tuples[0] as usize], multiplicity: 1, weight: 1 };
+    let plan = Plan::of(&vec![Interaction::Global(b"mem".to_vec(), part); t.lookup_count()]);
+    let (mut lookups, mut used) = (vec![7; LOOKUP_WORDS * t.lookup_count()], 7);
+    add("building", PORT.build(choices, t, &plan, &mut lookups, &mut used), &(&lookups, used));
+    let (sizes, mut widest) = ([t.lookup_count(), t.names.len(), t.tuples.len()].map(|n| n as u32), 7);
+    add("widths", PORT.widths(choices, t, &sizes, &mut widest), &widest);
+    add("height bound", PORT.height_bound(choices, &t.lookups, &sizes[..1], &[t.height as u32]), &());
+    let mut workspace = [7; 20];
+    add("balance", PORT.balance(choices, t, &t.sizes(), 1, &mut workspace), &workspace);
+
+    let b = t.bytes();
+    let of_lookups = t.lengths().iter().sum::<usize>() - t.names.len();
+    let rooms = |read: usize, written: usize| Rooms { read: vec![7; read + of_lookups], written: vec![7; written] };
+    let of_rows = t.main.len() + t.preprocessed.len() + t.nodes.len();
+    let (rows, mut terminal) = trace();
+    let (mut lent, mut room) = (bytes_of(&rows), rooms(of_rows + challenges.len(), rows.len()));
+    let answer = PORT.generate_bytes(choices, &b, &bytes_of(&challenges), &mut lent, &mut room, &mut terminal);
+    add("generation on bytes", answer, &(&lent, &room, terminal));
+    let (mut out, mut room, mut used) = (b.clone(), rooms(t.nodes.len(), of_lookups), [7; 6]);
+    add("packing on bytes", PORT.pack_bytes(choices, &b, 9, &mut out, &mut room, &mut used), &(&out, &room, used));
+    let (mut lent, mut room) = (vec![7; 80], rooms(of_rows + t.sizes().len(), 20));
+    let answer = PORT.balance_bytes(choices, &b, &bytes_of(&t.sizes()), 1, &mut lent, &mut room);
+    add("balance on bytes", answer, &(&lent, &room));
+    given
+}
+
+#[test]
+fn limits_of_the_gateway() {
+    let of_rows = ["generation", "constraints", "balance", "generation on bytes", "balance on bytes"];
+    let of_lookups = ["degree", "packing", "building", "widths", "packing on bytes"];
+    // Each limit met, then passed by one, and the functions that read it.
+    let limits = [
+        (sized(8, 1, 1, 0), sized(9, 1, 1, 0), [&of_rows[..], &of_lookups, &["height bound"]].concat()),
+        (sized(1, 4, 1, 0), sized(1, 5, 1, 0), [&of_rows[..], &of_lookups].concat()),
+        (sized(1, 1, 4096, 0), sized(1, 1, 4097, 0), [&of_rows[..], &["height bound"]].concat()),
+        (sized(1, 1, 1, 4096), sized(1, 1, 1, 4097), of_rows.to_vec()),
+    ];
+    for (met, passed, readers) in limits {
+        for cabinet in [ONE, TWO] {
+            let gateway = Choices { profile: 2, ..cabinet };
+            assert!(given(gateway, &met).iter().all(|(_, answer, _)| answer.number != 1));
+            assert_eq!(given(gateway, &met), given(cabinet, &met));
+            for (in_gateway, in_cabinet) in given(gateway, &passed).iter().zip(given(cabinet, &passed)) {
+                let (name, answer, _) = in_gateway;
+                assert_ne!(in_cabinet.1.number, 1, "{name}");
+                assert_eq!(answer.number == 1, readers.contains(name), "{name}");
+                // The others answer as in the cabinet.
+                assert!(readers.contains(name) || *in_gateway == in_cabinet, "{name}");
+            }
+        }
+    }
+}
+
+#[test]
+fn the_gateway_shares_the_other_limits() {
+    let gateway = Choices { profile: 2, ..ONE };
+    // 64 tuples, 1,024 nodes and a degree of 255 are taken, and one more of each is not.
+    let tuples = |n: usize| {
+        let mut t = table(None);
+        t.set_records(&[Lookup { tuples: vec![vec![0]; n], multiplicities: vec![1; n], ..t.records().remove(0) }]);
+        t
+    };
+    let nodes = |n: usize| {
+        let mut t = table(None);
+        t.nodes.resize(3 * n, 0);
+        t
+    };
+    // A column squared seven times has degree 128, times the squares before it 255.
+    let degree = |factors: usize| {
+        let mut t = table(None);
+        for last in [0, 2, 3, 4, 5, 6, 7] {
+            t.add_node(11, last, last);
+        }
+        [7, 6, 5, 4, 3, 2, 0, 0][..factors].iter().fold(8, |last, factor| t.add_node(11, last, *factor));
+        t
+    };
+    for (met, passed, number) in [(tuples(64), tuples(65), 1), (nodes(1024), nodes(1025), 1), (degree(7), degree(8), 4)] {
+        for choices in [ONE, gateway] {
+            assert_eq!(PORT.generate(choices, &met, &PAIR, &mut [7; 8], &mut [7; 5]), ACCEPTED);
+            assert_eq!(PORT.generate(choices, &passed, &PAIR, &mut [7; 8], &mut [7; 5]).number, number);
+        }
+    }
+    // Terminals, prefixes and counts read no limit that differs.
+    assert_eq!([16, 17].map(|n| PORT.terminals(gateway, &vec![0; 5 * n]).number), [0, 1]);
+    assert_eq!([255, 256].map(|width| PORT.prefixes(gateway, &lift(1), &lift(2), width, 256, &mut [7; 1024]).number), [0, 1]);
+    assert_eq!([1023, 1024].map(|used| PORT.count_from_i32(gateway, &mut [7; 3 * 1025], used, 1, &mut [7; 2]).number), [0, 1]);
+    assert_eq!([1023, 1024].map(|used| PORT.count_negated(gateway, &mut [7; 3 * 1025], used, [0, 1], &mut [7; 2]).number), [0, 1]);
+}
+
 /// Choices with an unknown number among them.
 fn unknown() -> Vec<Choices> {
     let fields = [0, 3, u32::MAX].map(|field| Choices { field, ..ONE });
-    let profiles = [0, 2, u32::MAX].map(|profile| Choices { profile, ..TWO });
+    let profiles = [0, 3, u32::MAX].map(|profile| Choices { profile, ..TWO });
     [fields, profiles].concat()
 }
 

@@ -67,13 +67,30 @@ impl Field {
     }
 }
 
-/// The limits that a call keeps; what passes one is refusal 1.
+/// The limits that a call keeps, those of docs/SPECIFICATION.md, section 11; what passes one is refusal 1. A call that the gateway does not
+/// refuse by 1 has the same answer and outputs in the cabinet.
+///
+/// ```
+/// use delmatik::{Choices, Lookup, Profile, Refusal, Table, widths};
+///
+/// let table = |lookups: usize| {
+///     let lookup = Lookup { bus: Some(b"mem".to_vec()), tuples: vec![vec![0; 4]], multiplicities: vec![0], ..Lookup::default() };
+///     [Table { main_width: 1, nodes: vec![1, 0, 0], ..Table::default() }.with(&vec![lookup; lookups])]
+/// };
+/// let (cabinet, gateway) = (Choices::default(), Choices { profile: Profile::Gateway, ..Choices::default() });
+/// assert_eq!(widths(gateway, &table(8)), Ok(4));
+/// assert_eq!(widths(gateway, &table(9)), Err(Refusal { number: 1, details: [0; 3] }));
+/// assert_eq!(widths(cabinet, &table(9)), Ok(4));
+/// ```
 #[derive(Clone, Copy, Debug, Default, PartialEq, Eq)]
 #[non_exhaustive]
 pub enum Profile {
-    /// The limits of docs/SPECIFICATION.md, section 11.
+    /// At most 64 lookups in a table, 8 words in a tuple and a height of 2^20.
     #[default]
     Cabinet = 1,
+    /// For less memory: at most 8 lookups in a table, 4 words in a tuple, and a height of 4,096, of the preprocessed trace too. All other limits
+    /// are the cabinet's.
+    Gateway = 2,
 }
 
 /// How generation and constraints combine the words of a tuple.
@@ -312,7 +329,7 @@ impl Table {
         self.lookups.len() / 8
     }
 
-    /// How many words the trace has; at most what the limits allow, beyond which generation refuses whatever the buffer.
+    /// How many words the trace has; at most what the cabinet allows, beyond which generation refuses in any profile, whatever the buffer.
     fn trace_words(&self) -> usize {
         if self.lookups.is_empty() { 0 } else { 4 * self.height.min(1 << 20) * (self.lookup_count().min(64) + 1) }
     }

@@ -1,10 +1,10 @@
 //! Times the port's exported functions beside the same work in Rust, interleaved in one run, and compares every result: row evaluation beside the same
 //! loop; generation beside the crate's own source and beside a version tuned by hand (src/tuned.rs); constraints and balance beside the crate's
-//! source, balance beside a hash map as well, also on tuples that were chosen to be slow; and generation at growing heights. Measures how much
-//! stack they take, and how many instructions generation and constraints take, as valgrind's callgrind counts them. Generation and constraints
-//! are measured in both fields, a table for each; all else is in field 1. Prints tables; `--only PART` runs one part: evaluation, generation,
-//! constraints, instructions, growth, balance, collisions or stack; `--rounds N` repeats long work N times in the place of 3. Whatever the
-//! crate's source would be compared with is measured without it too.
+//! source, balance beside a hash map as well, also on tuples that were chosen to be slow; and generation at growing heights. Counts the
+//! instructions of generation and constraints, by valgrind's callgrind. Generation and constraints are measured in both fields, a table for
+//! each; all else is in field 1. Prints tables; `--only PART` runs one part: evaluation, generation, constraints, instructions, growth, balance
+//! or collisions; `--rounds N` repeats long work N times in the place of 3. Whatever the crate's source would be compared with is measured
+//! without it too.
 //!
 //!     cargo run --release --offline --features port --bin bench
 use std::collections::HashMap;
@@ -15,6 +15,7 @@ use delmatik::{Choices, LookupTerminal, Rule};
 use harness::clock::timed;
 use harness::plain::{BabyBear, Ext, Field, PrimeField, Random};
 use harness::port::{choices, wrapped};
+use harness::report::{argument, grouped, heading};
 use harness::table::{Lookup, Table};
 use harness::tuned::{self, Product};
 
@@ -57,17 +58,6 @@ fn median(mut times: Vec<f64>) -> f64 {
 fn report(name: &str, costs: &[f64], unit: &str) {
     let others: String = costs[1..].iter().map(|c| format!(" {}{unit} | {:.2} |", grouped(*c), costs[0] / c)).collect();
     println!("| {name} | {}{unit} |{others}", grouped(costs[0]));
-}
-
-/// A whole number, by thousands.
-fn grouped(n: f64) -> String {
-    let digits = format!("{n:.0}");
-    let parts: Vec<&str> = digits.as_bytes().rchunks(3).rev().map(|part| str::from_utf8(part).unwrap()).collect();
-    parts.join(",")
-}
-
-fn heading(columns: &[&str]) {
-    println!("\n| {} |\n|{}", columns.join(" | "), "---|".repeat(columns.len()));
 }
 
 /// A kind of table: so many lookups, each on a bus of its own, of so many tuples of so many elements.
@@ -418,47 +408,6 @@ fn collisions(random: &mut Random) {
     line("2^20 random tuples", 1 << 20, None);
 }
 
-/// How deep the stack grows: the part below this frame is painted first, and looked at afterwards.
-fn stack_of(work: impl FnOnce() + Send) -> usize {
-    const PAINTED: usize = 1 << 20;
-    const PAINT: u8 = 0x5A;
-    let measure = || {
-        let here = 0u8;
-        // The next page is left to this frame and to what paints.
-        let top = (&raw const here as usize - 4096) as *mut u8;
-        (1..=PAINTED).for_each(|i| unsafe { top.wrapping_sub(i).write_volatile(PAINT) });
-        work();
-        let clean = (1..=PAINTED).rev().take_while(|i| unsafe { top.wrapping_sub(*i).read_volatile() } == PAINT).count();
-        PAINTED - clean + 4096
-    };
-    std::thread::scope(|s| std::thread::Builder::new().stack_size(4 * PAINTED).spawn_scoped(s, measure).unwrap().join().unwrap())
-}
-
-/// The largest lists that the limits allow, with a few rows.
-fn stack(random: &mut Random) {
-    let shape = Shape { name: "", columns: 256, nodes: 400, lookups: 64, tuples: 1, width: 8, exclusive: 2 };
-    let mut t = shape.table(random, FIELD, 8);
-    let mut records = t.records();
-    records.iter_mut().for_each(|l| l.bus = Some(b"mem".to_vec()));
-    t.set_records(&records);
-    let (port, choices, challenges) = (wrapped(&t), choices(FIELD), challenges(random, FIELD, shape.lookups));
-    let (trace, terminal) = generated(choices, &port, &challenges);
-    let (mut buffer, mut workspace) = (trace.clone(), vec![0; 10 * 8 * 64]);
-    heading(&["function", "stack"]);
-    let line = |name: &str, bytes: usize| println!("| {name} | {:.0} KiB |", bytes as f64 / 1024.0);
-    let rule = Rule::One;
-    line("generation", stack_of(|| assert!(port.generate_into(choices, rule, challenges.as_flattened(), &mut buffer).is_ok())));
-    let (columns, terminal) = (shape.lookups as usize + 1, terminal.map(LookupTerminal));
-    line("constraints", stack_of(|| assert!(port.constraints(choices, rule, &challenges, columns, &trace, terminal).is_ok())));
-    line("packing", stack_of(|| assert!(port.pack(choices, 3).is_ok())));
-    line("balance, 16 tables", stack_of(|| _ = delmatik::balance(choices, &vec![port.clone(); 16], &mut workspace)));
-}
-
-/// The word after a flag, if it is there.
-fn argument(name: &str) -> Option<String> {
-    std::env::args().skip_while(|a| a != name).nth(1)
-}
-
 fn main() {
     let mut random = Random(0x9E3779B97F4A7C15);
     if let Some(which) = argument("--count") {
@@ -490,8 +439,5 @@ fn main() {
     }
     if wanted("collisions") {
         collisions(&mut random);
-    }
-    if wanted("stack") {
-        stack(&mut random);
     }
 }

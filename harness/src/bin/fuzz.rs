@@ -1,7 +1,7 @@
-//! Calls every exported function with good, damaged and random words, in both fields and with unknown choices, in memory that notices reads and
-//! writes outside what is lent. After each call: the number is one of the function's, and 1 where a choice is unknown; details are zero unless
-//! docs/SPECIFICATION.md names them; nothing beside the lists and no input was written; refusals 1 to 12 left all outputs as they were, the
-//! small ones too, and an unknown choice also the rooms.
+//! Calls every exported function with good, damaged and random words, in both fields and profiles and with unknown choices, in memory that
+//! notices reads and writes outside what is lent. After each call: the number is one of the function's, and 1 where a choice is unknown; details
+//! are zero unless docs/SPECIFICATION.md names them; nothing beside the lists and no input was written; refusals 1 to 12 left all outputs as they
+//! were, the small ones too, and an unknown choice also the rooms.
 //!
 //!     cargo run --release --offline --features port --bin fuzz -- --cases 100000 --seed 1
 use std::collections::BTreeMap;
@@ -44,15 +44,15 @@ enum Takes {
 
 /// A size now and then replaced by an extreme one.
 fn size(random: &mut Random, n: u64) -> usize {
-    let extremes = [0, 1, 65, 1 << 20, (1 << 20) + 1, 1 << 31, 1 << 32, 1 << 61, 1 << 62, 1 << 63, u64::MAX];
-    if random.below(12) == 0 { extremes[random.below(11) as usize] as usize } else { n as usize }
+    let extremes = [0, 1, 9, 65, 4096, 4097, 1 << 20, (1 << 20) + 1, 1 << 31, 1 << 32, 1 << 61, 1 << 62, 1 << 63, u64::MAX];
+    if random.below(12) == 0 { extremes[random.below(extremes.len() as u64) as usize] as usize } else { n as usize }
 }
 
 /// A list now and then with extreme words, cut, or grown.
 fn list(random: &mut Random, words: &[u32]) -> Vec<u32> {
     let mut words = words.to_vec();
     let [a, b, c, d, e, f] = AT_PRIMES;
-    let extremes = [0, 1, 8, 9, 64, 65, a, b, c, d, e, f, 1 << 31, u32::MAX - 7, u32::MAX];
+    let extremes = [0, 1, 4, 5, 8, 9, 64, 65, 4096, 4097, a, b, c, d, e, f, 1 << 31, u32::MAX - 7, u32::MAX];
     let count = extremes.len() as u32;
     match random.below(24) {
         0 => words.truncate(random.below(words.len() as u64 + 1) as usize),

@@ -18,30 +18,41 @@ const SECOND: u32 = Field::KoalaBear.prime();
 /// What all that is lent to be written holds before a call; a refusal by 1 to 12 leaves it so.
 const BEFORE: u32 = 7;
 
-#[derive(Default)]
-struct Text(String);
+struct Text {
+    lines: String,
+    /// Field, profile and rule of the cases that follow.
+    choices: [u32; 3],
+}
 
 impl Text {
+    fn comment(&mut self, comment: &str) {
+        writeln!(self.lines, "# {comment}").unwrap();
+    }
+
+    /// A new case, with the choices where they are not all 1.
     fn case(&mut self, title: &str) {
-        writeln!(self.0, "case {title}").unwrap();
-    }
-
-    /// A case in the second field, by the other choices of every case before.
-    fn case_in_second(&mut self, title: &str) {
-        self.case(&format!("field 2: {title}"));
-        self.choices([2, 1, 1]);
-    }
-
-    /// Field, profile and rule, where they are not all 1.
-    fn choices(&mut self, choices: [u32; 3]) {
+        let choices = self.choices;
+        writeln!(self.lines, "case {title}").unwrap();
         if choices != [1; 3] {
             self.list("choices", &choices);
         }
     }
 
+    /// The cases that are written so have these choices.
+    fn with(&mut self, choices: [u32; 3], cases: impl FnOnce(&mut Text)) {
+        let before = std::mem::replace(&mut self.choices, choices);
+        cases(self);
+        self.choices = before;
+    }
+
+    /// A case in the second field.
+    fn case_in_second(&mut self, title: &str) {
+        self.with([2, 1, 1], |text| text.case(&format!("field 2: {title}")));
+    }
+
     fn list<T: Display>(&mut self, key: &str, numbers: &[T]) {
         let numbers: String = numbers.iter().map(|n| format!(" {n}")).collect();
-        writeln!(self.0, "{key}{numbers}").unwrap();
+        writeln!(self.lines, "{key}{numbers}").unwrap();
     }
 
     fn answer(&mut self, function: &str, answer: Answer, more: &[u64]) {
@@ -197,28 +208,33 @@ fn main() -> ExitCode {
         println!("no source of p3-lookup 0.8.0: set P3_LOOKUP_SRC");
         return ExitCode::FAILURE;
     }
-    let mut text = Text::default();
-    text.0.push_str("# The worked cases of docs/SPECIFICATION.md, with the answers that it names.\n");
+    let mut text = Text { lines: String::new(), choices: [1; 3] };
+    text.comment("The worked cases of docs/SPECIFICATION.md, with the answers that it names.");
     worked(&mut text);
-    text.0.push_str("# An example of each refusal, as docs/SPECIFICATION.md gives it.\n");
+    text.comment("An example of each refusal, as docs/SPECIFICATION.md gives it.");
     refusals(&mut text);
-    text.0.push_str("# Building, with the answers that follow from docs/SPECIFICATION.md.\n");
+    text.comment("Building, with the answers that follow from docs/SPECIFICATION.md.");
     building(&mut text);
-    text.0.push_str("# Counts, rows, powers and inverses, with the answers that follow from docs/SPECIFICATION.md.\n");
+    text.comment("Counts, rows, powers and inverses, with the answers that follow from docs/SPECIFICATION.md.");
     counts(&mut text);
     rows(&mut text);
     elements(&mut text);
-    text.0.push_str("# The second field, and unknown choices, with the answers that follow from docs/SPECIFICATION.md.\n");
+    text.comment("The second field, and unknown choices, with the answers that follow from docs/SPECIFICATION.md.");
     second_field(&mut text);
     second_field_refusals(&mut text);
     unknown(&mut text);
-    text.0.push_str("# Answers of p3-lookup 0.8.0, in either field.\n");
+    text.comment("The gateway, its limits met and passed beside the cabinet's, with the answers that follow from docs/SPECIFICATION.md.");
+    gateway(&mut text);
+    gateway_of_two(&mut text);
+    gateway_refusals(&mut text);
+    text.comment("Answers of p3-lookup 0.8.0, in either field.");
     for (i, case) in cases().iter().enumerate() {
-        text.case(&format!("oracle {i}"));
-        text.choices([case.field().number(), 1, 1]);
-        oracle(&mut text, case);
+        text.with([case.field().number(), 1, 1], |text| {
+            text.case(&format!("oracle {i}"));
+            oracle(text, case);
+        });
     }
-    print!("{}", text.0);
+    print!("{}", text.lines);
     ExitCode::SUCCESS
 }
 
@@ -624,10 +640,9 @@ fn second_field_refusals(text: &mut Text) {
 /// An unknown field or profile is 1 at every function that can refuse, an unknown rule where there is one; nothing is written.
 fn unknown(text: &mut Text) {
     let (one, t) = (refused(1, [0; 3]), table(&[3], &[once()]));
-    for choices in [[0, 1, 1], [3, 1, 1], [1, 0, 1], [1, 2, 1], [1, 1, 2]] {
+    for choices in [[0, 1, 1], [3, 1, 1], [1, 0, 1], [1, 3, 1], [1, 1, 2]] {
         let [field, profile, rule] = choices;
-        text.case(&format!("1: field {field}, profile {profile}, rule {rule}"));
-        text.choices(choices);
+        text.with(choices, |text| text.case(&format!("1: field {field}, profile {profile}, rule {rule}")));
         text.table(&t);
         text.list("challenges", &words(&[lift(5), lift(0)]));
         text.generate(one, &[BEFORE; 8], None);
@@ -653,6 +668,157 @@ fn unknown(text: &mut Text) {
             text.element(&lift(2), &[BEFORE; 4], "power", 1, &[4]);
         }
     }
+}
+
+/// Field 1 in profile 2.
+const GATEWAY: [u32; 3] = [1, 2, 1];
+
+/// The same calls in the gateway, which takes them or answers 1, and in the cabinet, which takes them.
+fn in_both(text: &mut Text, title: &str, taken: bool, calls: impl Fn(&mut Text, bool)) {
+    text.with(GATEWAY, |text| text.case(&format!("gateway: {title}")));
+    calls(text, taken);
+    text.case(&format!("cabinet: {title}"));
+    calls(text, true);
+}
+
+/// The answer of a call that is taken, or else over a limit.
+fn within(taken: bool, answer: Answer) -> Answer {
+    if taken { answer } else { refused(1, [0; 3]) }
+}
+
+/// What a lent list holds afterwards.
+fn left(taken: bool, written: &[u32]) -> Vec<u32> {
+    if taken { written.to_vec() } else { vec![BEFORE; written.len()] }
+}
+
+/// The nodes 1 and, in the tables below, -1.
+const ONE: u32 = 1;
+const MINUS_ONE: u32 = 3;
+
+/// The row 3, and so many lookups of one tuple of so many words, all of them the column.
+fn threes(lookups: usize, width: usize, multiplicity: u32) -> Table {
+    let mut t = table(&[3], &vec![lookup(&[&vec![0; width]], &[multiplicity], None); lookups]);
+    t.nodes[10] = P - 1;
+    t
+}
+
+/// Its tuple's slot with this net.
+fn slot(width: u32, net: u32) -> Vec<u32> {
+    let tuple = (0..8).map(|j| if j < width { 3 } else { 0 });
+    [width].into_iter().chain(tuple).chain([net]).collect()
+}
+
+/// The functions that are lent traces. The challenges make each fraction 1.
+fn of_traces(text: &mut Text, t: &Table, taken: bool) {
+    let (n, width) = (t.lookup_count(), t.tuples[0]);
+    let (trace, terminal) = (words(&[&[lift(0)], &vec![lift(1); n][..]].concat()), Some(lift(n as u32)));
+    text.table(t);
+    text.list("challenges", &words(&[lift(3 * width + 1), lift(1)]).repeat(n));
+    text.generate(within(taken, ACCEPTED), &left(taken, &trace), terminal);
+    text.constraints(within(taken, ACCEPTED), n as u64 + 1, &trace, terminal);
+    text.balance(within(taken, refused(18, [0, 0, n as u64])), &left(taken, &slot(width, n as u32)));
+}
+
+/// The functions that are lent the lookups alone. Each lookup has the degree 2, a column of two of them 3. The height bound does not see the
+/// widths of tuples.
+fn of_lookups(text: &mut Text, t: &Table, taken: bool) {
+    let (n, width, answer) = (t.lookup_count(), t.tuples[0], within(taken, ACCEPTED));
+    text.answer("degree", answer, &[n as u64 - 1, 0, if taken { 2 } else { BEFORE.into() }]);
+    let column = |(column, merged): (u32, &[Lookup])| Lookup {
+        weight: merged.len() as u32,
+        column,
+        ..lookup(&vec![&merged[0].tuples[0][..]; merged.len()], &vec![ONE; merged.len()], None)
+    };
+    text.pack(t, answer, 3, &(0..).zip(t.records().chunks(2)).map(column).collect::<Vec<Lookup>>());
+    text.widths(std::slice::from_ref(t), answer, width.into());
+    text.bound(std::slice::from_ref(t), &[1], within(taken || n <= 8, ACCEPTED));
+    let used = if taken { 8 * n } else { BEFORE as usize };
+    text.build(&vec![global(part(width as usize, 1)); n], answer, &left(taken, &t.lookups), used);
+}
+
+/// What the gateway's limits of lookups, of a tuple's words and of rows decide in one table. Without preprocessed columns their height says
+/// nothing, but is under its limit all the same.
+fn gateway(text: &mut Text) {
+    for (title, lookups, width, taken) in
+        [("8 lookups", 8, 1, true), ("9 lookups", 9, 1, false), ("a tuple of 4 words", 1, 4, true), ("a tuple of 5 words", 1, 5, false)]
+    {
+        let t = threes(lookups, width, ONE);
+        in_both(text, title, taken, |text, taken| {
+            of_traces(text, &t, taken);
+            of_lookups(text, &t, taken);
+        });
+    }
+    for (pre_height, taken) in [(4096, true), (4097, false)] {
+        let t = Table { pre_height, ..threes(1, 1, ONE) };
+        in_both(text, &format!("preprocessed height {pre_height}"), taken, |text, taken| of_traces(text, &t, taken));
+    }
+    text.with(GATEWAY, |text| text.case("gateway: terminals, prefixes and counts"));
+    text.list("given", &[1, 1, 0, 0, 0, 1, P - 1, 0, 0, 0]);
+    text.answer("terminals", ACCEPTED, &[]);
+    text.prefixes((lift(1), lift(2)), 3, 2, ACCEPTED, &[lift(9), lift(17)]);
+    text.count(&[BEFORE; 3], &[0, 5, 0], [0, 5]);
+    text.count_of(0, 5, ACCEPTED);
+    text.count(&[1, 0, 0, BEFORE, BEFORE, BEFORE], &[1, 0, 0, 12, 0, 0], [1, 5]);
+    text.negated(1, [0, 5], ACCEPTED);
+}
+
+/// The same over two tables, each of which may be as large.
+fn gateway_of_two(text: &mut Text) {
+    for (lookups, taken, net) in [(8, true, 0), (9, false, P - 1)] {
+        let tables = [threes(8, 1, ONE), threes(lookups, 1, MINUS_ONE)];
+        let balance = if net == 0 { ACCEPTED } else { refused(18, [0, 0, net.into()]) };
+        in_both(text, &format!("tables of 8 and {lookups} lookups"), taken, |text, taken| {
+            text.tables(&tables);
+            text.widths(&tables, within(taken, ACCEPTED), 1);
+            text.bound(&tables, &[1, 1], within(taken, ACCEPTED));
+            text.balance(within(taken, balance), &left(taken, &slot(1, net)));
+        });
+    }
+    let tables = [threes(1, 4, ONE), threes(1, 5, MINUS_ONE)];
+    in_both(text, "tuples of 4 and 5 words in two tables", false, |text, taken| {
+        text.tables(&tables);
+        text.widths(&tables, within(taken, refused(6, [0, 4, 5])), 0);
+        text.balance(within(taken, refused(18, [0, 0, 1])), &left(taken, &[slot(4, 1), slot(5, P - 1)].concat()));
+    });
+    let tables = [threes(1, 1, ONE), threes(1, 1, MINUS_ONE)];
+    for (height, taken) in [(4096, true), (4097, false)] {
+        in_both(text, &format!("heights 4096 and {height}"), taken, |text, taken| {
+            text.tables(&tables);
+            text.bound(&tables, &[4096, height], within(taken, ACCEPTED));
+        });
+        let tables = [tables[0].clone(), Table { pre_height: height, ..tables[1].clone() }];
+        in_both(text, &format!("preprocessed height {height} of the second table"), taken, |text, taken| {
+            text.tables(&tables);
+            text.balance(within(taken, ACCEPTED), &left(taken, &slot(1, 0)));
+        });
+    }
+}
+
+/// Refusals that no limit gives are the same in the gateway. 2013265921 - 1 is 4096 times 491520.
+fn gateway_refusals(text: &mut Text) {
+    let half = 1006632961;
+    text.with(GATEWAY, |text| {
+        fault(text, "gateway, 13: flag 2", lookup(&[&[0]], &[1], Some(&[4])), 5, 13);
+        fault(text, "gateway, 14: flags 1, 1", lookup(&[&[0], &[0]], &[1, 1], Some(&[1, 1])), 5, 14);
+        fault(text, "gateway, 15: alpha 3, tuple (3)", once(), 3, 15);
+        balance(text, "gateway, 16: 2 tuples, 19 words", &[3, 4], 19, refused(16, [0; 3]), &[]);
+        text.case("gateway, 17: accumulator 1 on row 0");
+        text.table(&table(&[3], &[once()]));
+        text.list("challenges", &words(&[lift(5), lift(0)]));
+        text.constraints(refused(17, [0, 1, 0]), 2, &words(&[lift(1), lift(half)]), Some(lift(half + 1)));
+        balance(text, "gateway, 18: (3) once", &[3], 10, refused(18, [0, 0, 1]), &[(3, 1)]);
+        for (weight, answer) in [(491520, ACCEPTED), (491521, refused(19, [2013270016, 0, 0]))] {
+            let t = table(&[3], &[Lookup { weight, ..once() }]);
+            text.case(&format!("gateway: weight {weight}, height 4096"));
+            text.table(&t);
+            text.bound(&[t], &[4096], answer);
+        }
+    });
+    text.with([2, 2, 1], |text| {
+        bound(text, "field 2, gateway: weight 2013265921, height 1", P, ACCEPTED);
+        let pairs = words(&[lift(5); 18]);
+        untouched(text, "field 2, gateway, 1: 9 lookups", &table(&[3], &vec![once(); 9]), &pairs, 40, 1);
+    });
 }
 
 // The crate's answers.
@@ -708,7 +874,7 @@ fn of_all_tables(text: &mut Text, case: &Case) {
     }
     if let Some(answer) = confirmed(compare::prefixes(case)) {
         let pair = (case.challenge(0), case.challenge(1));
-        let (_, prefixes) = model::prefixes(case.field(), pair.0, pair.1, case.prefix_width, case.prefixes);
+        let (_, prefixes) = model::prefixes(case.chosen(), pair.0, pair.1, case.prefix_width, case.prefixes);
         text.prefixes(pair, case.prefix_width, case.prefixes, answer, &prefixes);
     }
     if let Some(answer) = confirmed(compare::balance(case)) {
