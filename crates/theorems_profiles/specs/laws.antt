@@ -4,6 +4,6 @@ pub mod Profiles
 pub mod Calls
 pub mod TableExamples
 pub mod LookupExamples
-pub mod OtherExamples
+pub mod SmallExamples
 pub mod BalanceExamples
 pub mod Examples

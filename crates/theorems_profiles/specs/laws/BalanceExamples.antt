@@ -2,10 +2,9 @@
 use Prim.Native.Nat.{ℕ}
 use mathlib.Core.Path.{_≡_, refl}
 use mathlib.Core.List.{List, [], _∷_, flatMap}
-use Rattle.expression.specs.Choices.{choices-of, limits-of}
+use Rattle.expression.specs.Choices.{choices-of, limits-of, known as known-choices}
 use Rattle.expression.specs.declared.choices.Choices.{Choices}
 use Rattle.balance.specs.Balance.{in-numbers as balance-numbers}
-use Rattle.theorems_profiles.specs.laws.Calls.{balanced, balanced-bytes}
 use Rattle.balance.specs.Balance.{balance, check, check-at, visit}
 use Rattle.balance.specs.Entries.{count-of, entries, entry-of, member-entries, row-entries}
 use Rattle.balance.specs.Groups.{appears, bus-group, bus-groups, groups, local-group, members, same-bus}
@@ -16,7 +15,6 @@ use Rattle.balance_slots.specs.GroupRefusal.{group-refusal, names-first, unbala
 use Rattle.balance_slots.specs.Slots.{add, add-nonzero, slots}
 use Rattle.balance_slots.specs.Workspace.{full, workspace-of}
 use Rattle.delmatik_bytes.specs.Balance.{balance-on-bytes}
-use Rattle.expression.specs.Choices as choices-of-expression
 use Rattle.expression.specs.Degree.{degrees, node-degree}
 use Rattle.expression.specs.Limits.{cabinet, gateway}
 use Rattle.expression.specs.Node.{decode, node}
@@ -32,11 +30,11 @@ use Rattle.lists.specs.Same.{same-list}
 use Rattle.lists.specs.Tab.{tab}
 use Rattle.lookup.specs.Lookups.{element-start, flag-start, lookup-at, lookups-of, multiplicity-start, name-start, tuple-nodes, tuple-start, tuple-width}
 use Rattle.lookup.specs.Sizes.{size-start, table-part}
-use Rattle.lookup.specs.Tests.{has-lookups, lengths-agree, lists-agree, lookups-fit, lookups-within, nodes-present, preprocessed-enough, sizes, words-below}
-use Rattle.lookup.specs.Tests as tests-of-lookup
+use Rattle.lookup.specs.Tests.{has-lookups, lengths-agree, lists-agree, lookups-fit, lookups-within, nodes-present, preprocessed-enough, sizes, words-below, known}
 use Rattle.lookup_buses.specs.Order.{keep}
 use Rattle.wire.specs.Room.{fit, flat, sizes-fit}
 use Rattle.wire.specs.Wire.{bytes-of, word-at, word-bytes, word-of, words-of}
+use Rattle.theorems_profiles.specs.laws.Calls.{balanced, balanced-bytes}
 
 abbrev pub numbers : ℕ → ℕ → Choices → List ℕ
 numbers n w c =
@@ -57,11 +55,11 @@ pub record Computed (field : ℕ) : Type 0 where
 pub computed : Computed 1 × Computed 2
 unfolding balance check check-at visit count-of entries entry-of member-entries row-entries appears bus-group bus-groups groups local-group members
     same-bus all covered listed tables-refusal lists-fit lookups-at shape-at table-at tables-of digits in-order group-refusal names-first unbalanced
-    add add-nonzero slots full workspace-of balance-on-bytes limits-of choices-of-expression.known degrees node-degree cabinet gateway decode node
+    add add-nonzero slots full workspace-of balance-on-bytes limits-of known-choices degrees node-degree cabinet gateway decode node
     constants-below degrees-low nodes-fit nodes-known nodes-within traces-below traces-fit traces-within node-value row-values values row-of window
     all-below all-within known-field prime-of addM mulM negM subM every joined total fold same-list tab element-start flag-start lookup-at lookups-of
     multiplicity-start name-start tuple-nodes tuple-start tuple-width size-start table-part has-lookups lengths-agree lists-agree lookups-fit
-    lookups-within nodes-present preprocessed-enough sizes words-below tests-of-lookup.known keep fit flat sizes-fit bytes-of word-at word-bytes
+    lookups-within nodes-present preprocessed-enough sizes words-below known keep fit flat sizes-fit bytes-of word-at word-bytes
     word-of words-of flatMap balance-numbers
 computed = (
   record { within = refl; nine-lookups = (refl, refl); five-words = (refl, refl) },

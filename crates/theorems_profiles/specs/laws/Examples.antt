@@ -11,7 +11,7 @@ use Rattle.theorems_profiles.specs.laws.Profiles.{gateway-in-cabinet}
 use Rattle.theorems_profiles.specs.laws.Calls as calls
 use Rattle.theorems_profiles.specs.laws.TableExamples as tables
 use Rattle.theorems_profiles.specs.laws.LookupExamples as lookups
-use Rattle.theorems_profiles.specs.laws.OtherExamples as others
+use Rattle.theorems_profiles.specs.laws.SmallExamples as small
 use Rattle.theorems_profiles.specs.laws.BalanceExamples as balances
 
 -- another number than 1 at this place of the list
@@ -35,8 +35,8 @@ pub record Met (field : ℕ) : Type 0 where
   pub packing-on-bytes : calls.packed-bytes 8 4 (choices-of field 2) ≡ calls.packed-bytes 8 4 (choices-of field 1)
   pub balance-on-bytes : calls.balanced-bytes 8 4 (choices-of field 2) ≡ calls.balanced-bytes 8 4 (choices-of field 1)
 
-in-cabinet : (field : ℕ) → tables.Computed field → lookups.Computed field → others.Computed field → balances.Computed field → Met field
-in-cabinet field t l o b =
+in-cabinet : (field : ℕ) → tables.Computed field → lookups.Computed field → small.Computed field → balances.Computed field → Met field
+in-cabinet field t l s b =
     let all = gateway-in-cabinet in
     let on-words = all .on-words in
     record {
@@ -46,11 +46,11 @@ in-cabinet field t l o b =
       packing = on-words .packing _ _ _ _ _ field (not-1 lookups.answers 1 (l .within) (λ e. omega arith));
       building = on-words .building _ _ _ _ _ field (not-1 lookups.answers 2 (l .within) (λ e. omega arith));
       widths = on-words .widths _ field (not-1 lookups.answers 3 (l .within) (λ e. omega arith));
-      height-bound = on-words .height-bound _ _ _ field (not-1 others.answers 0 (o .within) (λ e. omega arith));
-      terminals = on-words .terminals _ field (not-1 others.answers 1 (o .within) (λ e. omega arith));
-      prefixes = on-words .prefixes _ _ _ _ _ field (not-1 others.answers 2 (o .within) (λ e. omega arith));
-      from-i32 = on-words .from-i32 _ _ _ field (not-1 others.answers 3 (o .within) (λ e. omega arith));
-      negated = on-words .negated _ _ _ field (not-1 others.answers 4 (o .within) (λ e. omega arith));
+      height-bound = on-words .height-bound _ _ _ field (not-1 small.answers 0 (s .within) (λ e. omega arith));
+      terminals = on-words .terminals _ field (not-1 small.answers 1 (s .within) (λ e. omega arith));
+      prefixes = on-words .prefixes _ _ _ _ _ field (not-1 small.answers 2 (s .within) (λ e. omega arith));
+      from-i32 = on-words .from-i32 _ _ _ field (not-1 small.answers 3 (s .within) (λ e. omega arith));
+      negated = on-words .negated _ _ _ field (not-1 small.answers 4 (s .within) (λ e. omega arith));
       balance = on-words .balance _ _ field (not-1 balances.answers 0 (b .within) (λ e. omega arith));
       generation-on-bytes = all .generation-on-bytes 1 _ _ _ _ _ _ field (not-1 tables.answers 2 (t .within) (λ e. omega arith));
       packing-on-bytes = all .packing-on-bytes _ _ _ _ _ _ _ _ field (not-1 lookups.answers 4 (l .within) (λ e. omega arith));
@@ -59,6 +59,6 @@ in-cabinet field t l o b =
 
 pub met : Met 1 × Met 2
 met = (
-  in-cabinet 1 (tables.computed .0) (lookups.computed .0) (others.computed .0) (balances.computed .0),
-  in-cabinet 2 (tables.computed .1) (lookups.computed .1) (others.computed .1) (balances.computed .1),
+  in-cabinet 1 (tables.computed .0) (lookups.computed .0) (small.computed .0) (balances.computed .0),
+  in-cabinet 2 (tables.computed .1) (lookups.computed .1) (small.computed .1) (balances.computed .1),
 )

@@ -8,7 +8,6 @@ use Rattle.lookup_degree.specs.ConstraintDegree.{in-numbers as degree-numbers}
 use Rattle.lookup_buses.specs.CheckBusWidths.{in-numbers as widths-numbers}
 use Rattle.lookup_builder.specs.FromInteractions.{in-numbers as building-numbers}
 use Rattle.packing.specs.PackSameBus.{in-numbers as packing-numbers}
-use Rattle.theorems_profiles.specs.laws.Calls.{degree-of-first, packed, built, widest, packed-bytes}
 use Rattle.delmatik_bytes.specs.Pack.{packing-on-bytes}
 use Rattle.expression.specs.Degree.{degrees, node-degree}
 use Rattle.expression.specs.Limits.{cabinet, gateway}
@@ -24,25 +23,20 @@ use Rattle.lookup.specs.Lookups.{element-start, flag-node, flag-start, lookup-a
 use Rattle.lookup.specs.Refusals.{columns-within, form-refusal, form-sizes, lists-refusal, nodes-refusal, shape-of}
 use Rattle.lookup.specs.Sizes.{size-start, table-part}
 use Rattle.lookup.specs.Tests.{lengths-agree, lists-agree, lookups-fit, lookups-within, nodes-present}
-use Rattle.lookup_builder.specs.Building.{built-weight, built-words, first-tuple, local-refusal, locals-refusal, weight-sum, weight-top}
-use Rattle.lookup_builder.specs.Building as building-of-lookup-builder
+use Rattle.lookup_builder.specs.Building.{built-weight, built-words, first-tuple, local-refusal, locals-refusal, weight-sum, weight-top, built as built-words-of}
 use Rattle.lookup_builder.specs.FromInteractions.{building, building-at, building-fits, building-refusal, built-refusal}
 use Rattle.lookup_buses.specs.CheckBusWidths.{all-fit, lists-fit, table-at, table-fits, tables-of, widths-answer, widths-at}
-use Rattle.lookup_buses.specs.Order.{arranged, by-place, keep, place, position}
-use Rattle.lookup_buses.specs.Order as order-of-lookup-buses
-use Rattle.lookup_buses.specs.Widths.{by-bus, expected, lookup-refusal, table-refusal, widest-in-lookup, widest-in-table, width-in-lookup, width-in-table, widths-refusal}
-use Rattle.lookup_buses.specs.Widths as widths-of-lookup-buses
+use Rattle.lookup_buses.specs.Order.{arranged, by-place, keep, place, position, numbers as bus-numbers}
+use Rattle.lookup_buses.specs.Widths.{by-bus, expected, lookup-refusal, table-refusal, widest-in-lookup, widest-in-table, width-in-lookup, width-in-table, widths-refusal, widest as widest-tuple}
 use Rattle.lookup_degree.specs.ConstraintDegree.{degree-answer, degree-at, degree-refusal}
 use Rattle.lookup_degree.specs.Degree.{additive-degree, denominator-degree, exclusive-degree, lookup-degree, numerator-degree, tuple-degree}
 use Rattle.lookup_degree.specs.Sums.{greatest, largest-of, sum-of}
 use Rattle.packing.specs.PackSameBus.{columns, holds, packing, packing-at, packing-refusal}
-use Rattle.packing.specs.Packing.{fill, filled, in-order, overweight, renumbered}
-use Rattle.packing.specs.Packing as packing-of-packing
-use Rattle.packing.specs.Written.{lookup-words}
-use Rattle.packing.specs.Written as written-of-packing
+use Rattle.packing.specs.Packing.{fill, filled, in-order, overweight, renumbered, packed as packed-columns}
+use Rattle.packing.specs.Written.{lookup-words, words-of as words-of-columns}
 use Rattle.wire.specs.Room.{fit, flat, sizes-fit}
-use Rattle.wire.specs.Wire.{bytes-of, word-at, word-bytes, word-of}
-use Rattle.wire.specs.Wire as wire-of-wire
+use Rattle.wire.specs.Wire.{bytes-of, word-at, word-bytes, word-of, words-of}
+use Rattle.theorems_profiles.specs.laws.Calls.{degree-of-first, packed, built, widest, packed-bytes}
 
 abbrev pub numbers : ℕ → ℕ → Choices → List ℕ
 numbers n w c =
@@ -70,13 +64,13 @@ unfolding packing-on-bytes known limits-of degrees node-degree cabinet gateway d
     nodes-within all-below all-within known-field prime-of every first joined total same-list tab alone-at name-at same-bus element-start flag-node
     flag-start lookup-at lookups-of multiplicity-node multiplicity-start name-start tuple-nodes tuple-start tuple-width columns-within form-refusal
     form-sizes lists-refusal nodes-refusal shape-of size-start table-part lengths-agree lists-agree lookups-fit lookups-within nodes-present
-    built-weight built-words first-tuple local-refusal locals-refusal weight-sum weight-top building-of-lookup-builder.built building building-at
+    built-weight built-words first-tuple local-refusal locals-refusal weight-sum weight-top built-words-of building building-at
     building-fits building-refusal built-refusal all-fit lists-fit table-at table-fits tables-of widths-answer widths-at arranged by-place keep place
-    position order-of-lookup-buses.numbers by-bus expected lookup-refusal table-refusal widest-in-lookup widest-in-table width-in-lookup
-    width-in-table widths-refusal widths-of-lookup-buses.widest degree-answer degree-at degree-refusal additive-degree denominator-degree
+    position bus-numbers by-bus expected lookup-refusal table-refusal widest-in-lookup widest-in-table width-in-lookup
+    width-in-table widths-refusal widest-tuple degree-answer degree-at degree-refusal additive-degree denominator-degree
     exclusive-degree lookup-degree numerator-degree tuple-degree greatest largest-of sum-of columns holds packing packing-at packing-refusal fill
-    filled in-order overweight renumbered packing-of-packing.packed lookup-words written-of-packing.words-of fit flat sizes-fit bytes-of word-at
-    word-bytes word-of wire-of-wire.words-of flatMap zipWith degree-numbers widths-numbers building-numbers packing-numbers
+    filled in-order overweight renumbered packed-columns lookup-words words-of-columns fit flat sizes-fit bytes-of word-at
+    word-bytes word-of words-of flatMap zipWith degree-numbers widths-numbers building-numbers packing-numbers
 computed = (
   record { within = refl; nine-lookups = (refl, refl); five-words = (refl, refl) },
   record { within = refl; nine-lookups = (refl, refl); five-words = (refl, refl) },

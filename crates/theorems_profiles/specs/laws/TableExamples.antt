@@ -2,13 +2,11 @@
 use Prim.Native.Nat.{ℕ}
 use mathlib.Core.Path.{_≡_, refl}
 use mathlib.Core.List.{List, [], _∷_}
-use Rattle.expression.specs.Choices.{choices-of, known-rule, limits-of}
+use Rattle.expression.specs.Choices.{choices-of, known-rule, limits-of, known as known-choices}
 use Rattle.expression.specs.Refusal.{answer-number}
 use Rattle.expression.specs.declared.choices.Choices.{Choices}
-use Rattle.theorems_profiles.specs.laws.Calls.{generated, tested, generated-bytes}
 use Rattle.algebra.specs.Power.{powM}
 use Rattle.delmatik_bytes.specs.Generate.{generation-on-bytes}
-use Rattle.expression.specs.Choices as choices-of-expression
 use Rattle.expression.specs.Degree.{degrees, node-degree}
 use Rattle.expression.specs.Limits.{cabinet, gateway}
 use Rattle.expression.specs.Node.{decode, node}
@@ -28,10 +26,10 @@ use Rattle.logup.specs.Generation.{entry-outcome, entry-refusal, generation, ge
 use Rattle.logup.specs.Rows.{accumulator, fault-at, fault-refusal, first-fault, fraction-at, place, row-fault, row-sum, row-words, trace, used}
 use Rattle.logup.specs.Tuple.{combine, denominator, quotient4, tuple}
 use Rattle.lookup.specs.Lookups.{element-start, flag-node, flag-start, multiplicity-node, multiplicity-start, name-start, tuple-nodes, tuple-start, tuple-width}
-use Rattle.lookup.specs.Tests.{has-lookups, in-position, lengths-agree, lists-agree, lookups-fit, lookups-within, nodes-present, preprocessed-enough, rows-enough, sizes, words-below}
-use Rattle.lookup.specs.Tests as tests-of-lookup
+use Rattle.lookup.specs.Tests.{has-lookups, in-position, lengths-agree, lists-agree, lookups-fit, lookups-within, nodes-present, preprocessed-enough, rows-enough, sizes, words-below, known}
 use Rattle.wire.specs.Room.{fit, flat, sizes-fit}
 use Rattle.wire.specs.Wire.{bytes-of, word-at, word-bytes, word-of, words-of}
+use Rattle.theorems_profiles.specs.laws.Calls.{generated, tested, generated-bytes}
 
 abbrev pub numbers : ℕ → ℕ → ℕ → Choices → List ℕ
 numbers field n w c =
@@ -50,7 +48,7 @@ pub record Computed (field : ℕ) : Type 0 where
   pub five-words : (numbers field 8 5 (choices-of field 2) ≡ answers-past) × (numbers field 8 5 (choices-of field 1) ≡ answers)
 
 pub computed : Computed 1 × Computed 2
-unfolding powM generation-on-bytes known-rule limits-of choices-of-expression.known degrees node-degree cabinet gateway decode node constants-below
+unfolding powM generation-on-bytes known-rule limits-of known-choices degrees node-degree cabinet gateway decode node constants-below
     degrees-low nodes-fit nodes-known nodes-within traces-below traces-fit traces-within node-value row-values values row-of window all-below
     all-within add4 conjugate conjugate2 element inverse4 is-zero mul4 norm norm2 power4 product4 scale4 sub4 sum4 known-field prime-of w-of addM
     inverse1 mulM negM subM every first joined some-of total fold tab additive-fault additive-fraction branches chosen denom exclusive-fault
@@ -59,7 +57,7 @@ unfolding powM generation-on-bytes known-rule limits-of choices-of-expression.kn
     entry-outcome entry-refusal generation generation-at rows-outcome accumulator fault-at fault-refusal first-fault fraction-at place row-fault
     row-sum row-words trace used combine denominator quotient4 tuple element-start flag-node flag-start multiplicity-node multiplicity-start
     name-start tuple-nodes tuple-start tuple-width has-lookups in-position lengths-agree lists-agree lookups-fit lookups-within nodes-present
-    preprocessed-enough rows-enough sizes words-below tests-of-lookup.known fit flat sizes-fit bytes-of word-at word-bytes word-of words-of
+    preprocessed-enough rows-enough sizes words-below known fit flat sizes-fit bytes-of word-at word-bytes word-of words-of
 computed = (
   record { within = refl; nine-lookups = (refl, refl); five-words = (refl, refl) },
   record { within = refl; nine-lookups = (refl, refl); five-words = (refl, refl) },

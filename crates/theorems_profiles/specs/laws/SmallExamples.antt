@@ -6,7 +6,6 @@ use Rattle.expression.specs.Choices.{choices-of, known, limits-of}
 use Rattle.expression.specs.Refusal.{answer-number}
 use Rattle.expression.specs.declared.choices.Choices.{Choices}
 use Rattle.lookup_count.specs.Count.{in-numbers as count-numbers}
-use Rattle.theorems_profiles.specs.laws.Calls.{bounded, summed, prefixed, counted, turned}
 use Rattle.expression.specs.Limits.{cabinet, gateway}
 use Rattle.expression.specs.Words.{all-below, all-within}
 use Rattle.field.specs.Element.{add4, is-zero, mul4, power4, scale4}
@@ -20,6 +19,7 @@ use Rattle.lookup_challenges.specs.Prefixes.{prefix-by, prefixes, prefixes-at, 
 use Rattle.lookup_count.specs.Count.{count-refusal, from-i32, from-i32-at, negated, negated-at, negation-refusal}
 use Rattle.lookup_protocol.specs.Height.{height-at, height-refusal, height-sum, lookups-small, table-lookups, table-weight, tables-fit, tables-within, weight-sum}
 use Rattle.lookup_protocol.specs.Terminals.{present, terminal, terminal-below, terminal-sum, terminals-at, terminals-refusal, with-terminal}
+use Rattle.theorems_profiles.specs.laws.Calls.{bounded, summed, prefixed, counted, turned}
 
 abbrev pub numbers : ℕ → ℕ → Choices → List ℕ
 numbers n w c =
