@@ -58,7 +58,7 @@ gateway-sane =
     }
 
 -- the limits of a number are those of the gateway or of the cabinet
-pub of-each-profile : (P : Limits → Type 0) → P cabinet → P gateway → (profile : ℕ) → P (limits-of profile)
+of-each-profile : (P : Limits → Type 0) → P cabinet → P gateway → (profile : ℕ) → P (limits-of profile)
 unfolding limits-of
 of-each-profile P one two profile = by (eqb profile 2)
   where

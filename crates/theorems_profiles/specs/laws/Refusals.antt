@@ -11,6 +11,7 @@ use lib.ListN.{length}
 use Rattle.lists.specs.Count.{or-else}
 use Rattle.lists.specs.laws.Tests.{passed}
 use Rattle.expression.specs.Refusal.{answer-number, unless}
+use Rattle.expression.specs.Words.{all-below}
 use Rattle.expression.specs.Node.{node-words}
 use Rattle.expression.specs.Tests.{degrees-low}
 use Rattle.expression.specs.declared.sizes.Limits.{Limits}
@@ -19,6 +20,7 @@ use Rattle.expression.specs.declared.refusal.Refusal.the-variants.{SizeAtOdds, 
 use Rattle.lookup.specs.Lookups.{Lookups, lookup-count}
 use Rattle.lookup.specs.Table.{Table}
 use Rattle.lookup.specs.Tests.{sizes}
+use Rattle.lookup.specs.Order.{first-refusal}
 use Rattle.lookup.specs.Refusals.{form-sizes, form-refusal}
 use Rattle.lookup.specs.declared.refusals.Columns.{Columns}
 use Rattle.lookup_count.specs.Count.{count-refusal, negation-refusal}
@@ -30,8 +32,9 @@ use Rattle.lookup_buses.specs.CheckBusWidths.{BusTables, all-fit}
 use Rattle.lookup_builder.specs.FromInteractions.{Interactions, building-fits, lookups-built, built-refusal, building-refusal}
 use Rattle.lookup_builder.specs.declared.answer.Kinds.{Kinds}
 use Rattle.packing.specs.PackSameBus.{holds, packing-refusal}
+use Rattle.logup.specs.Refusals.{logup-tests}
 use Rattle.logup.specs.Generation.{entry-refusal}
-use Rattle.logup.specs.Constraints.{trace-sizes, constraints-refusal}
+use Rattle.logup.specs.Constraints.{trace-sizes, trace-words, constraints-refusal}
 use Rattle.balance.specs.Tables.{TableLists, tables-of, lists-fit}
 use Rattle.balance.specs.Refusals.{all, tables-refusal}
 use Rattle.theorems_profiles.specs.laws.Narrower.{Narrower, Passes, sizes-pass, form-pass, building-pass, widths-pass, heights-pass, count-pass, prefixes-pass, node-passes, tables-pass}
@@ -59,21 +62,24 @@ pub test-same : (b : Bool) {x y : Option Refusal} → SameUnless1 x y → SameUn
 test-same b = unless-same b b (λ e. e)
 
 module _ (m n : Limits) (k : Narrower m n) where
-  pub entry-same : (p w : ℕ) (t : Table) (challenges buffer : List ℕ)
-      → SameUnless1 (entry-refusal m p w t challenges buffer) (entry-refusal n p w t challenges buffer)
-  unfolding entry-refusal degrees-low
-  entry-same p w t challenges buffer h =
-      let fit = eqb (length challenges % 4) 0 in
+  -- generation and constraints share refusals 1 to 5: with what else is tested by 1 and by 2
+  logup-same : (p : ℕ) (t : Table) (fit low : Bool) (later : Option Refusal)
+      → SameUnless1 (first-refusal (logup-tests m p t fit low) later) (first-refusal (logup-tests n p t fit low) later)
+  unfolding degrees-low
+  logup-same p t fit low later h =
       let q = passed (sizes m t) (fit ∷ []) (tested (sizes m t && fit) _ h) in
       rw (q .0, sizes-pass m n k t (q .0), k .degree) refl
 
+  pub entry-same : (p w : ℕ) (t : Table) (challenges buffer : List ℕ)
+      → SameUnless1 (entry-refusal m p w t challenges buffer) (entry-refusal n p w t challenges buffer)
+  unfolding entry-refusal
+  entry-same p w t challenges buffer = logup-same p t (eqb (length challenges % 4) 0) (all-below p challenges) _
+
   pub constraints-same : (p w : ℕ) (t : Table) (challenges : List ℕ) (width : ℕ) (words : List ℕ) (terminal : Option (List ℕ))
       → SameUnless1 (constraints-refusal m p w t challenges width words terminal) (constraints-refusal n p w t challenges width words terminal)
-  unfolding constraints-refusal degrees-low
-  constraints-same p w t challenges width words terminal h =
-      let fit = trace-sizes challenges (t .traces .shape .height) width words in
-      let q = passed (sizes m t) (fit ∷ []) (tested (sizes m t && fit) _ h) in
-      rw (q .0, sizes-pass m n k t (q .0), k .degree) refl
+  unfolding constraints-refusal
+  constraints-same p w t challenges width words terminal =
+      logup-same p t (trace-sizes challenges (t .traces .shape .height) width words) (trace-words p challenges words terminal) _
 
   pub form-same : (p : ℕ) (c : Columns) (nodes : List ℕ) (l : Lookups) → SameUnless1 (form-refusal m p c nodes l) (form-refusal n p c nodes l)
   unfolding form-refusal degrees-low
