@@ -18,9 +18,9 @@ known-profile profile = eqb profile 1 || eqb profile 2
 unfoldable pub known : Choices → Bool
 known c = known-field (c .field) && known-profile (c .profile)
 
--- the tuple rule of SPECIFICATION, section 4.2, is rule 1
+-- the tuple rules of SPECIFICATION, section 4.2
 unfoldable pub known-rule : ℕ → Bool
-known-rule rule = eqb rule 1
+known-rule rule = eqb rule 1 || eqb rule 2
 
 -- the limits of a known profile; a call that names another is refused before they are read
 unfoldable pub limits-of : ℕ → Limits

@@ -18,6 +18,8 @@ pub const GATEWAY_NUMBER: u32 = 2;
 
 pub const RULE_1: u32 = 1;
 
+pub const RULE_2: u32 = 2;
+
 fn known_profile(profile: u32) -> bool
     ensures { λ r. ⌜ r ≡ known-profile profile ⌝ }
 {
@@ -34,7 +36,7 @@ pub fn known(choices: Choices) -> bool
 pub fn known_rule(rule: u32) -> bool
     ensures { λ r. ⌜ r ≡ known-rule rule ⌝ }
 {
-    rule == RULE_1
+    (rule == RULE_1) | (rule == RULE_2)
 }
 
 // The limits of a known profile: a call that names another is refused before they are read.

@@ -20,6 +20,7 @@ use Rattle.expression.specs.declared.refusal.Refusal.the-variants.{SizeAtOdds, 
 use Rattle.lookup.specs.Lookups.{Lookups, lookup-count, exclusive}
 use Rattle.lookup.specs.Table.{Table}
 use Rattle.lookup.specs.Tests.{has-lookups}
+use Rattle.logup.specs.Rule.{table-under}
 use Rattle.logup.specs.Column.{Place, branches, multiplicity, flag, denom, fault}
 use Rattle.logup.specs.Rows.{place, fraction-at, accumulator}
 use Rattle.logup.specs.Refusals.{logup-refusal}
@@ -137,11 +138,11 @@ module _ (m : Limits) (p w : ℕ) (t : Table) (challenges : List ℕ) (width : �
   unfoldable pub verdict : Option Refusal
   verdict = or-else constraints-refusal (terminal-verdict terminal)
 
--- at the choices of a call: refusal 1 where one of them is unknown
+-- at the choices of a call, of the table as its rule reads it: refusal 1 where one of them is unknown
 unfoldable pub verdict-at : Choices → ℕ → Table → List ℕ → ℕ → List ℕ → Option (List ℕ) → Option Refusal
 verdict-at c rule t challenges width words terminal =
     unless (known c && known-rule rule) SizeAtOdds
-    (verdict (limits-of (c .profile)) (prime-of (c .field)) (w-of (c .field)) t challenges width words terminal)
+    (verdict (limits-of (c .profile)) (prime-of (c .field)) (w-of (c .field)) (table-under rule t) challenges width words terminal)
 
 -- "Where every denominator is nonzero and flags are lawful" (section 5): no refusal 13 to 15, and no zero denominator in an additive lookup
 pub record Regular (p w : ℕ) (c : Place) : Type 0 where

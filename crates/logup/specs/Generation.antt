@@ -20,6 +20,7 @@ use Rattle.expression.specs.declared.refusal.Refusal.the-variants.{SizeAtOdds, 
 use Rattle.lookup.specs.Lookups.{lookup-count}
 use Rattle.lookup.specs.Table.{Table}
 use Rattle.lookup.specs.Tests.{has-lookups}
+use Rattle.logup.specs.Rule.{table-under}
 use Rattle.logup.specs.Rows.{trace, used, accumulator, first-fault}
 use Rattle.logup.specs.Refusals.{logup-refusal}
 use Rattle.logup.specs.declared.logup.Generated.{Generated}
@@ -109,11 +110,11 @@ module _ (m : Limits) (p w : ℕ) (t : Table) (challenges buffer : List ℕ) whe
   unfoldable pub generation : Outcome
   generation = entry-outcome entry-refusal
 
--- at the choices of a call: refusal 1 where one of them is unknown
+-- at the choices of a call, of the table as its rule reads it: refusal 1 where one of them is unknown
 unfoldable pub generation-at : Choices → ℕ → Table → List ℕ → List ℕ → Outcome
 generation-at c rule t challenges buffer =
     cond (known c && known-rule rule)
-    (generation (limits-of (c .profile)) (prime-of (c .field)) (w-of (c .field)) t challenges buffer)
+    (generation (limits-of (c .profile)) (prime-of (c .field)) (w-of (c .field)) (table-under rule t) challenges buffer)
     (record { answer = refused SizeAtOdds; buffer = buffer })
 
 -- SPECIFICATION, section 9.2: it accepts "where it refuses nothing"

@@ -1,4 +1,5 @@
 pub mod Tuple
+pub mod Rule
 pub mod Column
 pub mod Rows
 pub mod Refusals

@@ -22,7 +22,7 @@ use Rattle.logup_column.specs.laws.Powers.{power-at, power-word}
 
 -- element j with its power
 abbrev term : ℕ → ℕ → List ℕ → List ℕ → ℕ → List ℕ
-term p w beta es j = scale4 p (word es j) (power4 p w beta (exponent (length es) j))
+term p w beta es j = scale4 p (word es j) (power4 p w beta (exponent 1 (length es) j))
 
 -- the first j elements are added; the sum was reduced before the fifth, so what fits is counted from there
 pub record CombineLoop (p w : ℕ) (ps : List (List ℕ)) (vals nodes : List ℕ) (k j : ℕ) (sum : Sum) : Type 0 where
@@ -103,12 +103,12 @@ combine-loop-turn {p} {w} {ps} {vals} {nodes} {k} {j} {v} {sum} {held} {next} {m
     len : length (map (word vals) nodes) ≡ k
     len = map-length (word vals) nodes ∙ sym (s .size)
 
-    power-is : getD ps (k - 1 - j) [] ≡ power4 p w (beta-of ps) (exponent (length (map (word vals) nodes)) j)
-    power-is = power-at p w ps (k - 1 - j) (s .powers) (omega (arith, s .small)) ∙ ap (λ (n : ℕ). power4 p w (beta-of ps) (exponent n j)) (sym len)
+    power-is : getD ps (k - 1 - j) [] ≡ power4 p w (beta-of ps) (exponent 1 (length (map (word vals) nodes)) j)
+    power-is = power-at p w ps (k - 1 - j) (s .powers) (omega (arith, s .small)) ∙ ap (λ (n : ℕ). power4 p w (beta-of ps) (exponent 1 n j)) (sym len)
 
-    power : words (getD ps (k - 1 - j) []) ≡ power4 p w (beta-of ps) (exponent (length (map (word vals) nodes)) j)
+    power : words (getD ps (k - 1 - j) []) ≡ power4 p w (beta-of ps) (exponent 1 (length (map (word vals) nodes)) j)
     power =
-        let n : ℕ = exponent (length (map (word vals) nodes)) j in
+        let n : ℕ = exponent 1 (length (map (word vals) nodes)) j in
         ap words power-is ∙ four-words (power4 p w (beta-of ps) n) (four-power4 p w (beta-of ps) n)
 
     value : v ≡ word (map (word vals) nodes) j

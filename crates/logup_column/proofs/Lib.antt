@@ -6,3 +6,4 @@ pub mod FlagsLoops
 pub mod StartsLoops
 pub mod TableLoops
 pub mod RefusalsLoops
+pub mod RuleLoops

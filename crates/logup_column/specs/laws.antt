@@ -7,3 +7,4 @@ pub mod Lookup
 pub mod Values
 pub mod Tested
 pub mod Refusals
+pub mod Rule

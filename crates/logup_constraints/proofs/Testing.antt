@@ -30,7 +30,7 @@ use Rattle.logup_column.specs.inner.Requires.{LookupLists, Field}
 use Rattle.logup_column.specs.inner.Tested.{Tested}
 use Rattle.logup_column.specs.laws.Refusals.{stops, passes}
 use Rattle.expression.specs.laws.Refusal.{unless-none}
-use Rattle.logup_column.specs.laws.Tested.{tested-lookups, tested-lists, tested-traces}
+use Rattle.logup_column.specs.laws.Tested.{tested-lookups, tested-tuples, tested-lists, tested-traces}
 use Rattle.logup_terms.specs.inner.ConstraintRow.{TraceInputs}
 use Rattle.logup_constraints.specs.inner.Refusals.{trace-tests}
 
@@ -161,7 +161,7 @@ pub rows-ready : {m : Limits} {p w : ℕ} {t : Table} {cs : List ℕ} {o : Optio
     → Tested m p t (trace-sizes cs (t .traces .shape .height) width words) (trace-words p cs words o)
     → trace-tests (t .traces .shape) (t .lookups .lookups) (length cs) width (is-present o) ≡ none → o ≡ some e
     → Field p w × LookupLists (t .lookups .lookups) (t .lookups .tuples) (t .lookups .multiplicities) (t .lookups .flags) (t .lookups .elements) × Evaluable p (t .traces) (t .nodes) × Below p cs
-    × (8 * lookup-count (t .lookups .lookups) ≤ length cs) × (lookup-count (t .lookups .lookups) ≤ 64)
+    × (8 * lookup-count (t .lookups .lookups) ≤ length cs) × (lookup-count (t .lookups .lookups) ≤ 64) × (length (t .lookups .tuples) ≤ 64)
     × TraceInputs p (t .traces .shape .height) width (lookup-count (t .lookups .lookups)) words × Word4 p e
 rows-ready {p = p} {t = t} {cs} {o} width words e g f s d eo =
     let q = trace-ready (t .traces .shape) (t .lookups .lookups) (length cs) width (subst (λ (o : Option (List ℕ)). trace-tests (t .traces .shape) (t .lookups .lookups) (length cs) width (is-present o) ≡ none) eo d) in
@@ -174,6 +174,7 @@ rows-ready {p = p} {t = t} {cs} {o} width words e g f s d eo =
       below-tested cs big (both-left (all-below p cs) (all-below p words && present-below p o) (s .lows)),
       q .enough,
       tested-lookups g s,
+      tested-tuples g s,
       record {
         below = below-tested words big (both-left (all-below p words) (present-below p o) rest);
         size = eqb-true (length words) (width * t .traces .shape .height * 4) (both-right (eqb (length cs % 4) 0) (eqb (length words) (width * t .traces .shape .height * 4)) (s .fits));

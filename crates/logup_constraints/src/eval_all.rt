@@ -12,6 +12,7 @@ ghost use Rattle.expression.specs.Refusal.{refusal, numbers};
 ghost use Rattle.expression.specs.Requires.{Below, Evaluable};
 ghost use Rattle.lookup.specs.Lookups.{lent-lookups, lookup-count};
 ghost use Rattle.lookup.specs.Table.{Table, lent-table};
+ghost use Rattle.logup.specs.Rule.{lookups-under, table-under};
 ghost use Rattle.logup.specs.Constraints.{is-present, present-below, rows-verdict, verdict, verdict-at};
 ghost use Rattle.logup_column.specs.inner.Requires.{Listed, Field};
 ghost use Rattle.logup_column.specs.inner.Source.{Source, lent-source, node-values, named};
@@ -31,6 +32,7 @@ use field::modulus::prime_of;
 use field::modulus::w_of;
 use logup_column::powers;
 use logup_column::refusals;
+use logup_column::rule::write_elements;
 use logup_terms::eval_row;
 use lookup::tests;
 use lookup::types::LOOKUP_WORDS;
@@ -158,10 +160,11 @@ fn entry_refusal(
     }
 }
 
-// The rows of a trace that passed the tests, with beta's powers computed once.
+// The rows of a trace that passed the tests, with beta's powers computed and the elements put in order once.
 fn rows_verdict(
     p: u32,
     w: u32,
+    rule: u32,
     shape: Shape,
     main: &[u32],
     preprocessed: &[u32],
@@ -181,13 +184,16 @@ fn rows_verdict(
     requires { λ s. ⌜ lent-source shape (now main) (now preprocessed) (now «public_values») (now nodes) (now lookups) (now tuples) (now multiplicities) (now flags) (now elements) (now challenges) ≡ s ⌝ }
     requires { λ s. ⌜ Field p w × Listed (s .lookups)
         × Evaluable p (s .traces) (s .nodes) × Below p (s .challenges) × (8 * lookup-count (s .lookups .lookups) ≤ length (s .challenges)) × (lookup-count (s .lookups .lookups) ≤ 64)
-        × TraceInputs p (shape .height) width (lookup-count (s .lookups .lookups)) (now words) × Word4 p (ext-words (terminal .0)) ⌝ }
-    ensures { λ s v. ⌜ ((names : List ℕ) → refusal v ≡ rows-verdict p w (named (s .lookups) names) (s .challenges) (node-values p s) width (now (words .entry)) (ext-words (terminal .0)) (shape .height)) ⌝ }
+        × (length (s .lookups .tuples) ≤ 64) × TraceInputs p (shape .height) width (lookup-count (s .lookups .lookups)) (now words) × Word4 p (ext-words (terminal .0)) ⌝ }
+    ensures { λ s v. ⌜ ((names : List ℕ) → refusal v ≡ rows-verdict p w (named (lookups-under rule (s .lookups)) names) (s .challenges) (node-values p s) width (now (words .entry)) (ext-words (terminal .0)) (shape .height)) ⌝ }
 {
     let n = lookups.len() / LOOKUP_WORDS;
     // The powers of 64 betas.
     let mut table = [0u32; 2048];
     powers::write_table(p, w, challenges, n, &mut table);
+    // The elements of 64 tuples of 8.
+    let mut ordered = [0u32; 512];
+    write_elements(rule, tuples, elements, &mut ordered);
     eval_row::eval_rows(
         p,
         w,
@@ -200,7 +206,7 @@ fn rows_verdict(
         tuples,
         multiplicities,
         flags,
-        elements,
+        &ordered[0..elements.len()],
         challenges,
         &table,
         width,
@@ -209,11 +215,12 @@ fn rows_verdict(
     )
 }
 
-// The constraints for any limits and field that the code takes.
+// The constraints for any limits and field that the code takes, and any rule number: all but 2 are taken as 1.
 pub fn eval_trace(
     limits: Limits,
     p: u32,
     w: u32,
+    rule: u32,
     shape: Shape,
     main: &[u32],
     preprocessed: &[u32],
@@ -233,7 +240,7 @@ pub fn eval_trace(
     ghost { Table }
     requires { λ t. ⌜ lent-table shape (now main) (now preprocessed) (now «public_values») (now nodes) (lent-lookups (now lookups) (now names) (now tuples) (now multiplicities) (now flags) (now elements)) ≡ t ⌝ }
     requires { λ t. ⌜ Sane limits × Field p w ⌝ }
-    ensures { λ t r. ⌜ refusal r ≡ verdict limits p w t (now (challenges .entry)) width (now (words .entry)) (terminal-of terminal) ⌝ }
+    ensures { λ t r. ⌜ refusal r ≡ verdict limits p w (table-under rule t) (now (challenges .entry)) width (now (words .entry)) (terminal-of terminal) ⌝ }
 {
     let verdict = entry_refusal(
         limits,
@@ -261,6 +268,7 @@ pub fn eval_trace(
             Terminal::Given(t) => rows_verdict(
                 p,
                 w,
+                rule,
                 shape,
                 main,
                 preprocessed,
@@ -312,6 +320,7 @@ pub fn eval_all(
         limits_of(choices.profile),
         prime_of(choices.field),
         w_of(choices.field),
+        rule,
         shape,
         main,
         preprocessed,

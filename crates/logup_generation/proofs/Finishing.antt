@@ -23,11 +23,13 @@ use Rattle.expression.specs.declared.refusal.Verdict.{Verdict}
 use Rattle.expression.specs.declared.refusal.Verdict.the-variants.{Accepted, Refused}
 use Rattle.expression.specs.declared.sizes.Shape.{Shape}
 use Rattle.lookup.specs.Lookups.{Lookups, lent-lookups, lookup-count}
-use Rattle.lookup.specs.Table.{Table, lent-table}
+use Rattle.lookup.specs.Table.{Table, lent-table, values-of}
 use Rattle.lookup.specs.Tests.{has-lookups}
+use Rattle.logup.specs.Rule.{table-under}
 use Rattle.logup.specs.Rows.{accumulator, row-words, trace, first-fault, used}
 use Rattle.logup.specs.Generation.{Answer, refused, absent, terminal, rows-outcome, entry-refusal, entry-outcome, generation, generation-at}
 use Rattle.logup.specs.laws.Choices.{generation-unknown}
+use Rattle.logup.specs.laws.Rule.{refusal-under}
 use Rattle.logup_generation.specs.inner.Outcome.{rows-answer, cleared}
 use Rattle.logup_column.specs.inner.Requires.{lent-values}
 use Rattle.lists.specs.laws.Joined.{joined-length}
@@ -84,26 +86,33 @@ module _ (m : Limits) (p w : ℕ) (t : Table) (cs buffer : List ℕ) where
     ec ∙ (λ j. cleared (eo j) (eu j) (eb j)) ∙ buffer-is (first-fault p w (t .lookups) cs values height),
   )
 
-  -- a refusal before the rows
-  pub refused-is : (f : Refusal) → entry-refusal m p w t cs buffer ≡ some f → (refused f ≡ generation m p w t cs buffer .answer) × (buffer ≡ generation m p w t cs buffer .buffer)
-  unfolding generation entry-outcome
-  refused-is f e = (rw e, rw e)
+-- the outcome, for a table as a rule reads it: the tests are those of the table itself
+module _ (rule : ℕ) (m : Limits) (p w : ℕ) (t : Table) (cs buffer : List ℕ) where
+  abbrev u : Table
+  u = table-under rule t
 
-  pub absent-is : entry-refusal m p w t cs buffer ≡ none → has-lookups (t .lookups .lookups) ≡ false → (absent ≡ generation m p w t cs buffer .answer) × (buffer ≡ generation m p w t cs buffer .buffer)
+  -- a refusal before the rows
+  pub refused-is : (f : Refusal) → entry-refusal m p w t cs buffer ≡ some f → (refused f ≡ generation m p w u cs buffer .answer) × (buffer ≡ generation m p w u cs buffer .buffer)
   unfolding generation entry-outcome
-  absent-is e h = (rw (e, h), rw (e, h))
+  refused-is f e = let k = refusal-under rule m p w t cs buffer ∙ e in (rw k, rw k)
+
+  pub absent-is : entry-refusal m p w t cs buffer ≡ none → has-lookups (t .lookups .lookups) ≡ false → (absent ≡ generation m p w u cs buffer .answer) × (buffer ≡ generation m p w u cs buffer .buffer)
+  unfolding generation entry-outcome
+  absent-is e h = let k = refusal-under rule m p w t cs buffer ∙ e in (rw (k, h), rw (k, h))
 
   pub rows-are : {a : Answer} {b : List ℕ} → entry-refusal m p w t cs buffer ≡ none → has-lookups (t .lookups .lookups) ≡ true
-      → (a ≡ rows-outcome m p w t cs buffer (first-fault p w (t .lookups) cs values height) .answer) × (b ≡ rows-outcome m p w t cs buffer (first-fault p w (t .lookups) cs values height) .buffer)
-      → (a ≡ generation m p w t cs buffer .answer) × (b ≡ generation m p w t cs buffer .buffer)
+      → (a ≡ rows-outcome m p w u cs buffer (first-fault p w (u .lookups) cs (values-of p t) (t .traces .shape .height)) .answer)
+      × (b ≡ rows-outcome m p w u cs buffer (first-fault p w (u .lookups) cs (values-of p t) (t .traces .shape .height)) .buffer)
+      → (a ≡ generation m p w u cs buffer .answer) × (b ≡ generation m p w u cs buffer .buffer)
   unfolding generation entry-outcome
-  rows-are e h (ea, eb) = (ea ∙ rw (e, h), eb ∙ rw (e, h))
+  rows-are e h (ea, eb) = let k = refusal-under rule m p w t cs buffer ∙ e in (ea ∙ rw (k, h), eb ∙ rw (k, h))
 
--- after the rows over lookups whose names were not read
-pub rows-finished : {a : Answer} {e b b′ : List ℕ} {o : Option Refusal} {u : ℕ} (m : Limits) (p w : ℕ) (shape : Shape) (main preprocessed public-values nodes lookups names tuples mults flags elements cs buffer : List ℕ)
-    → e ≡ accumulator p w (lent-lookups lookups [] tuples mults flags elements) cs (lent-values p shape main preprocessed public-values nodes) (shape .height)
-    → o ≡ first-fault p w (lent-lookups lookups [] tuples mults flags elements) cs (lent-values p shape main preprocessed public-values nodes) (shape .height)
-    → b ≡ trace p w (lent-lookups lookups [] tuples mults flags elements) cs (lent-values p shape main preprocessed public-values nodes) (shape .height) ++ drop (used lookups (shape .height)) buffer
+-- after the rows over lookups whose names were not read, and whose elements are those of the table
+pub rows-finished : {a : Answer} {e b b′ x : List ℕ} {o : Option Refusal} {u : ℕ} (m : Limits) (p w : ℕ) (shape : Shape) (main preprocessed public-values nodes lookups names tuples mults flags elements cs buffer : List ℕ)
+    → x ≡ elements
+    → e ≡ accumulator p w (lent-lookups lookups [] tuples mults flags x) cs (lent-values p shape main preprocessed public-values nodes) (shape .height)
+    → o ≡ first-fault p w (lent-lookups lookups [] tuples mults flags x) cs (lent-values p shape main preprocessed public-values nodes) (shape .height)
+    → b ≡ trace p w (lent-lookups lookups [] tuples mults flags x) cs (lent-values p shape main preprocessed public-values nodes) (shape .height) ++ drop (used lookups (shape .height)) buffer
     → u ≡ used lookups (shape .height) → (a ≡ rows-answer o e) × (b′ ≡ cleared o u b)
     → (a ≡ rows-outcome m p w (lent-table shape main preprocessed public-values nodes (lent-lookups lookups names tuples mults flags elements)) cs
     buffer (first-fault p w (lent-lookups lookups names tuples mults flags elements) cs (lent-values p shape main preprocessed public-values nodes)
@@ -111,15 +120,18 @@ pub rows-finished : {a : Answer} {e b b′ : List ℕ} {o : Option Refusal} {u :
     × (b′ ≡ rows-outcome m p w (lent-table shape main preprocessed public-values nodes (lent-lookups lookups names tuples mults flags elements)) cs
     buffer (first-fault p w (lent-lookups lookups names tuples mults flags elements) cs (lent-values p shape main preprocessed public-values nodes)
     (shape .height)) .buffer)
-rows-finished m p w shape main preprocessed public-values nodes lookups names tuples mults flags elements cs buffer ee eo eb eu done =
+rows-finished {x = x} m p w shape main preprocessed public-values nodes lookups names tuples mults flags elements cs buffer ex ee eo eb eu done =
     rows-done m p w (lent-table shape main preprocessed public-values nodes (lent-lookups lookups names tuples mults flags elements)) cs buffer
-    (ee ∙ sym (unnamed-accumulator p w lookups names tuples mults flags elements cs vals (shape .height)))
-    (eo ∙ sym (unnamed-first-fault p w lookups names tuples mults flags elements cs vals (shape .height)))
-    (eb ∙ ap (λ (x : List ℕ). x ++ drop (used lookups (shape .height)) buffer) (sym (unnamed-trace p w lookups names tuples mults flags elements cs vals (shape .height))))
+    (ee ∙ ap (λ (l : Lookups). accumulator p w l cs vals (shape .height)) same ∙ sym (unnamed-accumulator p w lookups names tuples mults flags elements cs vals (shape .height)))
+    (eo ∙ ap (λ (l : Lookups). first-fault p w l cs vals (shape .height)) same ∙ sym (unnamed-first-fault p w lookups names tuples mults flags elements cs vals (shape .height)))
+    (eb ∙ ap (λ (q : List ℕ). q ++ drop (used lookups (shape .height)) buffer) (ap (λ (l : Lookups). trace p w l cs vals (shape .height)) same ∙ sym (unnamed-trace p w lookups names tuples mults flags elements cs vals (shape .height))))
     eu done
   where
     vals : ℕ → List ℕ
     vals = lent-values p shape main preprocessed public-values nodes
+
+    same : lent-lookups lookups [] tuples mults flags x ≡ lent-lookups lookups [] tuples mults flags elements
+    same = ap (lent-lookups lookups [] tuples mults flags) ex
 
 -- `generate`
 module _ (c : Choices) (rule : ℕ) (t : Table) (cs buffer : List ℕ) {k r : Bool} (ek : k ≡ known c) (er : r ≡ known-rule rule) where
@@ -127,7 +139,7 @@ module _ (c : Choices) (rule : ℕ) (t : Table) (cs buffer : List ℕ) {k r : Bo
   choice-unknown z = sym (generation-unknown c rule t cs buffer (sym (ap₂ _&&_ ek er) ∙ not-true (k && r) z))
 
   pub choices-known : {m : Limits} {p w : ℕ} {a : Answer} {b : List ℕ} → not (k && r) ≡ false → m ≡ limits-of (c .profile) → p ≡ prime-of (c .field) → w ≡ w-of (c .field)
-      → (a ≡ generation m p w t cs buffer .answer) × (b ≡ generation m p w t cs buffer .buffer) → record { answer = a; buffer = b } ≡ generation-at c rule t cs buffer
+      → (a ≡ generation m p w (table-under rule t) cs buffer .answer) × (b ≡ generation m p w (table-under rule t) cs buffer .buffer) → record { answer = a; buffer = b } ≡ generation-at c rule t cs buffer
   unfolding generation-at
   choices-known z em ep ew (ea, eb) =
       (λ i. record { answer = ea i; buffer = eb i }) ∙ rw (sym (ap₂ _&&_ ek er) ∙ not-false (k && r) z, em, ep, ew) refl

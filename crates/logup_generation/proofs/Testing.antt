@@ -21,7 +21,6 @@ use Rattle.expression.specs.declared.refusal.Refusal.the-variants.{ChallengesMi
 use Rattle.lookup.specs.Lookups.{lookup-count}
 use Rattle.lookup.specs.Table.{Table}
 use Rattle.lookup.specs.Tests.{has-lookups, rows-enough}
-use Rattle.lookup.specs.laws.Tested.{lookups-few}
 use Rattle.logup.specs.Rows.{used}
 use Rattle.logup.specs.Generation.{entry-refusal}
 use Rattle.logup_column.specs.inner.Refusals.{table-tests}
@@ -29,7 +28,7 @@ use Rattle.logup_column.specs.inner.Requires.{LookupLists, Field}
 use Rattle.logup_column.specs.inner.Tested.{Tested}
 use Rattle.logup_column.specs.laws.Refusals.{stops, passes}
 use Rattle.expression.specs.laws.Refusal.{unless-none}
-use Rattle.logup_column.specs.laws.Tested.{tested-height, tested-lookups, tested-lists, tested-traces}
+use Rattle.logup_column.specs.laws.Tested.{tested-height, tested-lookups, tested-tuples, tested-lists, tested-traces}
 use Rattle.logup_generation.specs.inner.Refusals.{trace-tests}
 
 pub entry-is : (m : Limits) (p w : ℕ) (t : Table) (cs buffer : List ℕ)
@@ -103,6 +102,6 @@ pub rows-ready : {m : Limits} {p w : ℕ} {t : Table} {cs : List ℕ} (room : �
     → trace-tests (t .traces .shape) (t .lookups .lookups) (length cs) room ≡ none
     → Field p w × LookupLists (t .lookups .lookups) (t .lookups .tuples) (t .lookups .multiplicities) (t .lookups .flags) (t .lookups .elements) × Evaluable p (t .traces) (t .nodes) × Below p cs
     × (8 * lookup-count (t .lookups .lookups) ≤ length cs) × (t .traces .shape .height ≤ 1048576) × (lookup-count (t .lookups .lookups) ≤ 64) × (length (t .lookups .tuples) ≤ 64) × (used (t .lookups .lookups) (t .traces .shape .height) ≤ room)
-rows-ready {m} {t = t} {cs} room g f s h d =
+rows-ready {t = t} {cs} room g f s h d =
     let o = trace-ready (t .traces .shape) (t .lookups .lookups) (length cs) room h d in
-    (f, tested-lists g s, tested-traces g s (f .modulus) h (o .rows), below-tested cs (omega (arith, f .modulus .big)) (s .lows), o .enough, tested-height g s, tested-lookups g s, lookups-few m (t .lookups .lookups) (t .lookups .tuples) g (s .lookups-within) .1, o .fits)
+    (f, tested-lists g s, tested-traces g s (f .modulus) h (o .rows), below-tested cs (omega (arith, f .modulus .big)) (s .lows), o .enough, tested-height g s, tested-lookups g s, tested-tuples g s, o .fits)

@@ -11,11 +11,12 @@ ghost use Rattle.expression.specs.Refusal.{refusal};
 ghost use Rattle.expression.specs.declared.sizes.Limits as Declared;
 ghost use Rattle.lookup.specs.Lookups.{lent-lookups, lookup-count};
 ghost use Rattle.lookup.specs.Table.{Table, lent-table};
+ghost use Rattle.logup.specs.Rule.{table-under};
 ghost use Rattle.logup.specs.Rows.{used};
 ghost use Rattle.logup.specs.Generation.{answer-of, generation, generation-at};
 ghost use Rattle.logup.specs.Reader.{IsRowOf};
 ghost use Rattle.logup_column.specs.inner.Requires.{Listed, Field};
-ghost use Rattle.logup_column.specs.inner.Source.{Source, lent-source};
+ghost use Rattle.logup_column.specs.inner.Source.{Source, lent-source, source-under};
 ghost use Rattle.logup_generation.specs.inner.Refusals.{trace-tests, entry-tests, EntryPassed};
 ghost use Rattle.logup_generation.specs.inner.Outcome.{rows-answer, cleared, rows-result};
 use expression::choices::Choices;
@@ -33,6 +34,7 @@ use field::modulus::w_of;
 use logup::logup::Generated;
 use logup_column::powers;
 use logup_column::refusals;
+use logup_column::rule::write_elements;
 use logup_rows::block::Progress;
 use logup_rows::trace::all_rows;
 use lookup::tests;
@@ -85,6 +87,7 @@ fn finish(progress: Progress, used: usize, trace: &mut [u32]) -> Generated
 fn generate_rows(
     p: u32,
     w: u32,
+    rule: u32,
     shape: Shape,
     main: &[u32],
     preprocessed: &[u32],
@@ -103,13 +106,16 @@ fn generate_rows(
     requires { λ s. ⌜ Field p w × Listed (s .lookups)
         × Evaluable p (s .traces) (s .nodes) × Below p (s .challenges) × (8 * lookup-count (s .lookups .lookups) ≤ length (s .challenges))
         × (shape .height ≤ 1048576) × (lookup-count (s .lookups .lookups) ≤ 64) × (length (s .lookups .tuples) ≤ 64) × (used (s .lookups .lookups) (shape .height) ≤ length (now trace)) ⌝ }
-    ensures { λ s r. ⌜ ((m : Declared.Limits) (names : List ℕ) → (answer-of r ≡ rows-result m p w s names (now (trace .entry)) .answer)
-        × (now (trace .exit) ≡ rows-result m p w s names (now (trace .entry)) .buffer)) ⌝ }
+    ensures { λ s r. ⌜ ((m : Declared.Limits) (names : List ℕ) → (answer-of r ≡ rows-result m p w (source-under rule s) names (now (trace .entry)) .answer)
+        × (now (trace .exit) ≡ rows-result m p w (source-under rule s) names (now (trace .entry)) .buffer)) ⌝ }
 {
     let n = lookups.len() / LOOKUP_WORDS;
     // The powers of 64 betas.
     let mut table = [0u32; 2048];
     powers::write_table(p, w, challenges, n, &mut table);
+    // The elements of 64 tuples of 8.
+    let mut ordered = [0u32; 512];
+    write_elements(rule, tuples, elements, &mut ordered);
     let progress = all_rows(
         p,
         w,
@@ -122,7 +128,7 @@ fn generate_rows(
         tuples,
         multiplicities,
         flags,
-        elements,
+        &ordered[0..elements.len()],
         challenges,
         &table,
         trace,
@@ -176,11 +182,12 @@ fn entry_refusal(
     }
 }
 
-// Generation for any limits and field that the code takes.
+// Generation for any limits and field that the code takes, and any rule number: all but 2 are taken as 1.
 pub fn generate_permutation(
     limits: Limits,
     p: u32,
     w: u32,
+    rule: u32,
     shape: Shape,
     main: &[u32],
     preprocessed: &[u32],
@@ -198,8 +205,8 @@ pub fn generate_permutation(
     ghost { Table }
     requires { λ t. ⌜ lent-table shape (now main) (now preprocessed) (now «public_values») (now nodes) (lent-lookups (now lookups) (now names) (now tuples) (now multiplicities) (now flags) (now elements)) ≡ t ⌝ }
     requires { λ t. ⌜ Sane limits × Field p w ⌝ }
-    ensures { λ t r. ⌜ (answer-of r ≡ generation limits p w t (now (challenges .entry)) (now (trace .entry)) .answer)
-        × (now (trace .exit) ≡ generation limits p w t (now (challenges .entry)) (now (trace .entry)) .buffer) ⌝ }
+    ensures { λ t r. ⌜ (answer-of r ≡ generation limits p w (table-under rule t) (now (challenges .entry)) (now (trace .entry)) .answer)
+        × (now (trace .exit) ≡ generation limits p w (table-under rule t) (now (challenges .entry)) (now (trace .entry)) .buffer) ⌝ }
 {
     let trace_len = trace.len();
     let verdict = entry_refusal(
@@ -226,6 +233,7 @@ pub fn generate_permutation(
                 generate_rows(
                     p,
                     w,
+                    rule,
                     shape,
                     main,
                     preprocessed,
@@ -277,6 +285,7 @@ pub fn generate(
         limits_of(choices.profile),
         prime_of(choices.field),
         w_of(choices.field),
+        rule,
         shape,
         main,
         preprocessed,

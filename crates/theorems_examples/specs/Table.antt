@@ -1,5 +1,5 @@
--- The worked cases c1 to c12 of SPECIFICATION, section 12.1, and some of them in field 2: what the definitions give, beside the numbers that are
--- expected.
+-- The worked cases c1 to c12 of SPECIFICATION, section 12.1, c1 also under rule 2, and some of them in field 2: what the definitions give, beside
+-- the numbers that are expected.
 use Prim.Native.Nat.{ℕ, _*_}
 use mathlib.Core.Option.{Option, Option·getD}
 use mathlib.Core.List.{List, [], _∷_, _++_, map}
@@ -18,7 +18,7 @@ use Rattle.lookup_degree.specs.Degree.{node-degrees, lookup-degree}
 use Rattle.packing.specs.PackSameBus.{columns}
 use Rattle.lookup_challenges.specs.Prefixes.{prefix, prefixes-at}
 use Rattle.lookup_protocol.specs.Height.{height-refusal, height-at}
-use Rattle.logup.specs.Tuple.{combine}
+use Rattle.logup.specs.Tuple.{combine, combine-under}
 use Rattle.logup.specs.Generation.{Answer, Outcome, generation, generation-at}
 
 -- one node: a column, of degree 1
@@ -120,6 +120,9 @@ abbrev pub cases : List Case
 cases =
     -- c1: (3, 7) with beta 10 combines to 37
     record { computed = combine babybear babybear-w (lift 10) (3 ∷ 7 ∷ []); expected = lift 37 }
+    -- by its rule: to 37 under rule 1, to 73 under rule 2
+    ∷ record { computed = combine-under 1 babybear babybear-w (lift 10) (3 ∷ 7 ∷ []); expected = lift 37 }
+    ∷ record { computed = combine-under 2 babybear babybear-w (lift 10) (3 ∷ 7 ∷ []); expected = lift 73 }
     -- c2: the empty tuple, 0
     ∷ record { computed = combine babybear babybear-w (lift 10) []; expected = lift 0 }
     -- c3: X³ × X = 11

@@ -13,6 +13,7 @@ use Rattle.expression.specs.declared.choices.Choices.{Choices}
 use Rattle.expression.specs.declared.sizes.Limits.{Limits}
 use Rattle.lookup.specs.Lookups.{Lookup, lookup-count, lookup-at, lookups-of}
 use Rattle.lookup.specs.Table.{Table, values-of}
+use Rattle.logup.specs.Rule.{lookups-under}
 use Rattle.logup.specs.Rows.{fraction-at}
 use Rattle.logup.specs.Generation.{Generation, generation-at, accepts}
 use Rattle.theorems_packing.specs.Packed.{packed-table}
@@ -53,18 +54,18 @@ SameTerminal generation =
 abbrev pub KnownSameTerminal : Type 0
 KnownSameTerminal = (c : Choices) (rule : ℕ) → T (known c) → T (known-rule rule) → SameTerminal (generation-at c rule)
 
--- the sum of the fractions of all lookups on one bus, over all rows
-unfoldable pub bus-sum : ℕ → ℕ → Table → List ℕ → List ℕ → List ℕ
-bus-sum p w t challenges bus =
+-- the sum of the fractions of all lookups on one bus, over all rows, as a rule reads the tuples
+unfoldable pub bus-sum : ℕ → ℕ → ℕ → Table → List ℕ → List ℕ → List ℕ
+bus-sum rule p w t challenges bus =
     sum4 p
     (λ r. sum4 p
     (λ i. cond (on-the-bus bus (lookup-at (t .lookups) i))
-    (fraction-at p w (t .lookups) challenges (values-of p t) r i) zero4)
+    (fraction-at p w (lookups-under rule (t .lookups)) challenges (values-of p t) r i) zero4)
     (lookup-count (t .lookups .lookups)))
     (t .traces .shape .height)
 
--- "The per-bus rational sum": bus by bus, and whether or not generation accepts
+-- "The per-bus rational sum": bus by bus, under either rule, and whether or not generation accepts
 abbrev pub SameBusSum : Type 0
 SameBusSum =
-    (m : Limits) (p w limit : ℕ) (t : Table) (c : SharedPairs) (bus : List ℕ) → Tested m p t
-    → bus-sum p w (packed-table limit t) (challenges-of c (packed-table limit t)) bus ≡ bus-sum p w t (challenges-of c t) bus
+    (rule : ℕ) (m : Limits) (p w limit : ℕ) (t : Table) (c : SharedPairs) (bus : List ℕ) → Tested m p t
+    → bus-sum rule p w (packed-table limit t) (challenges-of c (packed-table limit t)) bus ≡ bus-sum rule p w t (challenges-of c t) bus

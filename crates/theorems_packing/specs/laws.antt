@@ -14,5 +14,6 @@ pub mod Packed
 pub mod Accepted
 pub mod Pairs
 pub mod Fractions
+pub mod Rule
 pub mod Terminal
 pub mod Cases

@@ -3,6 +3,7 @@ pub mod Accepted
 pub mod Lawful
 pub mod FullSets
 pub mod Entries
+pub mod Rule
 pub mod Paper
 pub mod Vanishing
 pub mod Constraints

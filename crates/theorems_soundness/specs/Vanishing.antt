@@ -10,11 +10,11 @@ use lib.Dec.{T}
 use Rattle.field.specs.Element.{is-zero}
 use Rattle.field.specs.Known.{prime-of, w-of}
 use Rattle.expression.specs.Choices.{known, known-rule, limits-of}
-use Rattle.expression.specs.Values.{row-values}
 use Rattle.expression.specs.declared.choices.Choices.{Choices}
 use Rattle.expression.specs.declared.sizes.Limits.{Limits}
 use Rattle.lookup.specs.Lookups.{Lookups, lookup-count}
-use Rattle.lookup.specs.Table.{Table}
+use Rattle.lookup.specs.Table.{Table, values-of}
+use Rattle.logup.specs.Rule.{lookups-under}
 use Rattle.logup.specs.Constraints.{cell, lookup-constraint, step, binding, rows-verdict, constraints-refusal, verdict-at}
 use Rattle.theorems_soundness.specs.Constraints.{Verdict}
 
@@ -36,15 +36,15 @@ PassesExactly p w =
     → (rows-verdict p w l challenges values width words e height ≡ none) ↔ Vanishes p w l challenges values height width words e
 
 -- and the entry point, where its tests find nothing
-abbrev pub AcceptedExactly : Limits → ℕ → ℕ → Verdict → Type 0
-AcceptedExactly m p w v =
+abbrev pub AcceptedExactly : Limits → ℕ → ℕ → ℕ → Verdict → Type 0
+AcceptedExactly m p w rule v =
     (t : Table) (challenges : List ℕ) (width : ℕ) (words e : List ℕ)
     → (v t challenges width words (some e) ≡ none)
     ↔ ((constraints-refusal m p w t challenges width words (some e) ≡ none)
-    × Vanishes p w (t .lookups) challenges (row-values p (t .nodes) (t .traces)) (t .traces .shape .height) width words e)
+    × Vanishes p w (lookups-under rule (t .lookups)) challenges (values-of p t) (t .traces .shape .height) width words e)
 
 -- `eval_all` at every known field, profile and rule
 abbrev pub KnownVanishing : Type 0
 KnownVanishing =
     (c : Choices) (rule : ℕ) → T (known c) → T (known-rule rule)
-    → AcceptedExactly (limits-of (c .profile)) (prime-of (c .field)) (w-of (c .field)) (verdict-at c rule)
+    → AcceptedExactly (limits-of (c .profile)) (prime-of (c .field)) (w-of (c .field)) rule (verdict-at c rule)

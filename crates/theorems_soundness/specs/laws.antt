@@ -8,6 +8,7 @@ pub mod Tuples
 pub mod Sums
 pub mod Columns
 pub mod Ledgers
+pub mod Rule
 pub mod Answers
 pub mod Terminals
 pub mod Pairs
@@ -23,11 +24,12 @@ pub mod Accepted
 pub mod Accepts
 pub mod Points
 pub mod FullSets
-pub mod Cases
-pub mod Example
-pub mod ExampleTrace
 pub mod Error
 pub mod OneIn2To67
 pub mod ErrorBits
+pub mod Cases
+pub mod Example
+pub mod ExampleTrace
 pub mod OneEntry
+pub mod ExampleReversed
 pub mod Needed

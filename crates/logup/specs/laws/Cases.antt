@@ -25,10 +25,11 @@ use Rattle.expression.specs.Values.{bit, node-value, values, row-values}
 use Rattle.expression.specs.Degree.{node-degree, degrees}
 use Rattle.expression.specs.Tests.{traces-within, nodes-within, traces-fit, nodes-fit, traces-below, constants-below, nodes-known, degrees-low}
 use Rattle.expression.specs.declared.refusal.Refusal.{Refusal}
-use Rattle.lookup.specs.Lookups.{name-start, tuple-start, multiplicity-start, flag-start, element-start, tuple-width, multiplicity-node, flag-node, tuple-nodes}
+use Rattle.lookup.specs.Lookups.{lent-lookups, name-start, tuple-start, multiplicity-start, flag-start, element-start, tuple-width, multiplicity-node, flag-node, tuple-nodes}
 use Rattle.lookup.specs.Table.{Table}
 use Rattle.lookup.specs.Tests.{lookups-within, lookups-fit, sizes, words-below, known, lengths-agree, nodes-present, lists-agree, in-position, has-lookups, preprocessed-enough, rows-enough}
-use Rattle.logup.specs.Tuple.{tuple, combine, denominator, quotient4}
+use Rattle.logup.specs.Tuple.{tuple, combine, combine-under, denominator, quotient4}
+use Rattle.logup.specs.Rule.{reversed, elements-under}
 use Rattle.logup.specs.Column.{branches, multiplicity, flag, chosen, denom, used-denom, additive-fraction, additive-fault, exclusive-fraction, exclusive-fault, fraction, fault}
 use Rattle.logup.specs.Rows.{fault-refusal, place, fraction-at, row-sum, accumulator, row-words, fault-at, row-fault, trace, first-fault, used}
 use Rattle.logup.specs.Generation.{Answer, Outcome, entry-refusal, rows-outcome, entry-outcome, generation, generation-at}
@@ -88,6 +89,16 @@ no-lookup = table [] [] 0 0 (3 ∷ []) 0 0
 -- the constant tuple (3), its multiplicity the column
 abbrev pub cancelling : Table
 cancelling = table (0 ∷ 3 ∷ 0 ∷ 1 ∷ 0 ∷ 0 ∷ []) (0 ∷ []) 1 0 (1 ∷ 2013265920 ∷ []) 0 0
+
+-- one row with the constant tuples (3, 7) and (x), the multiplicity of both 1
+abbrev pub pair : ℕ → Table
+pair x =
+    record {
+      traces = no-lookup .traces;
+      nodes = 0 ∷ 3 ∷ 0 ∷ 0 ∷ 7 ∷ 0 ∷ 0 ∷ x ∷ 0 ∷ 0 ∷ 1 ∷ 0 ∷ [];
+      lookups =
+          lent-lookups (1 ∷ 1 ∷ 1 ∷ 0 ∷ 0 ∷ 2 ∷ 2 ∷ 0 ∷ []) (109 ∷ []) (2 ∷ 1 ∷ []) (3 ∷ 3 ∷ []) [] (0 ∷ 1 ∷ 2 ∷ []);
+    }
 
 abbrev pub generated : Table → List ℕ → List ℕ → List ℕ
 generated t challenges buffer = outcome-words (generation cabinet babybear babybear-w t challenges buffer)
@@ -273,12 +284,27 @@ cases =
     ∷ record { computed = generated-at 1 1 1 (additive 1 (2013265921 ∷ [])) five (replicate 8 7777); expected = plain 2 (replicate 8 7777) }
     ∷ record { computed = take 4 (generated-at 2 1 1 (additive 1 (2013265921 ∷ [])) five (replicate 8 7777)); expected = plain 0 [] }
     ∷ record { computed = generated-at 2 1 1 (additive 1 (3 ∷ [])) (lift 2130706433 ++ lift 0) (replicate 8 7777); expected = plain 2 (replicate 8 7777) }
-    -- refusal 1, whatever else is wrong: field 3, profile 3, rule 2; also without lookups
+    -- rule 2: (3, 7) with beta 10 combines to 73; the empty tuple to 0
+    ∷ record { computed = combine-under 2 babybear babybear-w (lift 10) (3 ∷ 7 ∷ []); expected = lift 73 }
+    ∷ record { computed = combine-under 2 babybear babybear-w (lift 10) []; expected = lift 0 }
+    -- each tuple is reversed, and the nodes past the last stay
+    ∷ record { computed = reversed (2 ∷ 0 ∷ 3 ∷ []) (10 ∷ 11 ∷ 12 ∷ 13 ∷ 14 ∷ 15 ∷ 16 ∷ []); expected = 11 ∷ 10 ∷ 14 ∷ 13 ∷ 12 ∷ 15 ∷ 16 ∷ [] }
+    -- (3, 7) beside (37) under rule 1 and beside (73) under rule 2: both denominators are 1, so the fraction is 2; in both fields
+    ∷ record { computed = generated-at 1 1 1 (pair 37) (lift 38 ++ lift 10) (replicate 8 7777); expected = 0 ∷ 0 ∷ 0 ∷ 0 ∷ lift 2 ++ lift 0 ++ lift 2 }
+    ∷ record { computed = generated-at 1 1 2 (pair 73) (lift 74 ++ lift 10) (replicate 8 7777); expected = 0 ∷ 0 ∷ 0 ∷ 0 ∷ lift 2 ++ lift 0 ++ lift 2 }
+    ∷ record { computed = generated-at 2 1 2 (pair 73) (lift 74 ++ lift 10) (replicate 8 7777); expected = 0 ∷ 0 ∷ 0 ∷ 0 ∷ lift 2 ++ lift 0 ++ lift 2 }
+    -- the constraints accept that trace under rule 2, not under rule 1
+    ∷ record { computed = tested-at 1 1 2 (pair 73) (lift 74 ++ lift 10) (lift 0 ++ lift 2) (some (lift 2)); expected = plain 0 [] }
+    ∷ record { computed = tested-at 1 1 1 (pair 73) (lift 74 ++ lift 10) (lift 0 ++ lift 2) (some (lift 2)); expected = 17 ∷ 0 ∷ 0 ∷ 0 ∷ [] }
+    -- alpha 73 is refusal 15 under rule 2 alone
+    ∷ record { computed = generated-at 1 1 2 (pair 1) (lift 73 ++ lift 10) (replicate 8 7777); expected = plain 15 (replicate 8 0) }
+    ∷ record { computed = take 4 (generated-at 1 1 1 (pair 1) (lift 73 ++ lift 10) (replicate 8 7777)); expected = plain 0 [] }
+    -- refusal 1, whatever else is wrong: field 3, profile 3, rule 3; also without lookups
     ∷ record { computed = generated-at 3 1 1 (additive 1 []) [] (7777 ∷ []); expected = plain 1 (7777 ∷ []) }
     ∷ record { computed = generated-at 1 3 1 (additive 1 (3 ∷ [])) five (replicate 8 7777); expected = plain 1 (replicate 8 7777) }
-    ∷ record { computed = generated-at 2 1 2 no-lookup [] (7777 ∷ []); expected = plain 1 (7777 ∷ []) }
+    ∷ record { computed = generated-at 2 1 3 no-lookup [] (7777 ∷ []); expected = plain 1 (7777 ∷ []) }
     ∷ record { computed = tested-at 0 1 1 (additive 1 (3 ∷ [])) five (lift 0 ++ lift 1006632961) none; expected = plain 1 [] }
-    ∷ record { computed = tested-at 2 1 2 no-lookup five [] none; expected = plain 1 [] }
+    ∷ record { computed = tested-at 2 1 3 no-lookup five [] none; expected = plain 1 [] }
     ∷ []
 
 pub cases-hold : T (hold cases)
@@ -292,4 +318,5 @@ unfolding powM addM negM subM mulM inverse1 add4 sub4 mul4 scale4 power4 sum4 pr
     additive-denominator exclusive-numerator exclusive-denominator numerator common-denominator cell cell-sum lookup-constraint step binding
     row-verdict rows-verdict constraints-refusal verdict count lookup-entries row-entries entries same-list post ledger listed met tuples-met
     row-part has-ledger known-field prime-of w-of choices.known choices.known-rule choices.limits-of generation-at verdict-at
+    reversed elements-under
 cases-hold = tt

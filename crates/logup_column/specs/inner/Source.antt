@@ -6,6 +6,7 @@ use Rattle.expression.specs.Values.{row-values}
 use Rattle.expression.specs.Window.{Traces, lent-traces}
 use Rattle.expression.specs.declared.sizes.Shape.{Shape}
 use Rattle.lookup.specs.Lookups.{Lookups, lent-lookups}
+use Rattle.logup.specs.Rule.{lookups-under}
 
 -- all rows: the lookups, their challenges, and the traces and the nodes that give the node values on each row
 pub record Source : Type 0 where
@@ -23,6 +24,10 @@ lent-source shape main preprocessed public-values nodes lookups tuples multiplic
       traces = lent-traces shape main preprocessed public-values;
       nodes = nodes;
     }
+
+-- the same with the elements as a rule takes them
+abbrev pub source-under : ℕ → Source → Source
+source-under rule s = record { lookups = lookups-under rule (s .lookups); challenges = s .challenges; traces = s .traces; nodes = s .nodes }
 
 -- the values of the nodes on each row
 abbrev pub node-values : ℕ → Source → ℕ → List ℕ

@@ -6,6 +6,7 @@ use mathlib.Core.List.{[], _∷_}
 use Prim.Native.Nat.{ℕ, _≤_}
 use native.Mathlib.Omega.{arith}
 use lib.Dec.{ltb}
+use lib.ListN.{length}
 use Rattle.lists.specs.laws.Tests.{both-left, both-right, passed}
 use Rattle.field.specs.inner.Requires.{KnownPrime}
 use Rattle.field.specs.Known.{prime-of, w-of}
@@ -56,6 +57,9 @@ module _ {m : Limits} {p : ℕ} {t : Table} {fit low : Bool} (g : Sane m) (s : T
 
   pub tested-lookups : lookup-count (t .lookups .lookups) ≤ 64
   tested-lookups = lookups-few m (t .lookups .lookups) (t .lookups .tuples) g (s .lookups-within) .0
+
+  pub tested-tuples : length (t .lookups .tuples) ≤ 64
+  tested-tuples = lookups-few m (t .lookups .lookups) (t .lookups .tuples) g (s .lookups-within) .1
 
   pub tested-lists : LookupLists (t .lookups .lookups) (t .lookups .tuples) (t .lookups .multiplicities) (t .lookups .flags) (t .lookups .elements)
   tested-lists =

@@ -28,6 +28,7 @@ use Rattle.logup.specs.Generation.{entry-refusal, rows-outcome, entry-outcome, 
 use Rattle.logup.specs.Ledger.{count, lookup-entries, row-entries, entries, post, ledger, listed, met, tuples-met}
 use Rattle.logup.specs.Reader.{row-part}
 use Rattle.logup.specs.Rows.{fault-refusal, place, fraction-at, row-sum, accumulator, row-words, fault-at, row-fault, trace, first-fault, used}
+use Rattle.logup.specs.Rule.{elements-under}
 use Rattle.logup.specs.Tuple.{tuple, combine, denominator, quotient4}
 use Rattle.lookup.specs.Refusals.{columns-within, form-sizes, nodes-refusal, lists-refusal, form-refusal, shape-of}
 use Rattle.lookup.specs.Lookups.{name-start, tuple-start, multiplicity-start, flag-start, element-start, tuple-width, multiplicity-node, flag-node, tuple-nodes, lookup-at, lookups-of}
@@ -74,5 +75,5 @@ unfolding powM known-field prime-of w-of addM negM subM mulM inverse1 add4 sub4 
     exclusive-fraction exclusive-fault fraction fault fault-refusal place fraction-at row-sum accumulator row-words fault-at row-fault trace
     first-fault used entry-refusal rows-outcome entry-outcome generation generation-at same-list size-start table-part prefix-by prefixes-fit
     prefixes-refusal prefixes prefixes-at table-lookups weight-sum table-weight height-sum lookups-small tables-within tables-fit height-refusal
-    height-at
+    height-at elements-under
 field-2-cases-hold = tt

@@ -1,5 +1,6 @@
 -- The theorems of this crate at work on one table, in each field: on the bus "b" two additive lookups that share a column at limit 3 and an
--- exclusive one, and a local between them. Every theorem's hypotheses are met, and balance accepts both tables.
+-- exclusive one, and a local between them. Every theorem's hypotheses are met, and balance accepts both tables. The terminal under rule 2 is of
+-- another table, with tuples of two words.
 use mathlib.Core.Path.{_≡_, refl, sym, ap, _∙_, subst}
 use mathlib.Core.Bool.{true}
 use mathlib.Core.Option.{none}
@@ -29,7 +30,7 @@ use Rattle.expression.specs.Values.{node-value, values, row-values}
 use Rattle.expression.specs.Degree.{node-degree, degrees}
 use Rattle.expression.specs.Tests.{traces-within, nodes-within, traces-fit, nodes-fit, traces-below, constants-below, nodes-known, degrees-low}
 use Rattle.expression.specs.declared.sizes.Limits.{Limits}
-use Rattle.lookup.specs.Lookups.{Lookups, name-start, tuple-start, multiplicity-start, flag-start, element-start, tuple-width, multiplicity-node, flag-node, tuple-nodes, lookup-at, lookups-of}
+use Rattle.lookup.specs.Lookups.{Lookups, name-start, tuple-start, multiplicity-start, flag-start, element-start, tuple-width, multiplicity-node, flag-node, tuple-nodes, lookup-count, lookup-at, lookups-of}
 use Rattle.lookup.specs.Table.{Table, values-of}
 use Rattle.lookup.specs.Sizes.{size-start, table-part}
 use Rattle.lookup.specs.Refusals.{columns-within, form-sizes, form-refusal, shape-of}
@@ -42,6 +43,7 @@ use Rattle.lookup_degree.specs.Degree.{tuple-degree, denominator-degree, numera
 use Rattle.lookup_buses.specs.Order.{keep, position, by-place, numbers, place, arranged}
 use Rattle.lookup_buses.specs.Widths.{width-in-lookup, width-in-table, expected, by-bus, lookup-refusal, table-refusal, widths-refusal, widest-in-lookup, widest-in-table, widest}
 use Rattle.lookup_protocol.specs.Height.{table-lookups, weight-sum, table-weight, height-sum}
+use Rattle.logup.specs.Rule.{reversed, elements-under}
 use Rattle.logup.specs.Tuple.{tuple, combine, denominator, quotient4}
 use Rattle.logup.specs.Column.{branches, multiplicity, flag, chosen, denom, used-denom, additive-fraction, additive-fault, exclusive-fraction, exclusive-fault, fraction, fault}
 use Rattle.logup.specs.Rows as rows
@@ -112,6 +114,20 @@ packed-lookups =
       elements = 0 ∷ 0 ∷ 0 ∷ 0 ∷ 0 ∷ 0 ∷ [];
     }
 
+-- the column and 1 in a tuple, in two lookups on the bus that share a column
+abbrev wide : Lookups
+wide =
+    record {
+      lookups =
+          1 ∷ 1 ∷ 1 ∷ 0 ∷ 0 ∷ 1 ∷ 1 ∷ 0
+          ∷ 1 ∷ 1 ∷ 1 ∷ 1 ∷ 0 ∷ 1 ∷ 1 ∷ 0 ∷ [];
+      names = 98 ∷ 98 ∷ [];
+      tuples = 2 ∷ 2 ∷ [];
+      multiplicities = 1 ∷ 1 ∷ [];
+      flags = [];
+      elements = 0 ∷ 1 ∷ 0 ∷ 1 ∷ [];
+    }
+
 -- the table's columns, in place of its traces
 abbrev main-only : Columns
 main-only = record { main = 1; preprocessed = 0; «public_values» = 0 }
@@ -124,9 +140,9 @@ workspace = replicate 20 7
 abbrev buffer : List ℕ
 buffer = replicate 40 7
 
--- the challenges: alpha 5 for the bus and 6 for the local
+-- the challenges: alpha 5 for the bus and 6 for the local, beta 3 for both
 abbrev pair : ℕ → Pair (List ℕ)
-pair a = record { alpha = lift a; beta = lift 0 }
+pair a = record { alpha = lift a; beta = lift 3 }
 
 abbrev shared : SharedPairs
 shared =
@@ -177,6 +193,9 @@ module _ (field : ℕ) where
   abbrev once : Table
   once = table-of (counted (replicate 6 1))
 
+  abbrev wide-table : Table
+  wide-table = table-of wide
+
   -- the only one, where there may be several tables
   abbrev one-table : ℕ → Table
   one-table t = table
@@ -200,7 +219,7 @@ module _ (field : ℕ) where
   after = lists packed-lookups 3 2
 
   -- What is computed in the field: the tests find nothing, packing makes these lookups, the lists hold them, and balance accepts the table; the sum of
-  -- the height bound, and the widths; the terminal, and the sum on the bus, where everything is counted once.
+  -- the height bound, and the widths; the terminal, and the sum on the bus, where everything is counted once; under rule 2 both are -3.
   record Computed (terminal-word bus-word : ℕ) : Type 0 where
     is-known : T (Choices.known (choices-of field 1))
     tested : Tested m p table
@@ -216,7 +235,11 @@ module _ (field : ℕ) where
     height : height-sum (lookups .lookups) (4 ∷ []) (2 ∷ []) ≡ 12
     widths : (widths-refusal (bus-tables 1 one-table) ≡ none) × (widest (bus-tables 1 one-table) ≡ 1)
     generated : generation-at (choices-of field 1) 1 once (challenges-of shared once) buffer .answer ≡ terminal (lift terminal-word)
-    bus-total : bus-sum p w once (challenges-of shared once) (98 ∷ []) ≡ lift bus-word
+    bus-total : bus-sum 1 p w once (challenges-of shared once) (98 ∷ []) ≡ lift bus-word
+    wide-tested : Tested m p wide-table
+    wide-packs : lookup-count (packed-table 3 wide-table .lookups .lookups) ≡ 1
+    wide-generated : generation-at (choices-of field 1) 2 wide-table (challenges-of shared wide-table) buffer .answer ≡ terminal (lift (negM p 3))
+    wide-total : bus-sum 2 p w wide-table (challenges-of shared wide-table) (98 ∷ []) ≡ lift (negM p 3)
 
   -- what the theorems say of the packed table then
   pub record AtWork (terminal-word bus-word : ℕ) : Type 0 where
@@ -246,7 +269,12 @@ module _ (field : ℕ) where
     pub terminal-same : generation-at (choices-of field 1) 1 (packed-table 3 once) (challenges-of shared (packed-table 3 once)) buffer .answer
         ≡ terminal (lift terminal-word)
     -- and on the bus alone
-    pub bus-sum-same : bus-sum p w (packed-table 3 once) (challenges-of shared (packed-table 3 once)) (98 ∷ []) ≡ lift bus-word
+    pub bus-sum-same : bus-sum 1 p w (packed-table 3 once) (challenges-of shared (packed-table 3 once)) (98 ∷ []) ≡ lift bus-word
+    -- and under rule 2, where the rows 3 and 4 combine to 6 and 7: the one column has the terminal of both lookups
+    pub one-column : lookup-count (packed-table 3 wide-table .lookups .lookups) ≡ 1
+    pub terminal-same-2 : generation-at (choices-of field 1) 2 (packed-table 3 wide-table) (challenges-of shared (packed-table 3 wide-table)) buffer .answer
+        ≡ terminal (lift (negM p 3))
+    pub bus-sum-same-2 : bus-sum 2 p w (packed-table 3 wide-table) (challenges-of shared (packed-table 3 wide-table)) (98 ∷ []) ≡ lift (negM p 3)
 
   at-work : {terminal-word bus-word : ℕ} → Computed terminal-word bus-word → AtWork terminal-word bus-word
   at-work c =
@@ -282,7 +310,13 @@ module _ (field : ℕ) where
             known-same-terminal (choices-of field 1) 1 (c .is-known) (unfold known-rule in tt) 3 once shared buffer
             (subst (λ (a : Answer). T (accepts a)) (sym (c .generated)) tt)
             ∙ c .generated;
-        bus-sum-same = same-bus-sum m p w 3 once shared (98 ∷ []) (c .once-tested) ∙ c .bus-total;
+        bus-sum-same = same-bus-sum 1 m p w 3 once shared (98 ∷ []) (c .once-tested) ∙ c .bus-total;
+        one-column = c .wide-packs;
+        terminal-same-2 =
+            known-same-terminal (choices-of field 1) 2 (c .is-known) (unfold known-rule in tt) 3 wide-table shared buffer
+            (subst (λ (a : Answer). T (accepts a)) (sym (c .wide-generated)) tt)
+            ∙ c .wide-generated;
+        bus-sum-same-2 = same-bus-sum 2 m p w 3 wide-table shared (98 ∷ []) (c .wide-tested) ∙ c .wide-total;
       }
     where
       zeroth : (t : ℕ) → t < 1 → t ≡ 0
@@ -307,7 +341,7 @@ unfolding flatMap zipWith powM same-list total every some-of first joined fold t
     words-of holds columns packing-refusal add-nonzero add slots full unbalanced names-first group-refusal balance-lists.shape-at
     balance-lists.lookups-at balance-lists.table-at balance-lists.tables-of balance-lists.lists-fit all listed covered tables-refusal groups.same-bus
     groups.groups members appears local-group bus-group bus-groups count-of entry-of row-entries member-entries entries visit balance check check-at
-    pairs-from challenges-of bus-sum
+    pairs-from challenges-of bus-sum reversed elements-under
 computed = (
   record {
     is-known = tt;
@@ -324,6 +358,10 @@ computed = (
     widths = (refl, refl);
     generated = refl;
     bus-total = refl;
+    wide-tested = record { sizes-pass = refl; words-pass = refl; nodes-pass = refl; degrees-pass = refl; lists-pass = refl };
+    wide-packs = refl;
+    wide-generated = refl;
+    wide-total = refl;
   },
   record {
     is-known = tt;
@@ -340,6 +378,10 @@ computed = (
     widths = (refl, refl);
     generated = refl;
     bus-total = refl;
+    wide-tested = record { sizes-pass = refl; words-pass = refl; nodes-pass = refl; degrees-pass = refl; lists-pass = refl };
+    wide-packs = refl;
+    wide-generated = refl;
+    wide-total = refl;
   },
 )
 

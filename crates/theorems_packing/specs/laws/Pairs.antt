@@ -111,14 +111,14 @@ own-at l i h = unfold lookups-of in tab-at (lookup-at l) (lookup-count (l .looku
 pub own-count : (l : Lookups) → length (lookups-of l) ≡ lookup-count (l .lookups)
 own-count l = unfold lookups-of in tab-length (lookup-at l) 0 (lookup-count (l .lookups))
 
--- the place of lookup i on row r is at its pair
-pub place-is : (p w : ℕ) (l : Lookups) (c : SharedPairs) (values : ℕ → List ℕ) (r i : ℕ) → i < lookup-count (l .lookups)
-    → place p w l (flatMap pair-words (pairs-from c 0 (lookups-of l))) values r i
-    ≡ record { lookups = l; vals = values r; lookup = i; alpha = getD (pairs-from c 0 (lookups-of l)) i zeros .alpha; beta = getD (pairs-from c 0 (lookups-of l)) i zeros .beta }
+-- the place of lookup i on row r is at its pair, also where the lists are read otherwise
+pub place-is : (p w : ℕ) (l read : Lookups) (c : SharedPairs) (values : ℕ → List ℕ) (r i : ℕ) → i < lookup-count (l .lookups)
+    → place p w read (flatMap pair-words (pairs-from c 0 (lookups-of l))) values r i
+    ≡ record { lookups = read; vals = values r; lookup = i; alpha = getD (pairs-from c 0 (lookups-of l)) i zeros .alpha; beta = getD (pairs-from c 0 (lookups-of l)) i zeros .beta }
 unfolding place
-place-is p w l c values r i h =
+place-is p w l read c values r i h =
     let q : i < length (pairs-from c 0 (lookups-of l)) = omega (arith, pairs-length c 0 (lookups-of l), own-count l) in
-    λ k. record { lookups = l; vals = values r; lookup = i; alpha = alpha-at (pairs-from c 0 (lookups-of l)) (pairs-four c 0 (lookups-of l)) i q k; beta = beta-at (pairs-from c 0 (lookups-of l)) (pairs-four c 0 (lookups-of l)) i q k }
+    λ k. record { lookups = read; vals = values r; lookup = i; alpha = alpha-at (pairs-from c 0 (lookups-of l)) (pairs-four c 0 (lookups-of l)) i q k; beta = beta-at (pairs-from c 0 (lookups-of l)) (pairs-four c 0 (lookups-of l)) i q k }
 
 -- a sum over a list of lookups, each at its pair
 module _ (c : SharedPairs) (S : Pair (List ℕ) → Lookup → ℕ) where

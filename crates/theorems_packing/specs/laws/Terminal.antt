@@ -1,5 +1,5 @@
 -- The sum of all fractions of a row is, word by word, a sum over the lookups that merges keep, and so is the number of its faults: the packed
--- table has the same terminal, and generation accepts it where it accepts the table.
+-- table has the same terminal, and generation accepts it where it accepts the table. Each lookup is taken as the tuple rule reads it.
 use mathlib.Core.Path.{_≡_, refl, sym, ap, ap₂, _∙_, subst}
 use mathlib.Core.Bool.{Bool, true, false, cond, not, _&&_, _||_, true≢false}
 use mathlib.Core.Option.{Option, none, some, Option·some-ne-none}
@@ -37,9 +37,11 @@ use Rattle.lookup.specs.Tests.{sizes, words-below, known, lists-agree, in-posit
 use Rattle.lookup.specs.Requires.{Fitting, Agreeing}
 use Rattle.lookup.specs.laws.Tested.{sizes-passed, fitting, agreeing}
 use Rattle.lookup_degree.specs.Degree.{node-degrees}
+use Rattle.logup.specs.Rule.{lookups-under, table-under}
 use Rattle.logup.specs.Column.{Place, fraction, fault}
 use Rattle.logup.specs.Rows.{fault-refusal, place, fraction-at, row-sum, accumulator, fault-at, row-fault, first-fault, used}
 use Rattle.logup.specs.Generation.{refused, absent, terminal, entry-refusal, rows-outcome, entry-outcome, generation, accepts}
+use Rattle.logup.specs.laws.Rule.{refusal-under}
 use Rattle.logup.specs.laws.Choices.{generation-known}
 use Rattle.packing.specs.Packing.{on-one-bus, merged, numbered, packed}
 use Rattle.packing.specs.PackSameBus.{columns}
@@ -54,16 +56,17 @@ use Rattle.theorems_packing.specs.laws.Back.{nothing, columns-back}
 use Rattle.theorems_packing.specs.laws.Passes.{below-of, of-below, fewer-columns, same-has, packed-passes}
 use Rattle.theorems_packing.specs.laws.Fractions.{total-mod, fraction-word, fraction-word-numbered, fraction-word-merged, fraction-words, named, fault-count, fault-count-numbered, fault-count-merged, fault-words}
 use Rattle.theorems_packing.specs.laws.Pairs.{four, pair-words, zeros, pairs-length, pairs-four, flat-length, own-at, own-count, place-is, pair-sum, pair-sum-lookups, pair-sum-packed, packed-pairs}
+use Rattle.theorems_packing.specs.laws.Rule.{lookup-under, at-under, aligned-at, adds-under}
 use Rattle.theorems_packing.specs.laws.Entries.{local-both, at-sound, columns-sound}
 
 -- the sum of the fractions of a row's lookups that pass a test
-module _ (p w : ℕ) (B : Lookup → Bool) where
+module _ (rule p w : ℕ) (B : Lookup → Bool) where
   abbrev tested-word : List ℕ → ℕ → Pair (List ℕ) → Lookup → ℕ
-  tested-word vals j q x = cond (B x) (fraction-word p w vals j q x) 0
+  tested-word vals j q x = cond (B x) (fraction-word p w vals j q (lookup-under rule x)) 0
 
   row-words-are : (l : Lookups) (c : SharedPairs) (values : ℕ → List ℕ) (r : ℕ)
       → ((i : ℕ) → i < lookup-count (l .lookups) → Aligned (lookup-at l i))
-      → sum4 p (λ i. cond (B (lookup-at l i)) (fraction-at p w l (flatMap pair-words (pairs-from c 0 (lookups-of l))) values r i) zero4) (lookup-count (l .lookups))
+      → sum4 p (λ i. cond (B (lookup-at l i)) (fraction-at p w (lookups-under rule l) (flatMap pair-words (pairs-from c 0 (lookups-of l))) values r i) zero4) (lookup-count (l .lookups))
       ≡ four (λ j. pair-sum c (tested-word (values r) j) 0 (lookups-of l) % p)
   unfolding fraction-at
   row-words-are l c values r s =
@@ -79,17 +82,24 @@ module _ (p w : ℕ) (B : Lookup → Bool) where
       cs : List ℕ
       cs = flatMap pair-words (pairs-from c 0 (lookups-of l))
 
+      here : ℕ → Place
+      here i = place p w (lookups-under rule l) cs values r i
+
       F : ℕ → List ℕ
-      F i = cond (B (lookup-at l i)) (fraction p w (place p w l cs values r i)) zero4
+      F i = cond (B (lookup-at l i)) (fraction p w (here i)) zero4
 
       one : (j : ℕ) → at zero4 j ≡ 0 → j < 4 → (i : ℕ) → i < N
           → at (F i) j % p ≡ tested-word (values r) j (getD qs i zeros) (lookup-at l i) % p
       one j z h i g =
-          either (B (lookup-at l i)) (ap (λ (x : Place). at (fraction p w x) j % p) (place-is p w l c values r i g) ∙ fraction-words p w (values r) l i (getD qs i zeros) (s i g) j h)
+          either (B (lookup-at l i))
+          (ap (λ (x : Place). at (fraction p w x) j % p) (place-is p w l (lookups-under rule l) c values r i g)
+          ∙ fraction-words p w (values r) (lookups-under rule l) i (getD qs i zeros) (aligned-at rule l i (s i g)) j h
+          ∙ ap (λ (x : Lookup). fraction-word p w (values r) j (getD qs i zeros) x % p) (at-under rule l i))
         where
-          either : (b : Bool)
-              → at (fraction p w (place p w l cs values r i)) j % p ≡ fraction-word p w (values r) j (getD qs i zeros) (lookup-at l i) % p
-              → at (cond b (fraction p w (place p w l cs values r i)) zero4) j % p ≡ cond b (fraction-word p w (values r) j (getD qs i zeros) (lookup-at l i)) 0 % p
+          own : ℕ
+          own = fraction-word p w (values r) j (getD qs i zeros) (lookup-under rule (lookup-at l i))
+
+          either : (b : Bool) → at (fraction p w (here i)) j % p ≡ own % p → at (cond b (fraction p w (here i)) zero4) j % p ≡ cond b own 0 % p
           either true e = e
           either false e = ap (λ (n : ℕ). n % p) z
 
@@ -110,38 +120,44 @@ refusal-named n r i = go (eqb n 13) (eqb n 14) (eqb n 15)
     go false false true = (λ e. absurd (Option·some-ne-none _ e), λ e. absurd (true≢false e))
     go false false false = (λ e. refl, λ e. refl)
 
-module _ (p w : ℕ) (l : Lookups) (c : SharedPairs) (values : ℕ → List ℕ) (height : ℕ) (s : (i : ℕ) → i < lookup-count (l .lookups) → Aligned (lookup-at l i)) where
+module _ (rule p w : ℕ) (l : Lookups) (c : SharedPairs) (values : ℕ → List ℕ) (height : ℕ) (s : (i : ℕ) → i < lookup-count (l .lookups) → Aligned (lookup-at l i)) where
   abbrev cs : List ℕ
   cs = flatMap pair-words (pairs-from c 0 (lookups-of l))
 
   abbrev N : ℕ
   N = lookup-count (l .lookups)
 
-  abbrev counted : ℕ → ℕ → ℕ
-  counted r i = fault-count p w (values r) (getD (pairs-from c 0 (lookups-of l)) i zeros) (lookup-at l i)
+  abbrev read : Lookups
+  read = lookups-under rule l
 
-  fault-counted : (r i : ℕ) → i < N → (fault-at p w l cs values r i ≡ none) ↔ (counted r i ≡ 0)
+  abbrev faults : ℕ → Pair (List ℕ) → Lookup → ℕ
+  faults r q x = fault-count p w (values r) q (lookup-under rule x)
+
+  abbrev counted : ℕ → ℕ → ℕ
+  counted r i = faults r (getD (pairs-from c 0 (lookups-of l)) i zeros) (lookup-at l i)
+
+  fault-counted : (r i : ℕ) → i < N → (fault-at p w read cs values r i ≡ none) ↔ (counted r i ≡ 0)
   unfolding fault-at
   fault-counted r i h =
-      let a = refusal-named (fault p w (place p w l cs values r i)) r i in
-      let b = fault-words p w (values r) l i (getD (pairs-from c 0 (lookups-of l)) i zeros) (s i h) in
-      let e : named (fault p w (place p w l cs values r i)) ≡ _ = ap (λ (x : Place). named (fault p w x)) (place-is p w l c values r i h) in
-      (λ k. b .0 (sym e ∙ a .0 k), λ k. a .1 (e ∙ b .1 k))
+      let q = getD (pairs-from c 0 (lookups-of l)) i zeros in
+      let a = refusal-named (fault p w (place p w read cs values r i)) r i in
+      let b = fault-words p w (values r) read i q (aligned-at rule l i (s i h)) in
+      let e : named (fault p w (place p w read cs values r i)) ≡ _ = ap (λ (x : Place). named (fault p w x)) (place-is p w l read c values r i h) in
+      let f : fault-count p w (values r) q (lookup-at read i) ≡ counted r i = ap (fault-count p w (values r) q) (at-under rule l i) in
+      (λ k. sym f ∙ b .0 (sym e ∙ a .0 k), λ k. a .1 (e ∙ b .1 (f ∙ k)))
 
-  faults-none : first-fault p w l cs values height ≡ none → (r : ℕ) → r < height
-      → pair-sum c (fault-count p w (values r)) 0 (lookups-of l) ≡ 0
+  faults-none : first-fault p w read cs values height ≡ none → (r : ℕ) → r < height → pair-sum c (faults r) 0 (lookups-of l) ≡ 0
   unfolding first-fault row-fault
   faults-none e r h =
-      let q : row-fault p w l cs values r ≡ none = first-none (row-fault p w l cs values) height r e h in
-      sym (pair-sum-lookups c (fault-count p w (values r)) l)
-      ∙ total-cong (counted r) (λ i. 0) N (λ i g. fault-counted r i g .0 (first-none (fault-at p w l cs values r) N i q g)) ∙ total-zero N
+      let q : row-fault p w read cs values r ≡ none = first-none (row-fault p w read cs values) height r e h in
+      sym (pair-sum-lookups c (faults r) l)
+      ∙ total-cong (counted r) (λ i. 0) N (λ i g. fault-counted r i g .0 (first-none (fault-at p w read cs values r) N i q g)) ∙ total-zero N
 
-  none-faults : ((r : ℕ) → r < height → pair-sum c (fault-count p w (values r)) 0 (lookups-of l) ≡ 0)
-      → first-fault p w l cs values height ≡ none
+  none-faults : ((r : ℕ) → r < height → pair-sum c (faults r) 0 (lookups-of l) ≡ 0) → first-fault p w read cs values height ≡ none
   unfolding first-fault row-fault
   none-faults e =
-      first-all (row-fault p w l cs values) height (λ r h. first-all (fault-at p w l cs values r) N
-      (λ i g. fault-counted r i g .1 (let x = total-in (counted r) i N g in let y : total (counted r) N ≡ 0 = pair-sum-lookups c (fault-count p w (values r)) l ∙ e r h in omega arith)))
+      first-all (row-fault p w read cs values) height (λ r h. first-all (fault-at p w read cs values r) N
+      (λ i g. fault-counted r i g .1 (let x = total-in (counted r) i N g in let y : total (counted r) N ≡ 0 = pair-sum-lookups c (faults r) l ∙ e r h in omega arith)))
 
 refused-not : (f : Refusal) → T (accepts (refused f)) → ⊥
 refused-not f a = subst T (number-nonzero f) a
@@ -268,42 +284,50 @@ module _ (m : Limits) (p limit : ℕ) (t : Table) (c : SharedPairs) (tested : Te
   -- the same sum over the lookups that pass a test, where a merge passes with its parts
   module _ (B : Lookup → Bool) (free : (k : ℕ) (x : Lookup) → B (numbered k x) ≡ B x)
       (both : (a b : Lookup) → on-one-bus a b ≡ true → (B (merged a b) ≡ B a) × (B b ≡ B a)) where
-    tested-same : (w r : ℕ)
-        → sum4 p (λ i. cond (B (lookup-at (u .lookups) i)) (fraction-at p w (u .lookups) (challenges-of c u) values r i) zero4) (lookup-count (u .lookups .lookups))
-        ≡ sum4 p (λ i. cond (B (lookup-at (t .lookups) i)) (fraction-at p w (t .lookups) (challenges-of c t) values r i) zero4) (lookup-count (t .lookups .lookups))
+    tested-same : (rule w r : ℕ)
+        → sum4 p (λ i. cond (B (lookup-at (u .lookups) i)) (fraction-at p w (lookups-under rule (u .lookups)) (challenges-of c u) values r i) zero4) (lookup-count (u .lookups .lookups))
+        ≡ sum4 p (λ i. cond (B (lookup-at (t .lookups) i)) (fraction-at p w (lookups-under rule (t .lookups)) (challenges-of c t) values r i) zero4) (lookup-count (t .lookups .lookups))
     unfolding challenges-of
-    tested-same w r =
-        row-words-are p w B (u .lookups) c values r columns-own ∙ (λ k. word-same 0 k ∷ word-same 1 k ∷ word-same 2 k ∷ word-same 3 k ∷ [])
-        ∙ sym (row-words-are p w B (t .lookups) c values r own)
+    tested-same rule w r =
+        row-words-are rule p w B (u .lookups) c values r columns-own ∙ (λ k. word-same 0 k ∷ word-same 1 k ∷ word-same 2 k ∷ word-same 3 k ∷ [])
+        ∙ sym (row-words-are rule p w B (t .lookups) c values r own)
       where
-        numbered-same : (j : ℕ) (q : Pair (List ℕ)) (k : ℕ) (x : Lookup)
-            → tested-word p w B (values r) j q (numbered k x) ≡ tested-word p w B (values r) j q x
-        numbered-same j q k x = ap₂ (λ (b : Bool) (n : ℕ). cond b n 0) (free k x) (fraction-word-numbered p w (values r) j q k x)
+        S : ℕ → Pair (List ℕ) → Lookup → ℕ
+        S = tested-word rule p w B (values r)
 
-        merged-same : (j : ℕ) (q : Pair (List ℕ)) (a b : Lookup) → on-one-bus a b ≡ true → Aligned a
-            → tested-word p w B (values r) j q (merged a b) ≡ tested-word p w B (values r) j q a + tested-word p w B (values r) j q b
-        merged-same j q a b o s = parts (B a) (B b) (B (merged a b)) (fraction-word p w (values r) j q a) (fraction-word p w (values r) j q b) (fraction-word p w (values r) j q (merged a b)) (both a b o .0) (both a b o .1) (fraction-word-merged p w (values r) j q a b o s)
+        numbered-same : (j : ℕ) (q : Pair (List ℕ)) (k : ℕ) (x : Lookup) → S j q (numbered k x) ≡ S j q x
+        numbered-same j q k x = ap₂ (λ (b : Bool) (n : ℕ). cond b n 0) (free k x) (fraction-word-numbered p w (values r) j q k (lookup-under rule x))
+
+        merged-same : (j : ℕ) (q : Pair (List ℕ)) (a b : Lookup) → on-one-bus a b ≡ true → Aligned a → S j q (merged a b) ≡ S j q a + S j q b
+        merged-same j q a b o s =
+            parts (B a) (B b) (B (merged a b)) (word a) (word b) (word (merged a b)) (both a b o .0) (both a b o .1)
+            (adds-under rule (fraction-word p w (values r) j q) (fraction-word-merged p w (values r) j q) a b o s)
           where
+            word : Lookup → ℕ
+            word x = fraction-word p w (values r) j q (lookup-under rule x)
+
             parts : (d e m : Bool) (x y z : ℕ) → m ≡ d → e ≡ d → z ≡ x + y → cond m z 0 ≡ cond d x 0 + cond e y 0
             parts true e m x y z qm qe k = rw (qm, qe) k
             parts false e m x y z qm qe k = rw (qm, qe)
 
-        word-same : (j : ℕ)
-            → pair-sum c (tested-word p w B (values r) j) 0 (lookups-of (u .lookups)) % p ≡ pair-sum c (tested-word p w B (values r) j) 0 (lookups-of (t .lookups)) % p
-        word-same j = ap (λ (n : ℕ). n % p) (pair-sum-same (tested-word p w B (values r) j) (numbered-same j) (merged-same j))
+        word-same : (j : ℕ) → pair-sum c (S j) 0 (lookups-of (u .lookups)) % p ≡ pair-sum c (S j) 0 (lookups-of (t .lookups)) % p
+        word-same j = ap (λ (n : ℕ). n % p) (pair-sum-same (S j) (numbered-same j) (merged-same j))
 
-  sums-same : (w : ℕ)
-      → accumulator p w (u .lookups) (challenges-of c u) values (t .traces .shape .height) ≡ accumulator p w (t .lookups) (challenges-of c t) values (t .traces .shape .height)
+  sums-same : (rule w : ℕ)
+      → accumulator p w (lookups-under rule (u .lookups)) (challenges-of c u) values (t .traces .shape .height)
+      ≡ accumulator p w (lookups-under rule (t .lookups)) (challenges-of c t) values (t .traces .shape .height)
   unfolding accumulator row-sum
-  sums-same w =
-      ap (λ (s : ℕ → List ℕ). sum4 p s (t .traces .shape .height)) (λ k r. tested-same (λ x. true) (λ k x. refl) (λ a b o. (refl, refl)) w r k)
+  sums-same rule w =
+      ap (λ (s : ℕ → List ℕ). sum4 p s (t .traces .shape .height)) (λ k r. tested-same (λ x. true) (λ k x. refl) (λ a b o. (refl, refl)) rule w r k)
 
-  faults-same : (w : ℕ) → first-fault p w (t .lookups) (challenges-of c t) values (t .traces .shape .height) ≡ none
-      → first-fault p w (u .lookups) (challenges-of c u) values (t .traces .shape .height) ≡ none
+  faults-same : (rule w : ℕ) → first-fault p w (lookups-under rule (t .lookups)) (challenges-of c t) values (t .traces .shape .height) ≡ none
+      → first-fault p w (lookups-under rule (u .lookups)) (challenges-of c u) values (t .traces .shape .height) ≡ none
   unfolding challenges-of
-  faults-same w e =
-      none-faults p w (u .lookups) c values (t .traces .shape .height) columns-own
-      (λ r h. pair-sum-same (fault-count p w (values r)) (fault-count-numbered p w (values r)) (fault-count-merged p w (values r)) ∙ faults-none p w (t .lookups) c values (t .traces .shape .height) own e r h)
+  faults-same rule w e =
+      none-faults rule p w (u .lookups) c values (t .traces .shape .height) columns-own
+      (λ r h. pair-sum-same (λ q x. fault-count p w (values r) q (lookup-under rule x)) (λ q k x. fault-count-numbered p w (values r) q k (lookup-under rule x))
+      (λ q. adds-under rule (fault-count p w (values r) q) (fault-count-merged p w (values r) q))
+      ∙ faults-none rule p w (t .lookups) c values (t .traces .shape .height) own e r h)
 
   -- the packed table enters where the table does
   challenges-long : (x : Table) → length (challenges-of c x) ≡ 8 * lookup-count (x .lookups .lookups)
@@ -351,34 +375,35 @@ module _ (m : Limits) (p limit : ℕ) (t : Table) (c : SharedPairs) (tested : Te
           let n : H * (lookup-count (u .lookups .lookups) + 1) ≤ H * (lookup-count (t .lookups .lookups) + 1) = mul-le-mul-left H (omega (arith, fewer-columns limit t)) in
           le-leb (H * (lookup-count (u .lookups .lookups) + 1) * 4) (length buffer) (omega arith)
 
-pub same-terminal : (m : Limits) (p w : ℕ) → SameTerminal (generation m p w)
-same-terminal m p w limit t c buffer a =
-    answer-is m p w u′ (challenges-of c u′) buffer (entered-none m p w u′ (challenges-of c u′) buffer (entered-same m p limit t c (e .tested) buffer e))
-    (λ h. faults-same m p limit t c (e .tested) w (k .1 (sym (same-has limit t) ∙ h)))
-    ∙ ap₂ (λ (h : Bool) (x : List ℕ). cond h (terminal x) absent) (same-has limit t) (sums-same m p limit t c (e .tested) w)
-    ∙ sym (answer-is m p w t (challenges-of c t) buffer (k .0) (k .1))
+pub same-terminal : (rule : ℕ) (m : Limits) (p w : ℕ) → SameTerminal (λ t. generation m p w (table-under rule t))
+same-terminal rule m p w limit t c buffer a =
+    answer-is m p w (table-under rule u′) (challenges-of c u′) buffer
+    (refusal-under rule m p w u′ (challenges-of c u′) buffer ∙ entered-none m p w u′ (challenges-of c u′) buffer (entered-same m p limit t c (e .tested) buffer e))
+    (λ h. faults-same m p limit t c (e .tested) rule w (k .1 (sym (same-has limit t) ∙ h)))
+    ∙ ap₂ (λ (h : Bool) (x : List ℕ). cond h (terminal x) absent) (same-has limit t) (sums-same m p limit t c (e .tested) rule w)
+    ∙ sym (answer-is m p w (table-under rule t) (challenges-of c t) buffer (k .0) (k .1))
   where
     u′ : Table
     u′ = packed-table limit t
 
-    k : (entry-refusal m p w t (challenges-of c t) buffer ≡ none)
-        × (has-lookups (t .lookups .lookups) ≡ true → first-fault p w (t .lookups) (challenges-of c t) (row-values p (t .nodes) (t .traces)) (t .traces .shape .height) ≡ none)
-    k = accepted-of m p w t (challenges-of c t) buffer a
+    k : (entry-refusal m p w (table-under rule t) (challenges-of c t) buffer ≡ none)
+        × (has-lookups (t .lookups .lookups) ≡ true → first-fault p w (lookups-under rule (t .lookups)) (challenges-of c t) (row-values p (t .nodes) (t .traces)) (t .traces .shape .height) ≡ none)
+    k = accepted-of m p w (table-under rule t) (challenges-of c t) buffer a
 
     e : Entered m p t (challenges-of c t) buffer
-    e = none-entered m p w t (challenges-of c t) buffer (k .0)
+    e = none-entered m p w t (challenges-of c t) buffer (sym (refusal-under rule m p w t (challenges-of c t) buffer) ∙ k .0)
 
 -- at the entry point, in each field
 pub known-same-terminal : KnownSameTerminal
 known-same-terminal c rule k r =
-    subst SameTerminal (sym (generation-known c rule k r)) (same-terminal (limits-of (c .profile)) (prime-of (c .field)) (w-of (c .field)))
+    subst SameTerminal (sym (generation-known c rule k r)) (same-terminal rule (limits-of (c .profile)) (prime-of (c .field)) (w-of (c .field)))
 
 -- the lookups on one bus, exclusives too
 pub same-bus-sum : SameBusSum
 unfolding bus-sum
-same-bus-sum m p w limit t c bus tested =
+same-bus-sum rule m p w limit t c bus tested =
     ap (λ (s : ℕ → List ℕ). sum4 p s (t .traces .shape .height))
-    (λ k r. tested-same m p limit t c tested (on-the-bus bus) (λ k x. refl) together w r k)
+    (λ k r. tested-same m p limit t c tested (on-the-bus bus) (λ k x. refl) together rule w r k)
   where
     together : (a b : Lookup) → on-one-bus a b ≡ true
         → (on-the-bus bus (merged a b) ≡ on-the-bus bus a) × (on-the-bus bus b ≡ on-the-bus bus a)

@@ -1,4 +1,4 @@
--- A call of each entry point, with n lookups of w words where it reads any.
+-- A call of each entry point, with n lookups of w words where it reads any, and under a rule where it takes one.
 use Prim.Native.Nat.{ℕ, _+_, _*_}
 use mathlib.Core.Option.{Option}
 use mathlib.Core.List.{List, [], _∷_}
@@ -77,14 +77,14 @@ abbrev pub room-for : List (List ℕ) → List ℕ
 room-for ls = replicate (length (all-words ls)) 7
 
 module _ (n w : ℕ) where
-  abbrev pub generated : Choices → generation.Outcome
-  generated c = generation.generation-at c 1 (table n w) (challenges n) (replicate (4 * (n + 1)) 7)
+  abbrev pub generated : ℕ → Choices → generation.Outcome
+  generated rule c = generation.generation-at c rule (table n w) (challenges n) (replicate (4 * (n + 1)) 7)
 
   -- the trace and the terminal that are generated in a field
-  abbrev pub tested : ℕ → Choices → Option Refusal
-  tested field c =
-      let o = generated (choices-of field 1) in
-      verdict-at c 1 (table n w) (challenges n) (n + 1) (o .buffer) (o .answer .terminal)
+  abbrev pub tested : ℕ → ℕ → Choices → Option Refusal
+  tested rule field c =
+      let o = generated rule (choices-of field 1) in
+      verdict-at c rule (table n w) (challenges n) (n + 1) (o .buffer) (o .answer .terminal)
 
   abbrev pub degree-of-first : Choices → DegreeAnswer
   degree-of-first c = degree.degree-at c columns nodes (lookups n w) 0 0
@@ -123,9 +123,9 @@ module _ (n w : ℕ) where
   abbrev pub balanced : Choices → balance.Outcome
   balanced c = balance.check-at c (tables n w) (replicate 20 7)
 
-  abbrev pub generated-bytes : Choices → generate-bytes.Generation
-  generated-bytes c =
-      generate-bytes.generation-on-bytes c 1 (byte-table n w) (bytes-of (challenges n)) (bytes-of (replicate (4 * (n + 1)) 7)) (replicate 5 7)
+  abbrev pub generated-bytes : ℕ → Choices → generate-bytes.Generation
+  generated-bytes rule c =
+      generate-bytes.generation-on-bytes c rule (byte-table n w) (bytes-of (challenges n)) (bytes-of (replicate (4 * (n + 1)) 7)) (replicate 5 7)
       (room-for (generate-bytes.lists-of (byte-table n w) (bytes-of (challenges n)))) (replicate (4 * (n + 1)) 7)
 
   abbrev pub packed-bytes : Choices → pack-bytes.Packing

@@ -25,6 +25,7 @@ use Rattle.lookup_builder.specs.Building.{built}
 use Rattle.lookup_builder.specs.FromInteractions as building
 use Rattle.packing.specs.PackSameBus as packing
 use Rattle.packing.specs.Written.{words-of}
+use Rattle.logup.specs.Rule.{table-under}
 use Rattle.logup.specs.Generation as generation
 use Rattle.logup.specs.Constraints.{constraints-refusal, verdict, verdict-at}
 use Rattle.balance.specs.Tables.{tables-of}
@@ -70,14 +71,14 @@ on-words =
       generation =
           λ rule t challenges buffer field.
           call-same (λ (o : generation.Outcome). o .answer .number) (known-field field && true && known-rule rule)
-          (generation.entry-outcome cabinet (prime-of field) (w-of field) t challenges buffer) _ (λ f. refl)
-          (generation.entry-refusal gateway (prime-of field) (w-of field) t challenges buffer)
-          (entry-same gateway cabinet gateway-narrower (prime-of field) (w-of field) t challenges buffer);
+          (generation.entry-outcome cabinet (prime-of field) (w-of field) (table-under rule t) challenges buffer) _ (λ f. refl)
+          (generation.entry-refusal gateway (prime-of field) (w-of field) (table-under rule t) challenges buffer)
+          (entry-same gateway cabinet gateway-narrower (prime-of field) (w-of field) (table-under rule t) challenges buffer);
       constraints =
           λ rule t challenges width words terminal field.
           test-same (known-field field && true && known-rule rule)
-          (or-else-same (constraints-refusal gateway (prime-of field) (w-of field) t challenges width words terminal) _
-          (constraints-same gateway cabinet gateway-narrower (prime-of field) (w-of field) t challenges width words terminal));
+          (or-else-same (constraints-refusal gateway (prime-of field) (w-of field) (table-under rule t) challenges width words terminal) _
+          (constraints-same gateway cabinet gateway-narrower (prime-of field) (w-of field) (table-under rule t) challenges width words terminal));
       degree =
           λ columns nodes l i t field.
           call-same (λ a. degree.in-numbers a .answer .number) (known-field field && true)

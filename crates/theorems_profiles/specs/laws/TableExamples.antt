@@ -1,4 +1,5 @@
--- Generation, constraints, and generation on bytes: the numbers of the answers to the calls with 8 lookups of 4 words, and with one more of each.
+-- Generation, constraints, and generation on bytes: the numbers of the answers to the calls with 8 lookups of 4 words, and with one more of each;
+-- under rule 2 with one lookup of 2 words.
 use Prim.Native.Nat.{ℕ}
 use mathlib.Core.Path.{_≡_, refl}
 use mathlib.Core.List.{List, [], _∷_}
@@ -24,6 +25,7 @@ use Rattle.logup.specs.Column.{additive-fault, additive-fraction, branches, cho
 use Rattle.logup.specs.Constraints.{additive-denominator, additive-numerator, binding, cell, cell-sum, common-denominator, constraints-refusal, exclusive-denominator, exclusive-numerator, lookup-constraint, numerator, others, row-verdict, rows-verdict, step, verdict, verdict-at}
 use Rattle.logup.specs.Generation.{entry-outcome, entry-refusal, generation, generation-at, rows-outcome}
 use Rattle.logup.specs.Rows.{accumulator, fault-at, fault-refusal, first-fault, fraction-at, place, row-fault, row-sum, row-words, trace, used}
+use Rattle.logup.specs.Rule.{elements-under, reversed}
 use Rattle.logup.specs.Tuple.{combine, denominator, quotient4, tuple}
 use Rattle.lookup.specs.Lookups.{element-start, flag-node, flag-start, multiplicity-node, multiplicity-start, name-start, tuple-nodes, tuple-start, tuple-width}
 use Rattle.lookup.specs.Tests.{has-lookups, in-position, lengths-agree, lists-agree, lookups-fit, lookups-within, nodes-present, preprocessed-enough, rows-enough, sizes, words-below, known}
@@ -31,9 +33,9 @@ use Rattle.wire.specs.Room.{fit, flat, sizes-fit}
 use Rattle.wire.specs.Wire.{bytes-of, word-at, word-bytes, word-of, words-of}
 use Rattle.theorems_profiles.specs.laws.Calls.{generated, tested, generated-bytes}
 
-abbrev pub numbers : ℕ → ℕ → ℕ → Choices → List ℕ
-numbers field n w c =
-    generated n w c .answer .number ∷ answer-number (tested n w field c) ∷ generated-bytes n w c .number ∷ []
+abbrev pub numbers : ℕ → ℕ → ℕ → ℕ → Choices → List ℕ
+numbers rule field n w c =
+    generated n w rule c .answer .number ∷ answer-number (tested n w rule field c) ∷ generated-bytes n w rule c .number ∷ []
 
 -- within both limits, and where the gateway's is passed
 abbrev pub answers : List ℕ
@@ -43,9 +45,10 @@ abbrev pub answers-past : List ℕ
 answers-past = 1 ∷ 1 ∷ 1 ∷ []
 
 pub record Computed (field : ℕ) : Type 0 where
-  pub within : numbers field 8 4 (choices-of field 2) ≡ answers
-  pub nine-lookups : (numbers field 9 4 (choices-of field 2) ≡ answers-past) × (numbers field 9 4 (choices-of field 1) ≡ answers)
-  pub five-words : (numbers field 8 5 (choices-of field 2) ≡ answers-past) × (numbers field 8 5 (choices-of field 1) ≡ answers)
+  pub within : numbers 1 field 8 4 (choices-of field 2) ≡ answers
+  pub nine-lookups : (numbers 1 field 9 4 (choices-of field 2) ≡ answers-past) × (numbers 1 field 9 4 (choices-of field 1) ≡ answers)
+  pub five-words : (numbers 1 field 8 5 (choices-of field 2) ≡ answers-past) × (numbers 1 field 8 5 (choices-of field 1) ≡ answers)
+  pub rule-2 : numbers 2 field 1 2 (choices-of field 2) ≡ answers
 
 pub computed : Computed 1 × Computed 2
 unfolding powM generation-on-bytes known-rule limits-of known-choices degrees node-degree cabinet gateway decode node constants-below
@@ -58,7 +61,8 @@ unfolding powM generation-on-bytes known-rule limits-of known-choices degrees no
     row-sum row-words trace used combine denominator quotient4 tuple element-start flag-node flag-start multiplicity-node multiplicity-start
     name-start tuple-nodes tuple-start tuple-width has-lookups in-position lengths-agree lists-agree lookups-fit lookups-within nodes-present
     preprocessed-enough rows-enough sizes words-below known fit flat sizes-fit bytes-of word-at word-bytes word-of words-of
+    elements-under reversed
 computed = (
-  record { within = refl; nine-lookups = (refl, refl); five-words = (refl, refl) },
-  record { within = refl; nine-lookups = (refl, refl); five-words = (refl, refl) },
+  record { within = refl; nine-lookups = (refl, refl); five-words = (refl, refl); rule-2 = refl },
+  record { within = refl; nine-lookups = (refl, refl); five-words = (refl, refl); rule-2 = refl },
 )

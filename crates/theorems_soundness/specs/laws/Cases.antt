@@ -1,4 +1,4 @@
--- Small tables that meet the theorems' hypotheses, and what is computed of them, in each field.
+-- Small tables that meet the theorems' hypotheses, and what is computed of them, in each field and under each rule.
 use Prim.Native.Nat.{ℕ, _+_, _-_, _/_}
 use mathlib.Core.Path.{_≡_}
 use mathlib.Core.Bool.{Bool, true, cond, _&&_, not}
@@ -27,6 +27,7 @@ use Rattle.lookup.specs.Lookups.{name-start, tuple-start, multiplicity-start, f
 use Rattle.lookup.specs.Table.{Table, values-of}
 use Rattle.lookup.specs.Tests.{lookups-within, lookups-fit, sizes, words-below, known, lengths-agree, nodes-present, lists-agree, in-position, has-lookups, preprocessed-enough, rows-enough}
 use Rattle.logup.specs.Tuple.{tuple, combine, denominator, quotient4}
+use Rattle.logup.specs.Rule.{reversed, elements-under, lookups-under}
 use Rattle.logup.specs.Column.{Place, branches, multiplicity, flag, chosen, denom, used-denom, additive-fraction, additive-fault, exclusive-fraction, exclusive-fault, fraction, fault}
 use Rattle.logup.specs.Rows.{fault-refusal, place, fraction-at, row-sum, accumulator, row-words, fault-at, row-fault, trace, first-fault, used}
 use Rattle.logup.specs.Generation.{Answer, Generation, entry-refusal, rows-outcome, entry-outcome, generation, generation-at, accepts, terminal-words}
@@ -36,7 +37,7 @@ use Rattle.logup.specs.laws.Cases.{additive, no-lookup}
 use Rattle.theorems_soundness.specs.Soundness.{Buffers, answer-at}
 use Rattle.theorems_soundness.specs.Constraints.{Verdict}
 use Rattle.theorems_soundness.specs.Lawful.{flag-at}
-use Rattle.theorems_soundness.specs.laws.Choices.{in-each-field}
+use Rattle.theorems_soundness.specs.laws.Choices.{in-each-field, by-each-rule}
 
 -- Two columns of main, and one lookup on the bus "m": the tuple of both columns, counted once.
 abbrev pub two-columns : List ℕ → Table
@@ -61,8 +62,8 @@ two-columns main =
           };
     }
 
--- Three columns of main, and one exclusive lookup on the bus "m" with two branches, each counted once: the tuple of the first column where the
--- second is 1, and the tuple (1) where the third is.
+-- Three columns of main, and one exclusive lookup on the bus "m" with two branches, each counted once: the first column and 1 where the second
+-- column is 1, and 1 and the second column where the third is 1.
 abbrev pub two-branches : List ℕ → Table
 two-branches main =
     record {
@@ -78,10 +79,10 @@ two-branches main =
           record {
             lookups = 1 ∷ 1 ∷ 1 ∷ 0 ∷ 1 ∷ 2 ∷ 2 ∷ 2 ∷ [];
             names = 109 ∷ [];
-            tuples = 1 ∷ 1 ∷ [];
+            tuples = 2 ∷ 2 ∷ [];
             multiplicities = 3 ∷ 3 ∷ [];
             flags = 1 ∷ 2 ∷ [];
-            elements = 0 ∷ 3 ∷ [];
+            elements = 0 ∷ 3 ∷ 3 ∷ 1 ∷ [];
           };
     }
 
@@ -115,8 +116,8 @@ one es c =
           };
     }
 
--- the tuples (1, 2) and (3, 4), and the same in the other order; row 3 once, against no lookup; the tuples (3) and (1) by the one branch and the
--- other, with a row that chooses none, and the same in the other order
+-- the tuples (1, 2) and (3, 4), and the same in the other order; row 3 once, against no lookup; the tuples (3, 1) and (1, 0) by the one branch and
+-- the other, with a row that chooses none, and the same in the other order
 abbrev pub forwards : Table
 forwards = two-columns (1 ∷ 2 ∷ 3 ∷ 4 ∷ [])
 
@@ -132,6 +133,13 @@ choosing = two-branches (3 ∷ 1 ∷ 0 ∷ 4 ∷ 0 ∷ 1 ∷ 5 ∷ 0 ∷ 0 ∷ [
 abbrev pub choosing-back : Table
 choosing-back = two-branches (5 ∷ 0 ∷ 1 ∷ 3 ∷ 1 ∷ 0 ∷ [])
 
+-- The tuple (1, 2) once, and the tuple (2, 1) once: each is the other as rule 2 reads it.
+abbrev pub rising : Table
+rising = one (1 ∷ 2 ∷ []) 1
+
+abbrev pub falling : Table
+falling = one (2 ∷ 1 ∷ []) 1
+
 -- The word 3 once, and the word 4 twice: 1 ÷ (alpha - 3) = 2 ÷ (alpha - 4) at alpha = 2, with every beta.
 abbrev pub low : Table
 low = one (3 ∷ []) 1
@@ -146,12 +154,12 @@ left-table = one (1 ∷ 0 ∷ 0 ∷ []) 1
 abbrev pub right-table : Table
 right-table = one (0 ∷ 0 ∷ 1 ∷ []) 1
 
--- generation and constraints in a field, within the cabinet's limits and by rule 1
-abbrev pub generate-in : ℕ → Generation
-generate-in field = generation-at (choices-of field 1) 1
+-- generation and constraints in a field, within the cabinet's limits and by a rule
+abbrev pub generate-in : ℕ → ℕ → Generation
+generate-in field rule = generation-at (choices-of field 1) rule
 
-abbrev pub constraints-in : ℕ → Verdict
-constraints-in field = verdict-at (choices-of field 1) 1
+abbrev pub constraints-in : ℕ → ℕ → Verdict
+constraints-in field rule = verdict-at (choices-of field 1) rule
 
 abbrev pub limits : Limits
 limits = limits-of 1
@@ -163,55 +171,60 @@ lawful-on field t r =
     && not (eqb (flag-at (prime-of field) t r 0 0) 1 && eqb (flag-at (prime-of field) t r 0 1) 1)
 
 -- generation's answer to a table at a pair of words
-abbrev pub answer-to : ℕ → Table → ℕ → ℕ → Answer
-answer-to field t a b = answer-at (generate-in field) t buffers (lift a) (lift b)
+abbrev pub answer-to : ℕ → ℕ → Table → ℕ → ℕ → Answer
+answer-to field rule t a b = answer-at (generate-in field rule) t buffers (lift a) (lift b)
 
 -- generation accepts both tables at the pair, and the terminals agree there
-abbrev pub agree? : ℕ → Table → Table → ℕ → ℕ → Bool
-agree? field t₁ t₂ a b =
-    accepts (answer-to field t₁ a b) && accepts (answer-to field t₂ a b)
-    && same-list (terminal-words (answer-to field t₁ a b)) (terminal-words (answer-to field t₂ a b))
+abbrev pub agree? : ℕ → ℕ → Table → Table → ℕ → ℕ → Bool
+agree? field rule t₁ t₂ a b =
+    accepts (answer-to field rule t₁ a b) && accepts (answer-to field rule t₂ a b)
+    && same-list (terminal-words (answer-to field rule t₁ a b)) (terminal-words (answer-to field rule t₂ a b))
 
 -- 1 ÷ 2
 abbrev pub half : ℕ → ℕ
 half field = (prime-of field + 1) / 2
 
--- the tuples (1, 2) and (3, 4) with alpha 5 and beta 7: 1 ÷ (5 - 9) + 1 ÷ (5 - 25)
+-- the tuples (1, 2) and (3, 4) with alpha 5 and beta 7: by rule 1 they give 1 ÷ (5 - 9) + 1 ÷ (5 - 25), by rule 2 1 ÷ (5 - 15) + 1 ÷ (5 - 31)
 abbrev pub challenges : List ℕ
 challenges = at-pair forwards (lift 5) (lift 7)
 
 abbrev pub buffer : List ℕ
 buffer = buffers (lift 5) (lift 7)
 
-abbrev pub answer : ℕ → Answer
-answer field = answer-to field forwards 5 7
+abbrev pub answer : ℕ → ℕ → Answer
+answer field rule = answer-to field rule forwards 5 7
 
--- -3 ÷ 10 in each field
-abbrev pub end : ℕ → List ℕ
-end field = lift (cond (eqb field 2) 213070643 603979776)
+-- -3 ÷ 10 and -9 ÷ 65 in each field
+abbrev pub end : ℕ → ℕ → List ℕ
+end field rule = lift (cond (eqb rule 2) (cond (eqb field 2) 917842771 1982292599) (cond (eqb field 2) 213070643 603979776))
 
-abbrev pub words : ℕ → List ℕ
-words field = take (used (forwards .lookups .lookups) 2) (generate-in field forwards challenges buffer .buffer)
+abbrev pub words : ℕ → ℕ → List ℕ
+words field rule = take (used (forwards .lookups .lookups) 2) (generate-in field rule forwards challenges buffer .buffer)
 
-abbrev pub spot : ℕ → ℕ → ℕ → Place
-spot field = place (prime-of field) (w-of field) (forwards .lookups) challenges (values-of (prime-of field) forwards)
+abbrev pub spot : ℕ → ℕ → ℕ → ℕ → Place
+spot field rule = place (prime-of field) (w-of field) (lookups-under rule (forwards .lookups)) challenges (values-of (prime-of field) forwards)
 
 -- on a row no fault, and a denominator that is not zero
-abbrev pub regular-on : ℕ → ℕ → Bool
-regular-on field r =
-    eqb (fault (prime-of field) (w-of field) (spot field r 0)) 0 && not (is-zero (denom (prime-of field) (w-of field) (spot field r 0) 0))
+abbrev pub regular-on : ℕ → ℕ → ℕ → Bool
+regular-on field rule r =
+    eqb (fault (prime-of field) (w-of field) (spot field rule r 0)) 0
+    && not (is-zero (denom (prime-of field) (w-of field) (spot field rule r 0) 0))
 
--- What is computed in a field, table by table. Of two orders of two tuples: they have ledgers, two tuples are met, and at the four pairs of alphas
--- 5, 6 and betas 7, 8 generation accepts both and the terminals agree.
+-- What is computed in a field, table by table. Of two orders of two tuples: they have ledgers, and two tuples are met.
 abbrev pub order-tests : ℕ → List Bool
 order-tests field =
     has-ledger limits (prime-of field) forwards
     ∷ has-ledger limits (prime-of field) backwards
     ∷ eqb (tuples-met (prime-of field) forwards backwards) 2
-    ∷ agree? field forwards backwards 5 7
-    ∷ agree? field forwards backwards 6 7
-    ∷ agree? field forwards backwards 5 8
-    ∷ agree? field forwards backwards 6 8
+    ∷ []
+
+-- by a rule: at the four pairs of alphas 5, 6 and betas 7, 8 generation accepts both and the terminals agree
+abbrev pub order-agree-tests : ℕ → ℕ → List Bool
+order-agree-tests field rule =
+    agree? field rule forwards backwards 5 7
+    ∷ agree? field rule forwards backwards 6 7
+    ∷ agree? field rule forwards backwards 5 8
+    ∷ agree? field rule forwards backwards 6 8
     ∷ []
 
 -- of one entry and none: one tuple is met, and the terminals at alpha 5 and beta 7 are 1 ÷ 2 and 0
@@ -220,10 +233,10 @@ single-tests field =
     has-ledger limits (prime-of field) single
     ∷ has-ledger limits (prime-of field) no-lookup
     ∷ eqb (tuples-met (prime-of field) single no-lookup) 1
-    ∷ accepts (answer-to field single 5 7)
-    ∷ accepts (answer-to field no-lookup 5 7)
-    ∷ same-list (terminal-words (answer-to field single 5 7)) (lift (half field))
-    ∷ same-list (terminal-words (answer-to field no-lookup 5 7)) (lift 0)
+    ∷ accepts (answer-to field 1 single 5 7)
+    ∷ accepts (answer-to field 1 no-lookup 5 7)
+    ∷ same-list (terminal-words (answer-to field 1 single 5 7)) (lift (half field))
+    ∷ same-list (terminal-words (answer-to field 1 no-lookup 5 7)) (lift 0)
     ∷ []
 
 -- of two branches: they have ledgers, and lawful flags on every row
@@ -235,14 +248,23 @@ branch-tests field =
     ∷ every (lawful-on field choosing-back) 2
     ∷ []
 
--- of the trace: generation answers that terminal, the table has lookups and words below p, and both rows are regular
-abbrev pub trace-tests : ℕ → List Bool
-trace-tests field =
-    accepts (answer field)
-    ∷ same-list (terminal-words (answer field)) (end field)
+-- of (1, 2) and (2, 1): the ledgers differ at (1, 2)
+abbrev pub reversed-tests : ℕ → List Bool
+reversed-tests field =
+    has-ledger limits (prime-of field) rising
+    ∷ has-ledger limits (prime-of field) falling
+    ∷ eqb (ledger (prime-of field) rising (1 ∷ 2 ∷ [])) 1
+    ∷ eqb (ledger (prime-of field) falling (1 ∷ 2 ∷ [])) 0
+    ∷ []
+
+-- by a rule, of the trace: generation answers that terminal, the table has lookups and words below p, and both rows are regular
+abbrev pub trace-tests : ℕ → ℕ → List Bool
+trace-tests field rule =
+    accepts (answer field rule)
+    ∷ same-list (terminal-words (answer field rule)) (end field rule)
     ∷ has-lookups (forwards .lookups .lookups)
     ∷ words-below (prime-of field) forwards
-    ∷ every (regular-on field) 2
+    ∷ every (regular-on field rule) 2
     ∷ []
 
 -- of the words 3 and 4: two tuples are met, the ledgers differ at 3, and the terminals at alpha 2 and beta 7 agree
@@ -253,7 +275,7 @@ word-tests field =
     ∷ eqb (tuples-met (prime-of field) low high) 2
     ∷ eqb (ledger (prime-of field) low (3 ∷ [])) 1
     ∷ eqb (ledger (prime-of field) high (3 ∷ [])) 0
-    ∷ same-list (terminal-words (answer-to field low 2 7)) (terminal-words (answer-to field high 2 7))
+    ∷ same-list (terminal-words (answer-to field 1 low 2 7)) (terminal-words (answer-to field 1 high 2 7))
     ∷ []
 
 -- of (1, 0, 0) and (0, 0, 1): two tuples are met, the ledgers differ at (1, 0, 0), and both combine to 1 at beta 1 and at beta p - 1
@@ -270,10 +292,15 @@ triple-tests field =
     ∷ same-list (combine (prime-of field) (w-of field) (lift (prime-of field - 1)) (0 ∷ 0 ∷ 1 ∷ [])) (lift 1)
     ∷ []
 
+-- what is computed by a rule; by each, (1, 2) and (2, 1) combine to 3 at beta 1
+abbrev tests-by : ℕ → ℕ → List Bool
+tests-by field rule =
+    chain true (order-agree-tests field rule) ∷ chain true (trace-tests field rule) ∷ agree? field rule rising falling 5 1 ∷ []
+
 abbrev tests : ℕ → List Bool
 tests field =
-    chain true (order-tests field) ∷ chain true (single-tests field) ∷ chain true (branch-tests field) ∷ chain true (trace-tests field)
-    ∷ chain true (word-tests field) ∷ chain true (triple-tests field) ∷ []
+    chain true (order-tests field) ∷ chain true (single-tests field) ∷ chain true (branch-tests field) ∷ chain true (reversed-tests field)
+    ∷ chain true (word-tests field) ∷ chain true (triple-tests field) ∷ chain true (tests-by field 1) ∷ chain true (tests-by field 2) ∷ []
 
 both-fields : T (chain true (tests 1) && chain true (tests 2))
 unfolding powM addM negM subM mulM inverse1 add4 sub4 mul4 scale4 power4 sum4 conjugate conjugate2 norm2 norm inverse4 is-zero element fold total
@@ -284,7 +311,7 @@ unfolding powM addM negM subM mulM inverse1 add4 sub4 mul4 scale4 power4 sum4 co
     used-denom additive-fraction additive-fault exclusive-fraction exclusive-fault fraction fault fault-refusal place fraction-at row-sum
     accumulator row-words fault-at row-fault trace first-fault used entry-refusal rows-outcome entry-outcome generation count lookup-entries
     row-entries entries same-list post ledger listed met tuples-met has-ledger at-pair known-field prime-of w-of known-choices known-rule limits-of
-    generation-at
+    generation-at reversed elements-under
 both-fields = tt
 
 -- each list of tests, taken apart
@@ -307,11 +334,26 @@ module _ (field : ℕ) (ok : T (known-field field)) where
   pub branch-holds : Passed (branch-tests field)
   branch-holds = each (branch-tests field) (all field ok .1 .1 .0)
 
-  pub trace-holds : Passed (trace-tests field)
-  trace-holds = each (trace-tests field) (all field ok .1 .1 .1 .0)
+  pub reversed-holds : Passed (reversed-tests field)
+  reversed-holds = each (reversed-tests field) (all field ok .1 .1 .1 .0)
 
   pub word-holds : Passed (word-tests field)
   word-holds = each (word-tests field) (all field ok .1 .1 .1 .1 .0)
 
   pub triple-holds : Passed (triple-tests field)
   triple-holds = each (triple-tests field) (all field ok .1 .1 .1 .1 .1 .0)
+
+  module _ (rule : ℕ) (by : T (known-rule rule)) where
+    holds-by : Passed (tests-by field rule)
+    holds-by =
+        by-each-rule (λ (rule : ℕ). Passed (tests-by field rule)) (each (tests-by field 1) (all field ok .1 .1 .1 .1 .1 .1 .0))
+        (each (tests-by field 2) (all field ok .1 .1 .1 .1 .1 .1 .1 .0)) rule by
+
+    pub order-agree-holds : Passed (order-agree-tests field rule)
+    order-agree-holds = each (order-agree-tests field rule) (holds-by .0)
+
+    pub trace-holds : Passed (trace-tests field rule)
+    trace-holds = each (trace-tests field rule) (holds-by .1 .0)
+
+    pub reversed-agree : agree? field rule rising falling 5 1 ≡ true
+    reversed-agree = holds-by .1 .1 .0

@@ -31,10 +31,12 @@ use Rattle.expression.specs.declared.refusal.Refusal.the-variants.{SizeAtOdds, 
 use Rattle.lookup.specs.Lookups.{lookup-count}
 use Rattle.lookup.specs.Table.{Table}
 use Rattle.lookup.specs.Tests.{sizes, words-below, known, lists-agree, in-position, has-lookups, rows-enough}
+use Rattle.logup.specs.Rule.{table-under}
 use Rattle.logup.specs.Rows.{place, fraction-at, row-sum, accumulator, row-words, trace, used, first-fault}
 use Rattle.logup.specs.Constraints.{trace-sizes, trace-words, constraints-refusal, verdict, Regular, IsGenerated}
 use Rattle.logup.specs.Generation.{Outcome, Generation, terminal, written, rows-outcome, entry-outcome, generation, generation-at, accepts, terminal-words}
 use Rattle.logup.specs.Ledger.{Element}
+use Rattle.logup.specs.laws.Rule.{constraints-refusal-under}
 use Rattle.logup.specs.laws.Choices.{generation-known, verdict-known}
 use Rattle.theorems_soundness.specs.Constraints.{Verdict, GeneratedPasses, OnlyGeneratedPasses, ExactlyTheGeneratedPass, KnownConstraints}
 use Rattle.theorems_soundness.specs.laws.Words.{and-of, or-right, all-below-of, append-each, joined-each, element-each}
@@ -246,16 +248,26 @@ module _ (m : Limits) (p w : ℕ) (M : Modulus p) (C : Certificate p w) (t : Tab
             ap (λ (o : Outcome). take (used ls rows) (o .buffer)) outcome-is
             ∙ take-at whole (drop (used ls rows) buffer) (used ls rows) (trace-used p w C (t .lookups) challenges vs rows)
 
--- for every prime and value of X⁴ that make a field
-module _ (m : Limits) (p w : ℕ) (M : Modulus p) (C : Certificate p w) where
-  pub generated-passes : GeneratedPasses m p w (verdict m p w)
-  generated-passes t challenges width words e four regular = verdict-of-generated m p w M C t challenges width words e four regular
+-- under a rule, for every prime and value of X⁴ that make a field: of the table as the rule reads it, in which the tests find the same
+module _ (m : Limits) (p w : ℕ) (M : Modulus p) (C : Certificate p w) (rule : ℕ) where
+  abbrev generation-under : Generation
+  generation-under t = generation m p w (table-under rule t)
 
-  pub only-generated-passes : OnlyGeneratedPasses p w (verdict m p w)
-  only-generated-passes t challenges width words e four regular = generated-of-verdict m p w M C t challenges width words e four regular
+  abbrev verdict-under : Verdict
+  verdict-under t = verdict m p w (table-under rule t)
 
-  pub exactly-the-generated-pass : ExactlyTheGeneratedPass p w (generation m p w) (verdict m p w)
-  exactly-the-generated-pass t challenges buffer accepted lookups regular = exactly m p w M C t challenges buffer accepted lookups regular
+  pub generated-passes : GeneratedPasses m p w rule verdict-under
+  generated-passes t challenges width words e four regular none-refused =
+      verdict-of-generated m p w M C (table-under rule t) challenges width words e four regular
+      (constraints-refusal-under rule m p w t challenges width words (some e) ∙ none-refused)
+
+  pub only-generated-passes : OnlyGeneratedPasses p w rule verdict-under
+  only-generated-passes t challenges width words e four regular =
+      generated-of-verdict m p w M C (table-under rule t) challenges width words e four regular
+
+  pub exactly-the-generated-pass : ExactlyTheGeneratedPass p w rule generation-under verdict-under
+  exactly-the-generated-pass t challenges buffer accepted lookups regular =
+      exactly m p w M C (table-under rule t) challenges buffer accepted lookups regular
 
 -- and so in each field, at the entry points
 pub logup-constraints : KnownConstraints
@@ -265,7 +277,8 @@ logup-constraints c rule k r =
     let w = w-of (c .field) in
     let M = modulus-of (c .field) in
     let C = certificate-of (c .field) in
-    subst (λ (v : Verdict). GeneratedPasses m p w v × OnlyGeneratedPasses p w v × ExactlyTheGeneratedPass p w (generation-at c rule) v)
-    (sym (verdict-known c rule k r))
-    (subst (λ (g : Generation). GeneratedPasses m p w (verdict m p w) × OnlyGeneratedPasses p w (verdict m p w) × ExactlyTheGeneratedPass p w g (verdict m p w))
-    (sym (generation-known c rule k r)) (generated-passes m p w M C, only-generated-passes m p w M C, exactly-the-generated-pass m p w M C))
+    let all : Generation → Verdict → Type 0 =
+    λ g v. GeneratedPasses m p w rule v × OnlyGeneratedPasses p w rule v × ExactlyTheGeneratedPass p w rule g v in
+    subst (all (generation-at c rule)) (sym (verdict-known c rule k r))
+    (subst (λ (g : Generation). all g (verdict-under m p w M C rule)) (sym (generation-known c rule k r))
+    (generated-passes m p w M C rule, only-generated-passes m p w M C rule, exactly-the-generated-pass m p w M C rule))

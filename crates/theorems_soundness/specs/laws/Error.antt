@@ -17,15 +17,17 @@ use Rattle.theorems_logup.specs.laws.Counting.{distinct-map, at-most-by, at-mos
 use Rattle.theorems_logup.specs.laws.Error.{few-agree}
 use Rattle.expression.specs.declared.sizes.Limits.{Limits}
 use Rattle.lookup.specs.Table.{Table}
+use Rattle.logup.specs.Rule.{table-under}
 use Rattle.logup.specs.Generation.{generation}
-use Rattle.logup.specs.Ledger.{has-ledger, Entry, entries, tuples-met}
+use Rattle.logup.specs.Ledger.{has-ledger, Entry, entries, tuples-met, at-pair}
 use Rattle.theorems_soundness.specs.Soundness.{AllWide, Buffers, SameLedger}
-use Rattle.theorems_soundness.specs.Error.{Challenges, Passes, passing-pairs, SoundnessError, KnownSoundnessError, AllPairs}
+use Rattle.theorems_soundness.specs.Error.{Challenges, Passes, AtMostPass, passing-pairs, SoundnessError, KnownSoundnessError, AllPairs}
 use Rattle.theorems_soundness.specs.Entries.{N}
-use Rattle.theorems_soundness.specs.laws.Choices.{of-every-field}
+use Rattle.theorems_soundness.specs.laws.Choices.{UnderEachRule, of-every-field}
 use Rattle.theorems_soundness.specs.laws.Setting.{same-of-el}
 use Rattle.theorems_soundness.specs.laws.Points.{fourth-power, eighth-power, element-pairs, element-pairs-many, element-pairs-distinct, element-pairs-are}
 use Rattle.theorems_soundness.specs.laws.Ledgers.{ledger-is, table-of}
+use Rattle.theorems_soundness.specs.laws.Rule.{met-under, same-ledger-under, comparable-under}
 use Rattle.theorems_soundness.specs.laws.Soundness.{met-count, words-of, fits-of, sums}
 
 -- how many elements the field has
@@ -107,6 +109,17 @@ pub soundness-error : (m : Limits) (p w : ℕ) → Modulus p → Certificate p w
 soundness-error m p w M C t₁ t₂ bus width pairs buffers₁ buffers₂ c differ =
     bounded m p w M C t₁ t₂ width buffers₁ buffers₂ (c .ledger₁) (c .ledger₂) (c .wide₁) (c .wide₂) differ pairs
 
+-- two tables pass under a rule exactly where they pass as the rule reads them, so whatever the bound, it is the same
+pub at-most-under : (bound : ℕ → ℕ → ℕ → ℕ) → UnderEachRule (λ m p g. AtMostPass m p g (bound p))
+unfolding at-pair
+at-most-under bound m p g rule few t₁ t₂ bus width pairs buffers₁ buffers₂ c differ dist pass =
+    subst (λ (n : ℕ). length pairs ≤ bound p width n) (met-under rule p t₁ t₂)
+    (few (table-under rule t₁) (table-under rule t₂) bus width pairs buffers₁ buffers₂ (comparable-under rule c)
+    (λ same. differ (same-ledger-under rule p width t₁ t₂ .0 same)) dist
+    (λ d k.
+    let q = pass d k in
+    record { challenges = q .challenges; accepted₁ = q .accepted₁; accepted₂ = q .accepted₂; agree = q .agree }))
+
 -- and so in each field, at the entry point
 pub logup-soundness-error : KnownSoundnessError
-logup-soundness-error = of-every-field SoundnessError soundness-error
+logup-soundness-error = of-every-field SoundnessError (at-most-under passing-pairs) soundness-error

@@ -1,4 +1,5 @@
--- The theorem of SPECIFICATION, section 9.3, at work in each field: small tables meet its hypotheses, and those under which full sets exist.
+-- The theorem of SPECIFICATION, section 9.3, at work in each field and under each rule: small tables meet its hypotheses, and those under which
+-- full sets exist.
 use Prim.Native.Nat.{ℕ, zero, suc, _/_, _<_, _≤_}
 use mathlib.Core.Path.{_≡_, refl, sym, ap, _∙_, subst}
 use mathlib.Core.Logic.{_≢_, _↔_, ⊎-elim}
@@ -16,7 +17,7 @@ use Rattle.field.specs.Element.{at, lift}
 use Rattle.field.specs.Known.{babybear, known-field, prime-of}
 use Rattle.theorems_logup.specs.Distinct.{Distinct}
 use Rattle.theorems_logup.specs.Sets.{Pairing}
-use Rattle.expression.specs.Choices.{choices-of}
+use Rattle.expression.specs.Choices.{choices-of, known-rule}
 use Rattle.lookup.specs.Lookups.{exclusive, tuple-count, lookup-at, name-start, tuple-start, tuple-width}
 use Rattle.lookup.specs.Table.{Table}
 use Rattle.logup.specs.Rows.{used}
@@ -29,7 +30,7 @@ use Rattle.theorems_soundness.specs.FullSets.{LongEnough}
 use Rattle.theorems_soundness.specs.laws.Choices.{prime-least, known-of, rule-1}
 use Rattle.theorems_soundness.specs.laws.Soundness.{logup-soundness}
 use Rattle.theorems_soundness.specs.laws.FullSets.{logup-full-sets}
-use Rattle.theorems_soundness.specs.laws.Cases.{two-columns, two-branches, m-bus, buffers, forwards, backwards, single, choosing, choosing-back, generate-in, limits, lawful-on, half, answer-to, agree?, order-holds, single-holds, branch-holds}
+use Rattle.theorems_soundness.specs.laws.Cases.{two-columns, two-branches, m-bus, buffers, forwards, backwards, single, choosing, choosing-back, generate-in, limits, lawful-on, half, answer-to, agree?, order-holds, order-agree-holds, single-holds, branch-holds}
 
 columns-on-bus : (main : List ℕ) → OnBus m-bus (two-columns main)
 unfolding lookup-at name-start total
@@ -47,7 +48,7 @@ unfolding lookup-at name-start total
 branches-on-bus main zero l = (refl, refl)
 branches-on-bus main (suc i) l = absurd (omega arith)
 
-branches-wide : (main : List ℕ) → AllWide 1 (two-branches main)
+branches-wide : (main : List ℕ) → AllWide 2 (two-branches main)
 unfolding tuple-width tuple-start total
 branches-wide main zero zero l k = refl
 branches-wide main zero (suc zero) l k = refl
@@ -55,12 +56,12 @@ branches-wide main zero (suc (suc k)) l q = absurd (omega arith)
 branches-wide main (suc i) k l q = absurd (omega arith)
 
 -- a word as an element, where the prime is no less than babybear
-lifted : (p : ℕ) → babybear ≤ p → (a : ℕ) → a < babybear → Element p (lift a)
+pub lifted : (p : ℕ) → babybear ≤ p → (a : ℕ) → a < babybear → Element p (lift a)
 lifted p lp a l = record { four = refl; below = record { w0 = lt-of-lt-of-le l lp; w1 = omega arith; w2 = omega arith; w3 = omega arith } }
 
 -- lists of two
 module _ {A : Type 0} where
-  of-two : (P : A → Type 0) {a b : A} → P a → P b → (x : A) → List·Memᴰ x (a ∷ b ∷ []) → P x
+  pub of-two : (P : A → Type 0) {a b : A} → P a → P b → (x : A) → List·Memᴰ x (a ∷ b ∷ []) → P x
   of-two P pa pb x m =
       ⊎-elim (λ e. subst P (sym e) pa) (λ k. subst P (sym (List·Memᴰ·eq-of-singleton k)) pb) (List·Memᴰ·cases-cons m)
 
@@ -100,35 +101,36 @@ at-four P a b c d =
     (of-two (λ (x : List ℕ). P x (lift 8)) c d)
 
 -- what the test of two tables at a pair says
-record AgreeSo (field : ℕ) (t₁ t₂ : Table) (a b : ℕ) : Type 0 where
-  accepted₁ : AcceptedAt (generate-in field) t₁ buffers (lift a) (lift b)
-  accepted₂ : AcceptedAt (generate-in field) t₂ buffers (lift a) (lift b)
-  agree : AgreeAt (generate-in field) t₁ t₂ buffers buffers (lift a) (lift b)
+pub record AgreeSo (field rule : ℕ) (t₁ t₂ : Table) (a b : ℕ) : Type 0 where
+  pub accepted₁ : AcceptedAt (generate-in field rule) t₁ buffers (lift a) (lift b)
+  pub accepted₂ : AcceptedAt (generate-in field rule) t₂ buffers (lift a) (lift b)
+  pub agree : AgreeAt (generate-in field rule) t₁ t₂ buffers buffers (lift a) (lift b)
 
-agree-so : (field : ℕ) (t₁ t₂ : Table) (a b : ℕ) → agree? field t₁ t₂ a b ≡ true → AgreeSo field t₁ t₂ a b
-agree-so field t₁ t₂ a b e =
-    let x₁ = accepts (answer-to field t₁ a b) in
-    let x₂ = accepts (answer-to field t₂ a b) in
-    let x₃ = same-list (terminal-words (answer-to field t₁ a b)) (terminal-words (answer-to field t₂ a b)) in
+pub agree-so : (field rule : ℕ) (t₁ t₂ : Table) (a b : ℕ) → agree? field rule t₁ t₂ a b ≡ true → AgreeSo field rule t₁ t₂ a b
+agree-so field rule t₁ t₂ a b e =
+    let x₁ = accepts (answer-to field rule t₁ a b) in
+    let x₂ = accepts (answer-to field rule t₂ a b) in
+    let x₃ = same-list (terminal-words (answer-to field rule t₁ a b)) (terminal-words (answer-to field rule t₂ a b)) in
     record {
       accepted₁ = and-left x₁ x₂ (and-left (x₁ && x₂) x₃ (of-true e));
       accepted₂ = and-right x₁ x₂ (and-left (x₁ && x₂) x₃ (of-true e));
       agree = same-list-eq _ _ (true-of x₃ (and-right (x₁ && x₂) x₃ (of-true e)));
     }
 
--- the theorem in a known field, within the cabinet's limits and by rule 1
-soundness-in : (field : ℕ) → T (known-field field) → LogUpSoundness limits (prime-of field) (generate-in field)
-soundness-in field ok = logup-soundness (choices-of field 1) 1 (known-of field ok) rule-1
+-- the theorem in a known field and by a known rule, within the cabinet's limits
+pub soundness-in : (field : ℕ) → T (known-field field) → (rule : ℕ) → T (known-rule rule) → LogUpSoundness limits (prime-of field) (generate-in field rule)
+soundness-in field ok rule by = logup-soundness (choices-of field 1) rule (known-of field ok) by
 
 -- The terminals agree at every pair of a full set, so the ledgers are equal: two tuples of two words, at four pairs.
-pub order-is-no-matter : (field : ℕ) → T (known-field field) → SameLedger (prime-of field) 2 forwards backwards
-order-is-no-matter field ok =
+pub order-is-no-matter : (field : ℕ) → T (known-field field) → (rule : ℕ) → T (known-rule rule) → SameLedger (prime-of field) 2 forwards backwards
+order-is-no-matter field ok rule by =
     let k = order-holds field ok in
-    let a57 = agree-so field forwards backwards 5 7 (k .1 .1 .1 .0) in
-    let a67 = agree-so field forwards backwards 6 7 (k .1 .1 .1 .1 .0) in
-    let a58 = agree-so field forwards backwards 5 8 (k .1 .1 .1 .1 .1 .0) in
-    let a68 = agree-so field forwards backwards 6 8 (k .1 .1 .1 .1 .1 .1 .0) in
-    soundness-in field ok forwards backwards m-bus 2 four-pairs buffers buffers
+    let q = order-agree-holds field ok rule by in
+    let a57 = agree-so field rule forwards backwards 5 7 (q .0) in
+    let a67 = agree-so field rule forwards backwards 6 7 (q .1 .0) in
+    let a58 = agree-so field rule forwards backwards 5 8 (q .1 .1 .0) in
+    let a68 = agree-so field rule forwards backwards 6 8 (q .1 .1 .1 .0) in
+    soundness-in field ok rule by forwards backwards m-bus 2 four-pairs buffers buffers
     (record {
       some-words = lit≤ tt;
       on-bus₁ = columns-on-bus (1 ∷ 2 ∷ 3 ∷ 4 ∷ []);
@@ -140,10 +142,10 @@ order-is-no-matter field ok =
     })
     (subst (λ (n : ℕ). FullSet (prime-of field) 2 n four-pairs) (sym (eq-of-eqb (tuples-met (prime-of field) forwards backwards) 2 (k .1 .1 .0)))
     (four-full (prime-of field) (prime-least field)))
-    (at-four (AcceptedAt (generate-in field) forwards buffers) (a57 .accepted₁) (a67 .accepted₁) (a58 .accepted₁) (a68 .accepted₁))
-    (at-four (AcceptedAt (generate-in field) backwards buffers) (a57 .accepted₂) (a67 .accepted₂) (a58 .accepted₂) (a68 .accepted₂))
+    (at-four (AcceptedAt (generate-in field rule) forwards buffers) (a57 .accepted₁) (a67 .accepted₁) (a58 .accepted₁) (a68 .accepted₁))
+    (at-four (AcceptedAt (generate-in field rule) backwards buffers) (a57 .accepted₂) (a67 .accepted₂) (a58 .accepted₂) (a68 .accepted₂))
     .1
-    (at-four (AgreeAt (generate-in field) forwards backwards buffers buffers) (a57 .agree) (a67 .agree) (a58 .agree) (a68 .agree))
+    (at-four (AgreeAt (generate-in field rule) forwards backwards buffers buffers) (a57 .agree) (a67 .agree) (a58 .agree) (a68 .agree))
 
 single-on-bus : OnBus m-bus single
 unfolding lookup-at name-start total joined
@@ -168,7 +170,7 @@ none-wide i k l = absurd (omega arith)
 abbrev pub one-pair : List (Pairing (List ℕ))
 one-pair = record { beta = lift 7; alphas = lift 5 ∷ [] } ∷ []
 
-of-one : {A : Type 0} (P : A → Type 0) {a : A} → P a → (x : A) → List·Memᴰ x (a ∷ []) → P x
+pub of-one : {A : Type 0} (P : A → Type 0) {a : A} → P a → (x : A) → List·Memᴰ x (a ∷ []) → P x
 of-one P pa x m = subst P (sym (List·Memᴰ·eq-of-singleton m)) pa
 
 pub one-full : (p : ℕ) → babybear ≤ p → FullSet p 1 1 one-pair
@@ -193,7 +195,7 @@ pub told-apart : (field : ℕ) → T (known-field field) → SameLedger (prime-o
 told-apart field ok same =
     let k = single-holds field ok in
     let agree =
-    soundness-in field ok single no-lookup m-bus 1 one-pair buffers buffers
+    soundness-in field ok 1 rule-1 single no-lookup m-bus 1 one-pair buffers buffers
     (record {
       some-words = lit≤ tt;
       on-bus₁ = single-on-bus;
@@ -205,15 +207,15 @@ told-apart field ok same =
     })
     (subst (λ (n : ℕ). FullSet (prime-of field) 1 n one-pair) (sym (eq-of-eqb (tuples-met (prime-of field) single no-lookup) 1 (k .1 .1 .0)))
     (one-full (prime-of field) (prime-least field)))
-    (at-one (AcceptedAt (generate-in field) single buffers) (of-true (k .1 .1 .1 .0)))
-    (at-one (AcceptedAt (generate-in field) no-lookup buffers) (of-true (k .1 .1 .1 .1 .0)))
+    (at-one (AcceptedAt (generate-in field 1) single buffers) (of-true (k .1 .1 .1 .0)))
+    (at-one (AcceptedAt (generate-in field 1) no-lookup buffers) (of-true (k .1 .1 .1 .1 .0)))
     .0 same _ (List·Memᴰ·head refl) (lift 5) (List·Memᴰ·head refl) in
     let z : half field ≡ 0 = ap (λ (l : List ℕ). at l 0)
     (sym (same-list-eq _ _ (k .1 .1 .1 .1 .1 .0)) ∙ agree ∙ same-list-eq _ _ (k .1 .1 .1 .1 .1 .1 .0)) in
     omega (arith, prime-least field)
 
 -- Both tables must be of one field: at that pair one and the same table has another terminal in the other field.
-pub not-across-fields : terminal-words (answer-to 1 single 5 7) ≢ terminal-words (answer-to 2 single 5 7)
+pub not-across-fields : terminal-words (answer-to 1 1 single 5 7) ≢ terminal-words (answer-to 2 1 single 5 7)
 unfolding known-field prime-of
 not-across-fields e =
     let one = same-list-eq _ _ (single-holds 1 tt .1 .1 .1 .1 .1 .0) in
@@ -282,17 +284,17 @@ unfolding used
 room-back a b = lit≤ tt
 
 -- A full set exists for two tables with lawful flags, and at its pairs the theorem says whether their ledgers are equal.
-pub branches-compared : (field : ℕ) → T (known-field field)
+pub branches-compared : (field : ℕ) → T (known-field field) → (rule : ℕ) → T (known-rule rule)
     → (set : List (Pairing (List ℕ)))
-    × (SameLedger (prime-of field) 1 choosing choosing-back ↔ AtEachPair set (AgreeAt (generate-in field) choosing choosing-back buffers buffers))
-branches-compared field ok =
+    × (SameLedger (prime-of field) 2 choosing choosing-back ↔ AtEachPair set (AgreeAt (generate-in field rule) choosing choosing-back buffers buffers))
+branches-compared field ok rule by =
     let k = branch-holds field ok in
     let (set, full, accepted₁, accepted₂) =
-    logup-full-sets (choices-of field 1) 1 (known-of field ok) rule-1 choosing choosing-back 1 buffers buffers (lit≤ tt) (of-true (k .0)) (of-true (k .1 .0))
+    logup-full-sets (choices-of field 1) rule (known-of field ok) by choosing choosing-back 2 buffers buffers (lit≤ tt) (of-true (k .0)) (of-true (k .1 .0))
     (lawful field (3 ∷ 1 ∷ 0 ∷ 4 ∷ 0 ∷ 1 ∷ 5 ∷ 0 ∷ 0 ∷ []) (of-true (k .1 .1 .0))) (lawful field (5 ∷ 0 ∷ 1 ∷ 3 ∷ 1 ∷ 0 ∷ []) (of-true (k .1 .1 .1 .0)))
     room room-back in (
       set,
-      soundness-in field ok choosing choosing-back m-bus 1 set buffers buffers
+      soundness-in field ok rule by choosing choosing-back m-bus 2 set buffers buffers
           (record {
             some-words = lit≤ tt;
             on-bus₁ = branches-on-bus (3 ∷ 1 ∷ 0 ∷ 4 ∷ 0 ∷ 1 ∷ 5 ∷ 0 ∷ 0 ∷ []);

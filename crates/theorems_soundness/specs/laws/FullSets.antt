@@ -26,17 +26,20 @@ use Rattle.expression.specs.laws.Tested.{limits-sane}
 use Rattle.expression.specs.Tests.{traces-within}
 use Rattle.expression.specs.Values.{row-values}
 use Rattle.expression.specs.declared.sizes.Limits.{Limits}
-use Rattle.lookup.specs.Lookups.{lookup-count, tuple-count, tuple-start}
+use Rattle.lookup.specs.Lookups.{lookup-count, tuple-count, tuple-start, flag-node}
 use Rattle.lookup.specs.Table.{Table}
 use Rattle.lookup.specs.Tests.{lookups-within, lookups-fit, sizes}
 use Rattle.logup.specs.Tuple.{combine}
+use Rattle.logup.specs.Rule.{table-under}
 use Rattle.logup.specs.Generation.{generation}
-use Rattle.logup.specs.Ledger.{has-ledger, Entry, Element, entry, lookup-entries, row-entries, entries, met, listed, tuples-met}
+use Rattle.logup.specs.Ledger.{has-ledger, Entry, Element, entry, lookup-entries, row-entries, entries, met, listed, tuples-met, at-pair}
+use Rattle.logup.specs.laws.Rule.{ledger-under}
 use Rattle.theorems_soundness.specs.Soundness.{FullSet, Buffers, AcceptedAt, AtEachPair}
 use Rattle.theorems_soundness.specs.FullSets.{LongEnough, FullSetsExist, KnownFullSets}
 use Rattle.theorems_soundness.specs.Lawful.{LawfulFlags}
-use Rattle.theorems_soundness.specs.laws.Choices.{prime-least, at-known}
+use Rattle.theorems_soundness.specs.laws.Choices.{prime-least, UnderEachRule, at-known}
 use Rattle.theorems_soundness.specs.laws.Points.{elements, elements-many, elements-distinct, elements-are}
+use Rattle.theorems_soundness.specs.laws.Rule.{met-under}
 use Rattle.theorems_soundness.specs.laws.Entered.{ledgered}
 use Rattle.theorems_soundness.specs.laws.Accepts.{accepts-at}
 
@@ -148,8 +151,21 @@ full-sets-exist m p w g C lp t₁ t₂ width buffers₁ buffers₂ lw ok₁ ok�
     full-set-exists m p w C t₁ t₂ width buffers₁ buffers₂ ok₁ ok₂ flags₁ flags₂ room₁ room₂
     (omega arith) (betas-few p width (tuples-met p t₁ t₂) lp lw few)
 
+-- a full set for two tables as a rule reads them is one for the lent tables
+lawful-under : (rule p : ℕ) (t : Table) → LawfulFlags p t → LawfulFlags p (table-under rule t)
+unfolding flag-node
+lawful-under rule p t f = record { binary = f .binary; one = f .one }
+
+full-sets-under : UnderEachRule FullSetsExist
+unfolding at-pair
+full-sets-under m p g rule exist t₁ t₂ width buffers₁ buffers₂ lw ok₁ ok₂ flags₁ flags₂ room₁ room₂ =
+    let (set, full, acc₁, acc₂) =
+    exist (table-under rule t₁) (table-under rule t₂) width buffers₁ buffers₂ lw (subst T (sym (ledger-under rule m p t₁)) ok₁)
+    (subst T (sym (ledger-under rule m p t₂)) ok₂) (lawful-under rule p t₁ flags₁) (lawful-under rule p t₂ flags₂) room₁ room₂ in
+    (set, subst (λ (n : ℕ). FullSet p width n set) (met-under rule p t₁ t₂) full, acc₁, acc₂)
+
 -- and so in each field, at the entry point
 pub logup-full-sets : KnownFullSets
 logup-full-sets =
-    at-known FullSetsExist
+    at-known FullSetsExist full-sets-under
     (λ c k. full-sets-exist (limits-of (c .profile)) (prime-of (c .field)) (w-of (c .field)) (limits-sane (c .profile)) (certificate-of (c .field)) (prime-least (c .field)))

@@ -31,10 +31,9 @@ use Rattle.lookup.specs.Lookups.{tuple-start, multiplicity-start, element-start
 use Rattle.logup.specs.Tuple.{tuple, combine}
 use Rattle.logup.specs.Generation.{Generation, generation}
 use Rattle.logup.specs.Ledger.{Element, count, lookup-entries, row-entries, entries, ledger, tuples-met}
-use Rattle.logup.specs.laws.Choices.{generation-known}
 use Rattle.theorems_soundness.specs.Soundness.{Comparable, SameLedger, AgreeAt}
 use Rattle.theorems_soundness.specs.Error.{Passes, passing-pairs, AtMostPass}
-use Rattle.theorems_soundness.specs.laws.Choices.{prime-least, known-of, rule-1}
+use Rattle.theorems_soundness.specs.laws.Choices.{prime-least, known-of, rule-1, generation-by-rule-1}
 use Rattle.theorems_soundness.specs.laws.Elements.{element-lift}
 use Rattle.theorems_soundness.specs.laws.Error.{logup-soundness-error}
 use Rattle.theorems_soundness.specs.laws.OneIn2To67.{logup-error}
@@ -95,8 +94,8 @@ module _ (field : ℕ) (ok : T (known-field field)) where
   many-elements : 2 < p ^ 4
   many-elements = subst (λ (n : ℕ). 2 < n) (fourth-power p) (lt-of-lt-of-le (lit< tt) (fourth-least p (prime-least field)))
 
-  is-generation : generate-in field ≡ generation limits p w
-  is-generation = generation-known (choices-of field 1) 1 (known-of field ok) rule-1
+  is-generation : generate-in field 1 ≡ generation limits p w
+  is-generation = generation-by-rule-1 (choices-of field 1) (known-of field ok)
 
   three-alone : (b : List ℕ) → lift 2 ≢ combine p w b (3 ∷ [])
   three-alone b e =
@@ -123,7 +122,7 @@ module _ (field : ℕ) (ok : T (known-field field)) where
       ∙ terminal-is limits p w M C (4 ∷ []) 2 (of-true (k .1 .0)) (high-is p) (lift 2) (lift 7) two seven (four-alone (lift 7))
       ∙ one-word limits p w M C 4 2 (lift 2) (lift 7) b
 
-  passes-every-beta : (b : List ℕ) → Element p b → Passes p (generate-in field) low high buffers buffers (record { alpha = lift 2; beta = b })
+  passes-every-beta : (b : List ℕ) → Element p b → Passes p (generate-in field 1) low high buffers buffers (record { alpha = lift 2; beta = b })
   passes-every-beta b eb =
       let k = word-holds field ok in
       subst (λ (g : Generation). Passes p g low high buffers buffers (record { alpha = lift 2; beta = b })) (sym is-generation)
@@ -146,7 +145,7 @@ module _ (field : ℕ) (ok : T (known-field field)) where
 
   -- As many pairs as the bound has: no smaller one holds.
   pub attained : (pairs : List (Pair (List ℕ))) × Distinct pairs
-      × ((c : Pair (List ℕ)) → List·Memᴰ c pairs → Passes p (generate-in field) low high buffers buffers c)
+      × ((c : Pair (List ℕ)) → List·Memᴰ c pairs → Passes p (generate-in field 1) low high buffers buffers c)
       × (length pairs ≡ passing-pairs p 1 (tuples-met p low high))
   attained = (
     map (λ (b : List ℕ). record { alpha = lift 2; beta = b }) (elements p pos),
@@ -154,14 +153,14 @@ module _ (field : ℕ) (ok : T (known-field field)) where
         (elements-distinct p pos),
     λ c k.
         let (b, m, at) = Memᴰ·of-map (λ (b : List ℕ). record { alpha = lift 2; beta = b }) (elements p pos) k in
-        subst (Passes p (generate-in field) low high buffers buffers) at (passes-every-beta b (elements-are p pos b m)),
+        subst (Passes p (generate-in field 1) low high buffers buffers) at (passes-every-beta b (elements-are p pos b m)),
     length-map (elements p pos) (λ (b : List ℕ). record { alpha = lift 2; beta = b }) ∙ elements-many p pos ∙ fourth-power p ∙ sym (mul-one (p ^ 4))
         ∙ ap (passing-pairs p 1) (sym two-met),
   )
 
   -- and no list of pairs that pass is longer
   pub no-more-pass : (pairs : List (Pair (List ℕ))) → Distinct pairs
-      → ((c : Pair (List ℕ)) → List·Memᴰ c pairs → Passes p (generate-in field) low high buffers buffers c) → length pairs ≤ length (attained .0)
+      → ((c : Pair (List ℕ)) → List·Memᴰ c pairs → Passes p (generate-in field 1) low high buffers buffers c) → length pairs ≤ length (attained .0)
   no-more-pass pairs dist pass =
       subst (λ (n : ℕ). length pairs ≤ n) (sym (attained .3))
       (logup-soundness-error (choices-of field 1) 1 (known-of field ok) rule-1 low high m-bus 1 pairs buffers buffers both-tables ledgers-differ dist pass)
@@ -173,7 +172,7 @@ module _ (field : ℕ) (ok : T (known-field field)) where
       (attained .1) (attained .2)
 
   -- so n - 2 for n - 1 is too few
-  pub not-one-alpha-less : ¬ AtMostPass limits p (generate-in field) (λ width n. p ^ 4 * ((width - 1) * n * (n - 1) / 2 + (n - 2)))
+  pub not-one-alpha-less : ¬ AtMostPass limits p (generate-in field 1) (λ width n. p ^ 4 * ((width - 1) * n * (n - 1) / 2 + (n - 2)))
   not-one-alpha-less claim =
       let (pairs, dist, pass, many) = attained in
       none-pass (p ^ 4) (length pairs) many-elements (many ∙ ap (passing-pairs p 1) two-met)
@@ -182,7 +181,7 @@ module _ (field : ℕ) (ok : T (known-field field)) where
 
   passes-nearly-every-alpha : (b : ℕ) → b < p → combine p w (lift b) (1 ∷ 0 ∷ 0 ∷ []) ≡ lift 1 → combine p w (lift b) (0 ∷ 0 ∷ 1 ∷ []) ≡ lift 1
       → (a : List ℕ) → Element p a → a ≢ lift 1
-      → Passes p (generate-in field) left-table right-table buffers buffers (record { alpha = a; beta = lift b })
+      → Passes p (generate-in field 1) left-table right-table buffers buffers (record { alpha = a; beta = lift b })
   passes-nearly-every-alpha b lb e₁ e₂ a ea n =
       let k = triple-holds field ok in
       subst (λ (g : Generation). Passes p g left-table right-table buffers buffers (record { alpha = a; beta = lift b })) (sym is-generation)
@@ -228,7 +227,7 @@ module _ (field : ℕ) (ok : T (known-field field)) where
         one-beta : (b : List ℕ) → Distinct (map (with-beta b) l)
         one-beta b = distinct-map (with-beta b) l (λ x y _ _ e. ap (λ (c : Pair (List ℕ)). c .alpha) e) (f .distinct)
 
-    both-pass : (c : Pair (List ℕ)) → List·Memᴰ c both-betas → Passes p (generate-in field) left-table right-table buffers buffers c
+    both-pass : (c : Pair (List ℕ)) → List·Memᴰ c both-betas → Passes p (generate-in field 1) left-table right-table buffers buffers c
     both-pass c m =
         let k = triple-holds field ok in
         ⊎-elim (one-beta 1 (below 1 (lit< tt)) (same-list-eq _ _ (k .1 .1 .1 .1 .1 .0)) (same-list-eq _ _ (k .1 .1 .1 .1 .1 .1 .0)))
@@ -237,13 +236,13 @@ module _ (field : ℕ) (ok : T (known-field field)) where
       where
         one-beta : (b : ℕ) → b < p → combine p w (lift b) (1 ∷ 0 ∷ 0 ∷ []) ≡ lift 1
             → combine p w (lift b) (0 ∷ 0 ∷ 1 ∷ []) ≡ lift 1 → List·Memᴰ c (map (with-beta (lift b)) l)
-            → Passes p (generate-in field) left-table right-table buffers buffers c
+            → Passes p (generate-in field 1) left-table right-table buffers buffers c
         one-beta b lb e₁ e₂ k =
             let (a, ma, is) = Memᴰ·of-map (with-beta (lift b)) l k in
-            subst (Passes p (generate-in field) left-table right-table buffers buffers) is
+            subst (Passes p (generate-in field 1) left-table right-table buffers buffers) is
             (passes-nearly-every-alpha b lb e₁ e₂ a (elements-are p pos a (f .within a ma)) (f .good a ma (lift 1) (List·Memᴰ·head refl)))
 
-    refuted : ¬ AtMostPass limits p (generate-in field) (λ width n. p ^ 4 * (n - 1))
+    refuted : ¬ AtMostPass limits p (generate-in field 1) (λ width n. p ^ 4 * (n - 1))
     refuted claim =
         too-many (p ^ 4) (length l) many-elements (subst (λ (n : ℕ). n ≤ length l + 1 * 1) (elements-many p pos ∙ fourth-power p) (f .many))
         (subst (λ (n : ℕ). n ≤ p ^ 4 * 1)
@@ -253,7 +252,7 @@ module _ (field : ℕ) (ok : T (known-field field)) where
         (claim left-table right-table m-bus 3 both-betas buffers buffers both-wide wide-ledgers-differ both-distinct both-pass)))
 
   -- so the betas that combine two tuples to one value are not to be left out
-  pub not-without-betas : ¬ AtMostPass limits p (generate-in field) (λ width n. p ^ 4 * (n - 1))
+  pub not-without-betas : ¬ AtMostPass limits p (generate-in field 1) (λ width n. p ^ 4 * (n - 1))
   not-without-betas =
       let (l, f) = left (λ (b a : List ℕ). a ≡ b) (λ b a. List-discrete ℕ-discrete a b) 1 (lift 1 ∷ []) (elements p pos) (λ b _ xs d all. one-only b xs d all)
       (elements-distinct p pos) in

@@ -57,7 +57,7 @@ comparable m p es₁ es₂ c₁ c₂ same some ok₁ ok₂ =
       ledger₂ = ok₂;
     }
 
-no-flags : (p : ℕ) (es : List ℕ) (c : ℕ) → LawfulFlags p (one es c)
+pub no-flags : (p : ℕ) (es : List ℕ) (c : ℕ) → LawfulFlags p (one es c)
 no-flags p es c = record { binary = binary; one = only }
   where
     not-exclusive : (i : ℕ) → i < 1 → exclusive (one es c .lookups .lookups) i ≡ true → ⊥
@@ -73,7 +73,7 @@ no-flags p es c = record { binary = binary; one = only }
         → flag-at p (one es c) r i j ≡ 1 → flag-at p (one es c) r i k ≡ 1 → j ≡ k
     only r i j k lr li ex = absurd (not-exclusive i li ex)
 
-room : (es : List ℕ) (c : ℕ) → used (one es c .lookups .lookups) 1 ≤ 24
+pub room : (es : List ℕ) (c : ℕ) → used (one es c .lookups .lookups) 1 ≤ 24
 unfolding used
 room es c = lit≤ tt
 

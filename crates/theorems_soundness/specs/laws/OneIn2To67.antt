@@ -32,7 +32,7 @@ use Rattle.theorems_soundness.specs.laws.Points.{fourth-power, eighth-po
 use Rattle.theorems_soundness.specs.laws.Ledgers.{whence}
 use Rattle.theorems_soundness.specs.laws.Soundness.{met-count}
 use Rattle.theorems_soundness.specs.laws.Entered.{ledgered}
-use Rattle.theorems_soundness.specs.laws.Error.{soundness-error}
+use Rattle.theorems_soundness.specs.laws.Error.{soundness-error, at-most-under}
 use Rattle.theorems_soundness.specs.laws.FullSets.{fourth-least, met-few}
 
 -- 8 words a tuple at most, if there is one
@@ -93,5 +93,5 @@ error-low m p w g M C lp t₁ t₂ bus width pairs buffers₁ buffers₂ c diffe
 -- and so in each known one, at the entry point
 pub logup-error : KnownError
 logup-error =
-    at-known OneIn2To67
+    at-known OneIn2To67 (at-most-under (λ p width n. p ^ 8 / 2 ^ 67))
     (λ c k. error-low (limits-of (c .profile)) (prime-of (c .field)) (w-of (c .field)) (limits-sane (c .profile)) (modulus-of (c .field)) (certificate-of (c .field)) (prime-least (c .field)))

@@ -19,15 +19,17 @@ use Rattle.expression.specs.declared.sizes.Limits.{Limits}
 use Rattle.lookup.specs.Table.{Table}
 use Rattle.lookup.specs.Tests.{words-below}
 use Rattle.lookup.specs.Requires.{Fitting}
+use Rattle.logup.specs.Rule.{table-under}
 use Rattle.logup.specs.Generation.{generation}
 use Rattle.logup.specs.Ledger.{has-ledger, Entry, entries, tuples-met, Element, Listed, at-pair}
 use Rattle.theorems_soundness.specs.Soundness.{FullSet, AllWide, Buffers, answer-at, AcceptedAt, AgreeAt, AtEachPair, TerminalsDetermineLedgers, LogUpSoundness, KnownSoundness}
 use Rattle.theorems_soundness.specs.Entries.{N}
-use Rattle.theorems_soundness.specs.laws.Choices.{of-every-field}
+use Rattle.theorems_soundness.specs.laws.Choices.{UnderEachRule, of-every-field}
 use Rattle.theorems_soundness.specs.laws.Setting.{same-of-el}
 use Rattle.theorems_soundness.specs.laws.Pairs.{in-field, each-pair, full}
 use Rattle.theorems_soundness.specs.laws.Values.{fitting-of}
 use Rattle.theorems_soundness.specs.laws.Ledgers.{ledger-is, met-is, table-of}
+use Rattle.theorems_soundness.specs.laws.Rule.{met-under, same-ledger-under, comparable-under}
 use Rattle.theorems_soundness.specs.laws.Entered.{ledgered}
 use Rattle.theorems_soundness.specs.laws.Answers.{accepted-of}
 use Rattle.theorems_soundness.specs.laws.Terminals.{Sums, sums-of}
@@ -150,6 +152,16 @@ pub terminals-determine-ledgers : (m : Limits) (p w : ℕ) → Modulus p → Cer
 terminals-determine-ledgers m p w M C t₁ t₂ bus width set buffers₁ buffers₂ c =
     balanced m p w M C t₁ t₂ width set buffers₁ buffers₂ (c .wide₁) (c .wide₂) (c .ledger₁) (c .ledger₂)
 
+-- under a rule it is this of the tables as the rule reads them: their ledgers are equal exactly where the lent tables' are
+soundness-under : UnderEachRule LogUpSoundness
+unfolding at-pair
+soundness-under m p g rule sound t₁ t₂ bus width set buffers₁ buffers₂ c f acc₁ acc₂ =
+    let same = same-ledger-under rule p width t₁ t₂ in
+    let both =
+    sound (table-under rule t₁) (table-under rule t₂) bus width set buffers₁ buffers₂ (comparable-under rule c)
+    (subst (λ (n : ℕ). FullSet p width n set) (sym (met-under rule p t₁ t₂)) f) acc₁ acc₂ in
+    (λ equal. both .0 (same .1 equal), λ agree. same .0 (both .1 agree))
+
 -- and so in each field, at the entry point
 pub logup-soundness : KnownSoundness
-logup-soundness = of-every-field LogUpSoundness terminals-determine-ledgers
+logup-soundness = of-every-field LogUpSoundness soundness-under terminals-determine-ledgers

@@ -1,8 +1,8 @@
 -- Fractions, accumulators and terminals are the paper's sums; at a pair that all lookups share, the terminal is the sum over all entries of the table.
-use mathlib.Core.Path.{_≡_, sym, ap, _∙_, subst}
+use mathlib.Core.Path.{_≡_, refl, sym, ap, ap₂, _∙_, subst}
 use mathlib.Core.Logic.{_≢_, ⊎-elim}
 use mathlib.Core.Option.{none}
-use mathlib.Core.List.{List, [], _∷_, _++_, List·Memᴰ, List·Memᴰ·not-nil}
+use mathlib.Core.List.{List, [], _∷_, _++_, map, List·Memᴰ, List·Memᴰ·not-nil}
 use Prim.Native.Nat.{ℕ, _+_, _*_, _<_}
 use native.Mathlib.Omega.{arith}
 use lib.Dec.{T}
@@ -13,7 +13,7 @@ use Rattle.field.specs.Element.{element}
 use Rattle.field.specs.Modulus.{Modulus, Certificate}
 use Rattle.field.specs.Extension.{K, KEl, el}
 use Rattle.field.specs.laws.Extension.{h}
-use Rattle.theorems_logup.specs.Inverse.{minus}
+use Rattle.theorems_logup.specs.Inverse.{inverse, minus}
 use Rattle.theorems_logup.specs.Sums.{sum}
 use Rattle.theorems_logup.specs.Tables as Tables
 use Rattle.theorems_logup.specs.laws.Common.{sum-to-cong}
@@ -23,41 +23,60 @@ use Rattle.expression.specs.declared.sizes.Limits.{Limits}
 use Rattle.lookup.specs.Lookups.{lookup-count}
 use Rattle.lookup.specs.Table.{Table, values-of}
 use Rattle.lookup.specs.Tests.{words-below}
+use Rattle.logup.specs.Rule.{lookups-under}
 use Rattle.logup.specs.Column.{Place, fraction, fault}
 use Rattle.logup.specs.Rows.{place, fraction-at, row-sum, accumulator, first-fault}
 use Rattle.logup.specs.Generation.{Answer, absent, terminal, terminal-words}
 use Rattle.logup.specs.Ledger.{Entry, Element, lookup-entries, row-entries, entries, at-pair}
-use Rattle.theorems_soundness.specs.Paper.{paper-fraction, paper-row, Faultless, FractionIsTheSum, AccumulatorIsTheSum}
+use Rattle.logup.specs.laws.Rule.{ordered}
+use Rattle.theorems_soundness.specs.Paper.{paper-entries, paper-fraction, paper-row, Faultless, FractionIsTheSum, AccumulatorIsTheSum}
 use Rattle.theorems_soundness.specs.laws.Joined.{word-joined, joined-none, joined-empty}
-use Rattle.theorems_soundness.specs.Entries.{N}
+use Rattle.theorems_soundness.specs.Entries.{into, N}
 use Rattle.theorems_soundness.specs.laws.Setting.{as-four}
 use Rattle.theorems_soundness.specs.laws.Elements.{element-lift, element-sum, sum-is}
 use Rattle.theorems_soundness.specs.laws.Values.{row-below}
 use Rattle.theorems_soundness.specs.laws.Sums.{share, sum-joined}
+use Rattle.theorems_soundness.specs.laws.Tuples.{combine-is}
 use Rattle.theorems_soundness.specs.laws.Columns.{fraction-is, sound}
 use Rattle.theorems_soundness.specs.laws.Ledgers.{whence}
+use Rattle.theorems_soundness.specs.laws.Rule.{combine-ordered, as-read, lookup-entries-under}
 use Rattle.theorems_soundness.specs.laws.Answers.{no-fault, Accepted}
+
+-- the sum by rule 1 over the entries as a rule reads them is the paper's sum by that rule
+pub paper-read : (p w : ℕ) (C : Certificate p w) (rule : ℕ) (alpha beta : List ℕ) (es : List Entry)
+    → sum (K p w C) (map (as-read rule) es) (share p w C alpha beta) ≡ paper-entries p w C rule alpha beta es
+paper-read p w C rule alpha beta [] = refl
+paper-read p w C rule alpha beta (e ∷ es) =
+    ap₂ (λ (z s : KEl p w C). K p w C .ring .add (K p w C .ring .mul (into p w C (e .count)) (inverse (K p w C) (minus (K p w C) (el p w C alpha) z))) s)
+    (sym (combine-is p w C beta (ordered rule (e .tuple))) ∙ ap (el p w C) (combine-ordered p w C beta rule (e .tuple)))
+    (paper-read p w C rule alpha beta es)
 
 -- any challenges
 pub fraction-is-the-sum : (p w : ℕ) → Modulus p → (C : Certificate p w) → FractionIsTheSum p w C
 unfolding fraction-at place
-fraction-is-the-sum p w M C t challenges ok fine r i lr li =
-    fraction-is p w M C (place p w (t .lookups) challenges (values-of p t) r i) (row-below p M t ok r)
-    (no-fault p w (t .lookups) challenges (values-of p t) (t .traces .shape .height) fine r i lr li)
+fraction-is-the-sum p w M C rule t challenges ok fine r i lr li =
+    let l = lookups-under rule (t .lookups) in
+    let alpha = element challenges (2 * i) in
+    let beta = element challenges (2 * i + 1) in
+    fraction-is p w M C (place p w l challenges (values-of p t) r i) (row-below p M t ok r)
+    (no-fault p w l challenges (values-of p t) (t .traces .shape .height) fine r i lr li)
+    ∙ ap (λ (es : List Entry). sum (K p w C) es (share p w C alpha beta)) (lookup-entries-under rule p (t .lookups) (values-of p t r) i)
+    ∙ paper-read p w C rule alpha beta (lookup-entries p (t .lookups) (values-of p t r) i)
 
-pub row-is-the-sum : (p w : ℕ) → Modulus p → (C : Certificate p w) (t : Table) (challenges : List ℕ) → T (words-below p t) → Faultless p w t challenges
-    → (r : ℕ) → r < t .traces .shape .height → el p w C (row-sum p w (t .lookups) challenges (values-of p t) r) ≡ paper-row p w C t challenges r
+pub row-is-the-sum : (p w : ℕ) → Modulus p → (C : Certificate p w) (rule : ℕ) (t : Table) (challenges : List ℕ) → T (words-below p t)
+    → Faultless p w rule t challenges → (r : ℕ) → r < t .traces .shape .height
+    → el p w C (row-sum p w (lookups-under rule (t .lookups)) challenges (values-of p t) r) ≡ paper-row p w C rule t challenges r
 unfolding row-sum
-row-is-the-sum p w M C t challenges ok fine r lr =
-    sum-is p w C (fraction-at p w (t .lookups) challenges (values-of p t) r) (lookup-count (t .lookups .lookups))
-    ∙ sum-to-cong (K p w C) _ (paper-fraction p w C t challenges r) (lookup-count (t .lookups .lookups))
-    (λ i li. fraction-is-the-sum p w M C t challenges ok fine r i lr li)
+row-is-the-sum p w M C rule t challenges ok fine r lr =
+    sum-is p w C (fraction-at p w (lookups-under rule (t .lookups)) challenges (values-of p t) r) (lookup-count (t .lookups .lookups))
+    ∙ sum-to-cong (K p w C) _ (paper-fraction p w C rule t challenges r) (lookup-count (t .lookups .lookups))
+    (λ i li. fraction-is-the-sum p w M C rule t challenges ok fine r i lr li)
 
 pub accumulator-is-the-sum : (p w : ℕ) → Modulus p → (C : Certificate p w) → AccumulatorIsTheSum p w C
 unfolding accumulator
-accumulator-is-the-sum p w M C t challenges ok fine n l =
-    sum-is p w C (row-sum p w (t .lookups) challenges (values-of p t)) n
-    ∙ sum-to-cong (K p w C) _ (paper-row p w C t challenges) n (λ r k. row-is-the-sum p w M C t challenges ok fine r (omega arith))
+accumulator-is-the-sum p w M C rule t challenges ok fine n l =
+    sum-is p w C (row-sum p w (lookups-under rule (t .lookups)) challenges (values-of p t)) n
+    ∙ sum-to-cong (K p w C) _ (paper-row p w C rule t challenges) n (λ r k. row-is-the-sum p w M C rule t challenges ok fine r (omega arith))
 
 -- the challenges at a pair: alpha and beta for each lookup
 module _ (a b : List ℕ) (n i : ℕ) (la : length a ≡ 4) (lb : length b ≡ 4) (l : i < n) where

@@ -32,7 +32,7 @@ module _ (p w : ℕ) (C : Certificate p w) (beta : List ℕ) where
   value t = horner (K p w C) ⟦ beta ⟧ z (map (into p w C) t)
 
   abbrev term : List ℕ → ℕ → List ℕ
-  term es j = scale4 p (word es j) (power4 p w beta (exponent (length es) j))
+  term es j = scale4 p (word es j) (power4 p w beta (exponent 1 (length es) j))
 
   step : (P B H x : KEl p w C) → add (mul (mul P B) H) (mul x P) ≡ mul P (add (mul H B) x)
   step P B H x = solve (K p w C .ring) (P ∷ B ∷ H ∷ x ∷ []) (X 0 ⊗ X 1 ⊗ X 2 ⊕ X 3 ⊗ X 0) (X 0 ⊗ (X 2 ⊗ X 1 ⊕ X 3)) tt
@@ -44,12 +44,12 @@ module _ (p w : ℕ) (C : Certificate p w) (beta : List ℕ) where
   partly es (suc n) l =
       let k : ℕ = length es - suc n in
       let e₁ : length es - n ≡ suc k = omega arith in
-      let e₂ : exponent (length es) n ≡ k = omega arith in
+      let e₂ : exponent 1 (length es) n ≡ k = omega arith in
       el-add p w C (sum4 p (term es) n) (term es n)
       ∙ ap₂ add
       (partly es n (omega arith) ∙ ap (λ (i : ℕ). mul ⟦ power4 p w beta i ⟧ (value (take n es))) e₁
       ∙ ap (λ (x : KEl p w C). mul x (value (take n es))) (ap (el p w C) (power4-suc p w beta k) ∙ el-mul p w C (power4 p w beta k) beta))
-      (scale-is p w C (word es n) (power4 p w beta (exponent (length es) n))
+      (scale-is p w C (word es n) (power4 p w beta (exponent 1 (length es) n))
       ∙ ap (λ (i : ℕ). mul (into p w C (word es n)) ⟦ power4 p w beta i ⟧) e₂)
       ∙ step ⟦ power4 p w beta k ⟧ ⟦ beta ⟧ (value (take n es)) (into p w C (word es n))
       ∙ ap (mul ⟦ power4 p w beta k ⟧)

@@ -12,12 +12,14 @@ use Rattle.lists.specs.laws.Count.{first-none, first-all, or-else-none, of-true
 use Rattle.field.specs.Element.{is-zero}
 use Rattle.field.specs.Known.{prime-of, w-of}
 use Rattle.expression.specs.Choices.{limits-of}
-use Rattle.expression.specs.Values.{row-values}
 use Rattle.expression.specs.declared.sizes.Limits.{Limits}
 use Rattle.expression.specs.declared.refusal.Refusal.{Refusal}
 use Rattle.expression.specs.declared.refusal.Refusal.the-variants.{ConstraintNotZero}
 use Rattle.lookup.specs.Lookups.{Lookups, lookup-count}
+use Rattle.lookup.specs.Table.{values-of}
+use Rattle.logup.specs.Rule.{lookups-under, table-under}
 use Rattle.logup.specs.Constraints.{must-vanish, cell, lookup-constraint, step, binding, row-verdict, rows-verdict, verdict}
+use Rattle.logup.specs.laws.Rule.{constraints-refusal-under}
 use Rattle.logup.specs.laws.Choices.{verdict-known}
 use Rattle.theorems_soundness.specs.Vanishing.{RowVanishes, Vanishes, PassesExactly, AcceptedExactly, KnownVanishing}
 
@@ -93,14 +95,15 @@ pub passes-exactly : (p w : ℕ) → PassesExactly p w
 passes-exactly p w l challenges values height width words e = vanish p w l challenges values height width words e
 
 -- the entry point: "none where all constraints hold"
-pub accepted-exactly : (m : Limits) (p w : ℕ) → AcceptedExactly m p w (verdict m p w)
+pub accepted-exactly : (m : Limits) (p w rule : ℕ) → AcceptedExactly m p w rule (λ t. verdict m p w (table-under rule t))
 unfolding verdict
-accepted-exactly m p w t challenges width words e =
-    let q = passes-exactly p w (t .lookups) challenges (row-values p (t .nodes) (t .traces)) (t .traces .shape .height) width words e in
-    (λ v. let (a, b) = or-else-none v in (a, q .0 b), λ v. both-none _ _ (v .0) (q .1 (v .1)))
+accepted-exactly m p w rule t challenges width words e =
+    let q = passes-exactly p w (lookups-under rule (t .lookups)) challenges (values-of p t) (t .traces .shape .height) width words e in
+    let tests = constraints-refusal-under rule m p w t challenges width words (some e) in
+    (λ v. let (a, b) = or-else-none v in (sym tests ∙ a, q .0 b), λ v. both-none _ _ (tests ∙ v .0) (q .1 (v .1)))
 
 -- and so in each field
 pub logup-vanishing : KnownVanishing
 logup-vanishing c rule k r =
-    subst (AcceptedExactly (limits-of (c .profile)) (prime-of (c .field)) (w-of (c .field))) (sym (verdict-known c rule k r))
-    (accepted-exactly (limits-of (c .profile)) (prime-of (c .field)) (w-of (c .field)))
+    subst (AcceptedExactly (limits-of (c .profile)) (prime-of (c .field)) (w-of (c .field)) rule) (sym (verdict-known c rule k r))
+    (accepted-exactly (limits-of (c .profile)) (prime-of (c .field)) (w-of (c .field)) rule)

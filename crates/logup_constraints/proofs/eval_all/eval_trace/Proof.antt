@@ -33,14 +33,14 @@ rows-verdict-requires c κs =
 returns : tie.Need-returns
 returns c =
     let at-16 = c .before .before .before .before .before .before .before .before .before .before .before .before .before .before .before .before in
-    refused-is _ _ _ _ _ _ _ _ _ (refused-answer _ (c .before .verdict .given .1) (c .before .before .before .entry-refusal .ensures .0 ∙ entry-is _ _
+    refused-is (at-16 .args .rule) _ _ _ _ _ _ _ _ _ (refused-answer _ (c .before .verdict .given .1) (c .before .before .before .entry-refusal .ensures .0 ∙ entry-is _ _
     (at-16 .args .w) _ _ _ _ _))
 
 returns-2 : tie.Need-returns-2
 returns-2 c =
     let at-4 = c .before .before .before .before in
     let at-17 = at-4 .before .before .before .before .before .before .before .before .before .before .before .before .before in
-    absent-is _ _ _ _ _ _ _ _ (accepted-answer (c .before .before .enum-told .given .1) (at-4 .entry-refusal .ensures .0 ∙ entry-is _ _
+    absent-is (at-17 .args .rule) _ _ _ _ _ _ _ _ (accepted-answer (c .before .before .enum-told .given .1) (at-4 .entry-refusal .ensures .0 ∙ entry-is _ _
     (at-17 .args .w) _ _ _ _ _)) (ap terminal-of (c .enum-told2 .given .1))
 
 returns-3 : tie.Need-returns-3
@@ -48,7 +48,7 @@ returns-3 c =
     let at-4 = c .before .before .before .before in
     let at-6 = at-4 .before .before in
     let at-19 = at-6 .before .before .before .before .before .before .before .before .before .before .before .before .before in
-    given-is _ _ _ _ _ _ _ _ _ (accepted-answer (at-4 .enum-told .given .1) (at-6 .entry-refusal .ensures .0 ∙ entry-is _ _ (at-19 .args .w) _ _ _ _
+    given-is (at-19 .args .rule) _ _ _ _ _ _ _ _ _ (accepted-answer (at-4 .enum-told .given .1) (at-6 .entry-refusal .ensures .0 ∙ entry-is _ _ (at-19 .args .w) _ _ _ _
     _)) (ap terminal-of (c .before .before .terminal .given .1)) (c .rows-verdict .ensures (at-19 .args .names .now))
 
 pub eval-trace-spec : {M : Type 1} → statement M
