@@ -41,9 +41,13 @@ extern "C" {
 #define DELMATIK_CABINET 1
 #define DELMATIK_GATEWAY 2
 
-/* The tuple rule of generation and constraints; any other number is refusal 1, before anything else is read.
- * By rule 1 the first word of a tuple goes with the highest power of beta, and the last with beta^0. */
+/* The tuple rule of generation and constraints, on words and on bytes: what a tuple combines to. Any other number is refusal 1, before anything
+ * else is read; other functions take no rule.
+ * By rule 1 the first element of a tuple goes with the highest power of beta, and the last with beta^0.
+ * By rule 2 the first element goes with beta^0, and the last with the highest power.
+ * With beta 10 the tuple (3, 7) combines to 37 by rule 1 and to 73 by rule 2. Nothing else depends on the rule. */
 #define DELMATIK_RULE_1 1
+#define DELMATIK_RULE_2 2
 
 /*
  * A table's lists, in the order in which every function takes them:

@@ -127,11 +127,11 @@ int LLVMFuzzerTestOneInput(const uint8_t *data, size_t n) {
     uint64_t details[3] = {7, 7, 7}, *used = small(6 * sizeof(uint64_t)), *one = small(sizeof(uint64_t)), *part = small(2 * sizeof(uint64_t));
     uint32_t *terminal = small(5 * sizeof(uint32_t)), *count = small(2 * sizeof(uint32_t)), number = 0;
     uint8_t function = byte() % 17;
-    uint32_t field = choice(2), profile = choice(2), rule = choice(1);
+    uint32_t field = choice(2), profile = choice(2), rule = choice(2);
     int unknown = 2 < field || field == 0;
     /* Powers and inverses take the field alone, generation and constraints the rule too; three functions take no choices. */
     if (function < 12) unknown |= 2 < profile || profile == 0;
-    if (function < 2) unknown |= rule != 1;
+    if (function < 2) unknown |= 2 < rule || rule == 0;
     if (12 <= function && function <= 14) unknown = 0;
     size_t a = size(), b = size(), c = size(), d = size();
     words nodes = list(0), lookups = list(0), tuples = list(0), multiplicities = list(0), flags = list(0), elements = list(0);

@@ -4,7 +4,7 @@ use std::fmt::Debug;
 
 use crate::exports::{Exports, Model, Rooms, built_words, marked};
 use crate::generator::{Case, List};
-use crate::model::{self, Answer, Profile};
+use crate::model::{self, Answer, Choices, Profile, Rule};
 use crate::plain::{Ext, Field};
 use crate::port::Port;
 use crate::table::{Plan, Table, bytes_of, word};
@@ -29,16 +29,18 @@ pub struct Disagreement {
     pub text: String,
 }
 
-/// How many tables there were in each field and profile, in how many cases a choice was unknown, how often each function gave each number, was
-/// compared with the port, and was called once more in the cabinet.
+/// How many tables there were in each field and profile, how many cases by each rule and with an unknown choice, how often each function gave each
+/// number, was compared with the port, and was called once more: in the cabinet, or by rule 1.
 #[derive(Default)]
 pub struct Tally {
     pub fields: BTreeMap<Field, u64>,
     pub profiles: BTreeMap<Profile, u64>,
+    pub rules: BTreeMap<Rule, u64>,
     pub unknown: u64,
     pub counts: BTreeMap<(&'static str, u32, Compared), u64>,
     pub ported: BTreeMap<&'static str, u64>,
     pub repeated: BTreeMap<&'static str, u64>,
+    pub reversed: BTreeMap<&'static str, u64>,
 }
 
 type Checked = Result<Compared, String>;
@@ -46,6 +48,7 @@ type Checked = Result<Compared, String>;
 pub fn check(case: &Case, port: Option<Port>, tally: &mut Tally) -> Result<(), Disagreement> {
     *tally.fields.entry(case.field()).or_default() += case.tables.len() as u64;
     *tally.profiles.entry(case.chosen().profile).or_default() += case.tables.len() as u64;
+    *tally.rules.entry(case.chosen().rule).or_default() += 1;
     tally.unknown += u64::from(case.choices.known_with_rule().is_none());
     let mut run = |function: &'static str, (answer, compared): (Answer, Checked)| match compared {
         Ok(compared) => {
@@ -431,14 +434,17 @@ struct Beside<'a> {
     case: &'a Case,
     /// The same in the cabinet, of a case in the gateway.
     in_cabinet: Option<Case>,
+    /// The same by rule 1 with each tuple reversed, of a case by rule 2.
+    by_rule_1: Option<Case>,
     port: Port<'a>,
     tally: &'a mut Tally,
 }
 
-/// The model beside the port, on every input, and the gateway beside the cabinet: the answer, and every word that was lent to be written.
+/// The model beside the port, on every input, the gateway beside the cabinet, and rule 2 beside rule 1: the answer, and every word that was lent to
+/// be written.
 pub fn check_port(case: &Case, port: Port, tally: &mut Tally) -> Result<(), Disagreement> {
     let in_cabinet = (case.chosen().profile == Profile::Gateway).then(|| case.in_cabinet());
-    let mut beside = Beside { case, in_cabinet, port, tally };
+    let mut beside = Beside { case, in_cabinet, by_rule_1: case.by_rule_1(), port, tally };
     beside.of_one_table()?;
     beside.of_several_tables()?;
     beside.of_words()?;
@@ -469,6 +475,13 @@ impl Beside<'_> {
         }
     }
 
+    /// A function that takes a rule: by rule 2 it gives what it gives by rule 1 where each tuple is reversed.
+    fn ruled<T: PartialEq + Debug>(&mut self, function: &'static str, call: impl Fn(&dyn Exports, &Case) -> T) -> Result<(), Disagreement> {
+        let (Some(case), port) = (&self.by_rule_1, self.port.exports) else { return Ok(()) };
+        *self.tally.reversed.entry(function).or_default() += 1;
+        same(function, "rule 2 and rule 1 on reversed tuples", &call(port, self.case), &call(port, case))
+    }
+
     /// A function that takes no profile.
     fn unprofiled<T: PartialEq + Debug>(&mut self, function: &'static str, call: impl Fn(Port) -> T) -> Result<(), Disagreement> {
         self.beside_model(function, &call(MODEL), &call(self.port))
@@ -481,16 +494,22 @@ impl Beside<'_> {
 
     fn of_one_table(&mut self) -> Result<(), Disagreement> {
         let (case, t) = (self.case, &self.case.tables[0]);
-        self.exported("generation", |port, case| {
+        let generation = |port: &dyn Exports, case: &Case| {
             let (mut trace, mut terminal) = (lent(case.buffer), lent_words());
-            let answer = port.generate(case.choices, t, &case.challenges, &mut trace, &mut terminal);
+            let answer = port.generate(case.choices, &case.tables[0], &case.challenges, &mut trace, &mut terminal);
             (answer, (terminal, trace))
-        })?;
+        };
+        self.exported("generation", generation)?;
+        self.ruled("generation", generation)?;
         for (width, trace, terminal) in [asked(case), asked_narrow(case)] {
             // An absent terminal's words are not read; any mark but 0 says that it is there.
             let mut terminal = terminal.map_or([0, u32::MAX, 1, 2, 3], |t| marked(Some(t)));
             terminal[0] *= case.seed as u32 | 1;
-            self.exported("constraints", |port, case| port.constraints(case.choices, t, &case.challenges, width, &trace, terminal))?;
+            let constraints = |port: &dyn Exports, case: &Case| {
+                port.constraints(case.choices, &case.tables[0], &case.challenges, width, &trace, terminal)
+            };
+            self.exported("constraints", constraints)?;
+            self.ruled("constraints", constraints)?;
         }
         for lookup in 0..t.lookup_count() as u64 + 1 {
             self.exported("degree", |port, case| {
@@ -597,11 +616,20 @@ impl Beside<'_> {
             written: case.edited(List::Written, lent(written)),
         };
         let (t, challenges) = (table_bytes(case, &case.tables[0]), edited(9, &case.challenges));
-        self.exported("generation on bytes", |port, case| {
+        let generation = |port: &dyn Exports, choices: Choices, t: &Table<u8>| {
             let (mut trace, mut terminal) = (edited(10, &lent(case.buffer)), lent_words());
-            let mut rooms = rooms(trace_words(&t) + t.nodes.len() / 4 + challenges.len() / 4 + lookup_words(&t), trace.len() / 4);
-            (port.generate_bytes(case.choices, &t, &challenges, &mut trace, &mut rooms, &mut terminal), (terminal, trace, rooms))
-        })?;
+            let mut rooms = rooms(trace_words(t) + t.nodes.len() / 4 + challenges.len() / 4 + lookup_words(t), trace.len() / 4);
+            (port.generate_bytes(choices, t, &challenges, &mut trace, &mut rooms, &mut terminal), (terminal, trace, rooms))
+        };
+        self.exported("generation on bytes", |port, case| generation(port, case.choices, &t))?;
+        // An edit of widths or elements would reach other tuples of the reversed ones.
+        if !case.edits.iter().any(|(list, _)| matches!(list, List::Bytes(TUPLES | ELEMENTS))) {
+            self.ruled("generation on bytes", |port, case| {
+                let (answer, (terminal, trace, rooms)) = generation(port, case.choices, &table_bytes(case, &case.tables[0]));
+                // The other room holds the elements as they were lent.
+                (answer, terminal, trace, rooms.written)
+            })?;
+        }
         let lengths = case.tables[0].lengths();
         self.exported("packing on bytes", |port, case| {
             let mut used = lent_numbers();
@@ -705,6 +733,10 @@ fn same<T: PartialEq + Debug>(function: &'static str, whose: &str, one: &T, othe
 fn handed_back<W>(table: Table<W>) -> Table<W> {
     Table { profile: Profile::default(), ..table }
 }
+
+/// The places of two lists among those of bytes.
+const TUPLES: usize = 5;
+const ELEMENTS: usize = 8;
 
 /// The lists of a table as bytes, with the case's edits.
 fn table_bytes(case: &Case, t: &Table) -> Table<u8> {

@@ -11,8 +11,8 @@ pub struct Rooms {
     pub written: Vec<u32>,
 }
 
-/// Each gives the number and details of its answer, by the field and profile of its choices: a table's own are not looked at. The rule is for
-/// `generate`, `constraints` and `generate_bytes` alone. A terminal is five words, a mark and four words. The lists of several tables are one
+/// Each gives the number and details of its answer, by the field and profile of its choices, `generate`, `constraints` and `generate_bytes` by
+/// their rule too: a table's own are not looked at. A terminal is five words, a mark and four words. The lists of several tables are one
 /// table, whose own sizes are not looked at. `power` and `inverse` have no details and take the field's number alone.
 pub trait Exports {
     fn generate(&self, choices: Choices, t: &Table, challenges: &[u32], trace: &mut [u32], terminal: &mut [u32; 5]) -> Answer;

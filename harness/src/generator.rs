@@ -1,17 +1,17 @@
-//! Random tables in either field and profile with what each function needs besides, damaged copies of them, and a fixed list of tables at the
-//! limits.
+//! Random tables in either field and profile by either rule with what each function needs besides, damaged copies of them, and a fixed list of
+//! tables at the limits.
 use std::fmt;
 
-use crate::model::{self, Choices, Chosen, Limits, Profile};
+use crate::model::{self, Choices, Chosen, Limits, Profile, Rule};
 use crate::plain::{self, Ext, Field, Random};
 use crate::table::{Interaction, LOOKUP_WORDS, Lookup, NODE_WORDS, Part, Table, line};
 
 /// One input for each function. Those of one table take the first.
 #[derive(Clone, Debug, PartialEq)]
 pub struct Case {
-    /// The numbers of the exported functions. They name the tables' field and profile, or one of them is unknown.
+    /// The numbers of the exported functions. They name the tables' field, profile and rule, or one of them is unknown.
     pub choices: Choices,
-    /// All of one field and one profile.
+    /// All of one field, one profile and one rule.
     pub tables: Vec<Table>,
     pub challenges: Vec<u32>,
     /// The words of generation's trace buffer.
@@ -150,6 +150,17 @@ impl Case {
         case.choices.profile = Profile::Cabinet.number();
         case.tables.iter_mut().for_each(|t| t.profile = Profile::Cabinet);
         case
+    }
+
+    /// The same case by rule 1 with each tuple reversed, of one by rule 2.
+    pub fn by_rule_1(&self) -> Option<Case> {
+        let by_rule_2 = self.choices.rule == Rule::Two.number();
+        by_rule_2.then(|| {
+            let mut case = self.clone();
+            case.choices.rule = Rule::One.number();
+            case.tables.iter_mut().for_each(|t| *t = Table { rule: Rule::One, ..t.reversed() });
+            case
+        })
     }
 
     /// A list with this case's edits of it.
@@ -477,9 +488,9 @@ fn to_limit(random: &mut Random, t: &mut Table) {
 }
 
 /// A table that none of refusals 1 to 5 meets, unless it has more than the limits of something.
-pub fn table(random: &mut Random, Chosen { field, profile }: Chosen) -> Table {
+pub fn table(random: &mut Random, Chosen { field, profile, rule }: Chosen) -> Table {
     let loose = random.one_in(15);
-    let mut maker = Maker { random, table: Table { field, profile, ..Table::default() }, sizes: vec![], loose };
+    let mut maker = Maker { random, table: Table { field, profile, rule, ..Table::default() }, sizes: vec![], loose };
     maker.traces();
     maker.nodes();
     let mut lookups = maker.lookups();
@@ -566,7 +577,7 @@ fn meet_tuple(random: &mut Random, t: &Table, challenges: &mut [u32]) {
         let values = model::node_values(t, random.below(t.height) as usize);
         let tuple: Vec<u32> = random.pick(tuples).iter().map(|n| values[*n as usize]).collect();
         let pair = &mut challenges[8 * lookup..8 * lookup + 8];
-        let alpha = model::combined(t.field, &tuple, pair[4..].try_into().unwrap());
+        let alpha = model::combined(t.field, t.rule, &tuple, pair[4..].try_into().unwrap());
         pair[..4].copy_from_slice(&alpha);
     }
 }
@@ -587,11 +598,11 @@ fn longer(random: &mut Random) -> (List, Edit) {
     (random.pick(&[packed, packed, List::Built, List::Prefixes, List::Nodes]), Edit::Push(random.draw() as u32))
 }
 
-/// The choices of a call in this field and profile; now and then one of them is unknown, or all.
+/// The choices of a call in this field and profile, by this rule; now and then one of them is unknown, or all.
 fn choices(random: &mut Random, chosen: Chosen) -> Choices {
     let mut choices = Choices::of(chosen);
     if random.one_in(16) {
-        let (unknown, rule) = (random.pick(&[0, 3, 257, 1 << 31, u32::MAX]), random.pick(&[0, 2, 3, 257, u32::MAX]));
+        let (unknown, rule) = (random.pick(&[0, 3, 257, 1 << 31, u32::MAX]), random.pick(&[0, 3, 257, 258, u32::MAX]));
         match random.below(4) {
             0 => choices.field = unknown,
             1 => choices.profile = unknown,
@@ -605,7 +616,7 @@ fn choices(random: &mut Random, chosen: Chosen) -> Choices {
 /// The tables with inputs for each function that none of refusals 1 to 12 meets, unknown choices aside.
 fn case_of(random: &mut Random, tables: Vec<Table>) -> Case {
     let (chosen, n) = (tables[0].chosen(), tables[0].lookup_count());
-    let Chosen { field, profile } = chosen;
+    let Chosen { field, profile, .. } = chosen;
     let shared = random.one_in(2).then(|| [random.challenge(field), random.challenge(field)].concat());
     let pair = |random: &mut Random| shared.clone().unwrap_or_else(|| [random.challenge(field), random.challenge(field)].concat());
     let mut challenges: Vec<u32> = (0..n).flat_map(|_| pair(random)).collect();
@@ -650,11 +661,13 @@ fn case_of(random: &mut Random, tables: Vec<Table>) -> Case {
     }
 }
 
-/// A case in either field, a third of them in the gateway.
+/// A case in either field by either rule, a third of them in the gateway.
 pub fn case(random: &mut Random) -> Case {
     let profile = if random.one_in(3) { Profile::Gateway } else { Profile::Cabinet };
     let field = random.pick(&Field::ALL);
-    case_in(random, Chosen { field, profile })
+    // Numbers of its own, so that the tables that are drawn do not depend on it.
+    let rule = Random(random.0 ^ 0xD1342543DE82EF95 | 1).pick(&Rule::ALL);
+    case_in(random, Chosen { field, profile, rule })
 }
 
 pub fn case_in(random: &mut Random, chosen: impl Into<Chosen>) -> Case {
@@ -764,8 +777,8 @@ fn damage_list(random: &mut Random, list: &mut Vec<u32>) {
 }
 
 /// One lookup ("mem", one tuple of one column, multiplicity 1) over a main column.
-fn plain_table(Chosen { field, profile }: Chosen, height: u64) -> Table {
-    let mut t = Table { field, profile, main_width: 1, height, ..Table::default() };
+fn plain_table(Chosen { field, profile, rule }: Chosen, height: u64) -> Table {
+    let mut t = Table { field, profile, rule, main_width: 1, height, ..Table::default() };
     t.main = (0..height as u32).map(|row| row % 5).collect();
     t.nodes = vec![1, 0, 0, 0, 1, 0, 12, 1, 0];
     t.set_records(&[on_bus(0, vec![0], 1)]);
@@ -861,27 +874,38 @@ fn tables_at_limits(chosen: Chosen, over: usize) -> Vec<(String, Table)> {
 /// Adds a case of these tables, with a change.
 type Add<'a> = dyn FnMut(String, Vec<Table>, &dyn Fn(&mut Case)) + 'a;
 
-/// The limits of docs/SPECIFICATION.md in each field and profile, each met and passed by one, words at the primes and unknown choices, with a
-/// name.
+/// The limits of docs/SPECIFICATION.md in each field and profile, each met and passed by one, words at the primes, unknown choices, and tuples
+/// by both rules, with a name. By rule 2 there is only what generation and constraints read.
 pub fn boundaries() -> Vec<(String, Case)> {
-    let chosen = Profile::ALL.into_iter().flat_map(|profile| Field::ALL.map(|field| Chosen { field, profile }));
-    chosen.flat_map(boundaries_in).collect()
+    let chosen = |rule| Profile::ALL.into_iter().flat_map(move |profile| Field::ALL.map(|field| Chosen { field, profile, rule }));
+    let by_rule_1 = chosen(Rule::One).flat_map(|chosen| named(chosen, at_limits));
+    let by_rule_2 = chosen(Rule::Two).flat_map(|chosen| named(chosen, at_limits_of_rows));
+    let by_both = Rule::ALL.into_iter().flat_map(chosen).flat_map(|chosen| [named(chosen, tuples), named(chosen, met_tuples)].concat());
+    by_both.chain(by_rule_2).chain(by_rule_1).collect()
 }
 
-fn boundaries_in(chosen: Chosen) -> Vec<(String, Case)> {
-    let Chosen { field, profile } = chosen;
-    let limits = profile.limits();
+/// The cases that are added for these choices.
+fn named(chosen: Chosen, added: fn(&mut Add, Chosen)) -> Vec<(String, Case)> {
+    let choices = Choices::of(chosen);
     let mut random = Random(7);
     let mut cases = vec![];
     let mut add = |name: String, tables: Vec<Table>, change: &dyn Fn(&mut Case)| {
         let mut case = case_of(&mut random, tables);
-        case.choices = Choices::of(chosen);
+        case.choices = choices;
         case.workspace = 640;
-        case.challenges = (0..2 * case.tables[0].lookup_count()).flat_map(|_| random.element(field)).collect();
+        case.challenges = (0..2 * case.tables[0].lookup_count()).flat_map(|_| random.element(chosen.field)).collect();
         case.heights = case.tables.iter().map(|t| t.height).collect();
         change(&mut case);
-        cases.push((format!("{name}, field {}, profile {}", field.number(), profile.number()), case));
+        let Choices { field, profile, rule } = choices;
+        cases.push((format!("{name}, field {field}, profile {profile}, rule {rule}"), case));
     };
+    added(&mut add, chosen);
+    cases
+}
+
+/// What all functions read.
+fn at_limits(add: &mut Add, chosen: Chosen) {
+    let limits = chosen.profile.limits();
     let same = |_: &mut Case| ();
     for over in 0..2 {
         let table = |change: &dyn Fn(&mut Table)| {
@@ -893,8 +917,8 @@ fn boundaries_in(chosen: Chosen) -> Vec<(String, Case)> {
         add(format!("{n} tables"), vec![plain_table(chosen, 2); n], &same);
         add(format!("{n} terminals"), table(&|_| ()), &|c| c.terminals = vec![None; n]);
         for (name, t) in tables_at_limits(chosen, over) {
-            // Functions over several tables read the limits of each. The tallest tables take long: they stand alone.
-            if t.main.len().max(t.preprocessed.len()) < 10_000 {
+            // Functions over several tables read the limits of each. The tallest stand alone.
+            if !tall(&t) {
                 let mut before = plain_table(chosen, 3);
                 before.set_records(&[]);
                 add(format!("{name}, in the second table"), vec![before, t.clone()], &same);
@@ -944,23 +968,52 @@ fn boundaries_in(chosen: Chosen) -> Vec<(String, Case)> {
         add(format!("{} words for 3 slots", 30 - over), table(&|t| t.set_records(&[on_bus(0, vec![0], 1), on_bus(1, vec![0], 2)])), &|c| {
             c.workspace = 30 - over
         });
-        add(format!("trace buffer of {} words", 24 - over), table(&|_| ()), &|c| c.buffer = 24 - over);
-        add(format!("height {over}"), vec![plain_table(chosen, n)], &same);
-        add(
-            format!("preprocessed height {}", 3 - over),
-            table(&|t| {
-                (t.pre_width, t.pre_height) = (1, 3 - n);
-                t.preprocessed = vec![1; 3 - over];
-            }),
-            &same,
-        );
+        rows_and_buffers(add, chosen, over);
     }
-    for height in [1023, 1024, 1025, 2048, 2049] {
-        add(format!("height {height}"), vec![plain_table(chosen, height)], &same);
-    }
+    heights(add, chosen);
     for word in AT_PRIMES {
-        at_prime(&mut add, chosen, word);
+        at_prime_in_rows(add, chosen, word);
+        at_prime(add, chosen, word);
     }
+    unknown_choices(add, chosen);
+}
+
+/// What generation and constraints read, the tallest tables left out.
+fn at_limits_of_rows(add: &mut Add, chosen: Chosen) {
+    for over in 0..2 {
+        for (name, t) in tables_at_limits(chosen, over).into_iter().filter(|(_, t)| !tall(t)) {
+            add(name, vec![t], &|_| ());
+        }
+        rows_and_buffers(add, chosen, over);
+    }
+    heights(add, chosen);
+    for word in AT_PRIMES {
+        at_prime_in_rows(add, chosen, word);
+    }
+    unknown_choices(add, chosen);
+}
+
+/// Whether a table takes long.
+fn tall(t: &Table) -> bool {
+    10_000 <= t.main.len().max(t.preprocessed.len())
+}
+
+/// Enough words and rows, or one too few.
+fn rows_and_buffers(add: &mut Add, chosen: Chosen, short: usize) {
+    add(format!("trace buffer of {} words", 24 - short), vec![plain_table(chosen, 3)], &|c| c.buffer = 24 - short);
+    add(format!("height {short}"), vec![plain_table(chosen, short as u64)], &|_| ());
+    let mut t = plain_table(chosen, 3);
+    (t.pre_width, t.pre_height, t.preprocessed) = (1, 3 - short as u64, vec![1; 3 - short]);
+    add(format!("preprocessed height {}", 3 - short), vec![t], &|_| ());
+}
+
+fn heights(add: &mut Add, chosen: Chosen) {
+    for height in [1023, 1024, 1025, 2048, 2049] {
+        add(format!("height {height}"), vec![plain_table(chosen, height)], &|_| ());
+    }
+}
+
+fn unknown_choices(add: &mut Add, chosen: Chosen) {
     for choices in unknown(chosen) {
         // Accepted but for the choices; without lookups; and such as 1, 2 or 5 refuses by itself.
         let mut add = |name: &str, change: fn(&mut Table)| {
@@ -975,7 +1028,6 @@ fn boundaries_in(chosen: Chosen) -> Vec<(String, Case)> {
         add("high words", |t| (t.main[0], t.nodes[4]) = (u32::MAX, u32::MAX));
         add("two multiplicities", |t| t.set_records(&[Lookup { multiplicities: vec![1, 1], ..on_bus(0, vec![0], 1) }]));
     }
-    cases
 }
 
 /// Choices that are known but for a number.
@@ -983,12 +1035,15 @@ fn unknown(chosen: Chosen) -> Vec<Choices> {
     let known = Choices::of(chosen);
     let fields = [0, 3, u32::MAX].map(|field| Choices { field, ..known });
     let profiles = [0, 3, u32::MAX].map(|profile| Choices { profile, ..known });
-    let rules = [0, 2, u32::MAX].map(|rule| Choices { rule, ..known });
-    [fields, profiles, rules].concat()
+    let unknown = match chosen.rule {
+        Rule::One => [0, 3, u32::MAX],
+        Rule::Two => [257, 258, 1 << 31],
+    };
+    [fields, profiles, unknown.map(|rule| Choices { rule, ..known })].concat()
 }
 
-/// A word, wherever the prime decides.
-fn at_prime(add: &mut Add, chosen: Chosen, word: u32) {
+/// A word, wherever the prime decides in generation and constraints.
+fn at_prime_in_rows(add: &mut Add, chosen: Chosen, word: u32) {
     let same = |_: &mut Case| ();
     let table = |change: &dyn Fn(&mut Table)| {
         let mut t = plain_table(chosen, 3);
@@ -1013,9 +1068,14 @@ fn at_prime(add: &mut Add, chosen: Chosen, word: u32) {
     add(format!("a challenge word {word}"), table(&|_| ()), &|c| c.challenges[7] = word);
     add(format!("the challenges' first words {word}"), table(&|_| ()), &|c| (c.challenges[0], c.challenges[4]) = (word, word));
     add(format!("a trace word {word}"), table(&|_| ()), &|c| c.changes = vec![(2, word)]);
-    add(format!("a terminal word {word}"), table(&|_| ()), &|c| c.terminals = vec![Some([1, 2, 3, word]), None]);
-    add(format!("count {word}"), table(&|_| ()), &|c| c.count = word as i32);
-    add(format!("count -{word}"), table(&|_| ()), &|c| c.count = -(word as i32));
+}
+
+/// The same in the other functions.
+fn at_prime(add: &mut Add, chosen: Chosen, word: u32) {
+    let (same, table) = (|_: &mut Case| (), || vec![plain_table(chosen, 3)]);
+    add(format!("a terminal word {word}"), table(), &|c| c.terminals = vec![Some([1, 2, 3, word]), None]);
+    add(format!("count {word}"), table(), &|c| c.count = word as i32);
+    add(format!("count -{word}"), table(), &|c| c.count = -(word as i32));
     let heavy = |weight: u32| {
         let mut t = plain_table(chosen, 1);
         t.set_records(&[Lookup { weight, ..on_bus(0, vec![0], 1) }]);
@@ -1023,4 +1083,59 @@ fn at_prime(add: &mut Add, chosen: Chosen, word: u32) {
     };
     add(format!("height sum {word}"), vec![heavy(word)], &same);
     add(format!("height sum {word} of two tables"), vec![heavy(word - 7), heavy(7)], &same);
+}
+
+/// The nodes of the tables below after their eight columns: two constants, and the mark of the first row.
+const ZERO: u32 = 8;
+const ONE: u32 = 9;
+const FIRST_ROW: u32 = 10;
+
+/// Three rows of eight columns, with different words throughout.
+fn of_columns(chosen: Chosen, lookups: &[Lookup]) -> Table {
+    let mut t = Table { main_width: 8, main: (2..26).collect(), ..plain_table(chosen, 3) };
+    t.nodes = (0..8).flat_map(|column| [1, column, 0]).chain([0, 0, 0, 0, 1, 0, 6, 0, 0]).collect();
+    t.set_records(lookups);
+    t
+}
+
+/// Tuples of each width, of several widths in one lookup, and as many as the limits allow.
+fn tuples(add: &mut Add, chosen: Chosen) {
+    let limits = chosen.profile.limits();
+    let mut add = |name: String, lookups: &[Lookup]| add(name, vec![of_columns(chosen, lookups)], &|_| ());
+    let lookup = |column: u32, tuples: &[Vec<u32>]| Lookup {
+        tuples: tuples.to_vec(),
+        multiplicities: vec![ONE; tuples.len()],
+        ..on_bus(column, vec![], ONE)
+    };
+    for width in 0..=limits.tuple_words {
+        add(format!("a tuple of {width} columns"), &[lookup(0, &[(0..width).collect()])]);
+    }
+    let several = [vec![0, 1, 2], vec![], vec![3], vec![4, 5], vec![6, 7, 0, 1]];
+    let flags = vec![ZERO, ZERO, ZERO, FIRST_ROW, ZERO];
+    add("tuples of several widths".into(), &[lookup(0, &several), lookup(1, &several[3..])]);
+    add("tuples of several widths, exclusive".into(), &[Lookup { exclusive: true, flags, ..lookup(0, &several) }]);
+    let (count, width) = (limits.tuples as u32, limits.tuple_words);
+    let all: Vec<Vec<u32>> = (0..count).map(|k| (0..width).map(|j| (3 * k + j) % 8).collect()).collect();
+    for lookups in [1, limits.lookups] {
+        let records: Vec<Lookup> = (0..).zip(all.chunks(limits.tuples / lookups)).map(|(i, tuples)| lookup(i, tuples)).collect();
+        add(format!("{count} tuples of {width} columns in {lookups} lookups"), &records);
+    }
+}
+
+/// An alpha that meets a tuple of two columns on the last row by one of the rules, whichever rule the call has. For beta 1 it does so by both.
+fn met_tuples(add: &mut Add, chosen: Chosen) {
+    let pair = |multiplicity: u32| on_bus(0, vec![0, 1], multiplicity);
+    let branch = |flag: u32| Lookup { exclusive: true, flags: vec![flag], ..pair(ONE) };
+    let lookups = [("used", pair(ONE)), ("with multiplicity 0", pair(ZERO)), ("chosen", branch(ONE)), ("not chosen", branch(ZERO))];
+    for beta in [0, 1, 10, chosen.field.prime() - 1] {
+        for rule in Rule::ALL {
+            let beta = plain::lift(beta);
+            let alpha = model::combined(chosen.field, rule, &[18, 19], beta);
+            for (name, lookup) in &lookups {
+                let name = format!("alpha {} and beta {}, a tuple {name} (18, 19)", alpha[0], beta[0]);
+                let t = of_columns(chosen, std::slice::from_ref(lookup));
+                add(name, vec![t], &|c| c.challenges = [alpha, beta].concat());
+            }
+        }
+    }
 }

@@ -31,11 +31,13 @@ pub struct Choices {
     pub rule: u32,
 }
 
-/// What known numbers choose. A field alone chooses the cabinet.
+/// What known numbers choose. A field alone chooses the cabinet and rule 1.
 #[derive(Clone, Copy, Debug, Default, PartialEq, Eq)]
 pub struct Chosen {
     pub field: Field,
     pub profile: Profile,
+    /// Only generation and constraints look at it.
+    pub rule: Rule,
 }
 
 /// Whose limits a call keeps.
@@ -46,29 +48,36 @@ pub enum Profile {
     Gateway = 2,
 }
 
-pub const RULE: u32 = 1;
+/// Which power of beta goes with each element of a tuple: the highest with the first element, or with the last.
+#[derive(Clone, Copy, Debug, Default, PartialEq, Eq, PartialOrd, Ord)]
+pub enum Rule {
+    #[default]
+    One = 1,
+    Two = 2,
+}
 
 impl Choices {
-    /// Those of a call in this field and profile.
+    /// Those of a call in this field and profile, by this rule.
     pub fn of(chosen: impl Into<Chosen>) -> Choices {
-        let Chosen { field, profile } = chosen.into();
-        Choices { field: field.number(), profile: profile.number(), rule: RULE }
+        let Chosen { field, profile, rule } = chosen.into();
+        Choices { field: field.number(), profile: profile.number(), rule: rule.number() }
     }
 
-    /// Field and profile, where both are known.
+    /// Where field and profile are known, for a function that takes no rule.
     pub fn known(self) -> Option<Chosen> {
-        Some(Chosen { field: Field::numbered(self.field)?, profile: Profile::numbered(self.profile)? })
+        let rule = Rule::numbered(self.rule).unwrap_or_default();
+        Some(Chosen { field: Field::numbered(self.field)?, profile: Profile::numbered(self.profile)?, rule })
     }
 
     /// The same for a function that takes the rule.
     pub fn known_with_rule(self) -> Option<Chosen> {
-        self.known().filter(|_| self.rule == RULE)
+        self.known().filter(|chosen| chosen.rule.number() == self.rule)
     }
 }
 
 impl From<Field> for Chosen {
     fn from(field: Field) -> Chosen {
-        Chosen { field, profile: Profile::Cabinet }
+        Chosen { field, ..Chosen::default() }
     }
 }
 
@@ -88,6 +97,18 @@ impl Profile {
             Profile::Cabinet => &CABINET,
             Profile::Gateway => &GATEWAY,
         }
+    }
+}
+
+impl Rule {
+    pub const ALL: [Rule; 2] = [Rule::One, Rule::Two];
+
+    pub fn number(self) -> u32 {
+        self as u32
+    }
+
+    pub fn numbered(number: u32) -> Option<Rule> {
+        Rule::ALL.into_iter().find(|rule| rule.number() == number)
     }
 }
 
@@ -293,10 +314,14 @@ pub fn node_values(t: &Table, row: usize) -> Vec<u32> {
     values
 }
 
-/// The sum of element j × beta^(k - 1 - j).
-pub fn combined(field: Field, tuple: &[u32], beta: Ext) -> Ext {
+/// The sum of element j × beta^(k - 1 - j) by rule 1, and of element j × beta^j by rule 2.
+pub fn combined(field: Field, rule: Rule, tuple: &[u32], beta: Ext) -> Ext {
     let k = tuple.len();
-    let term = |j: usize| field.scale(tuple[j], field.power(beta, (k - 1 - j) as u32));
+    let exponent = |j: usize| match rule {
+        Rule::One => k - 1 - j,
+        Rule::Two => j,
+    };
+    let term = |j: usize| field.scale(tuple[j], field.power(beta, exponent(j) as u32));
     sum(field, (0..k).map(term))
 }
 
@@ -307,6 +332,7 @@ fn sum(field: Field, elements: impl Iterator<Item = Ext>) -> Ext {
 /// A lookup with the values of its nodes on one row, and its challenges.
 struct Place<'a> {
     field: Field,
+    rule: Rule,
     lookup: &'a Lookup,
     values: &'a [u32],
     alpha: Ext,
@@ -331,7 +357,7 @@ impl Place<'_> {
     }
 
     fn denominator(&self, k: usize) -> Ext {
-        self.field.sub(self.alpha, combined(self.field, &self.tuple(k), self.beta))
+        self.field.sub(self.alpha, combined(self.field, self.rule, &self.tuple(k), self.beta))
     }
 
     fn branches(&self) -> std::ops::Range<usize> {
@@ -385,9 +411,10 @@ impl Place<'_> {
     }
 }
 
-/// Lookup i with its own pair of the challenges.
-fn placed<'a>(field: Field, lookup: &'a Lookup, values: &'a [u32], challenges: &[u32], i: usize) -> Place<'a> {
-    Place { field, lookup, values, alpha: element(challenges, 2 * i), beta: element(challenges, 2 * i + 1) }
+/// Lookup i of a table, with its own pair of the challenges.
+fn placed<'a>(t: &Table, lookup: &'a Lookup, values: &'a [u32], challenges: &[u32], i: usize) -> Place<'a> {
+    let (alpha, beta) = (element(challenges, 2 * i), element(challenges, 2 * i + 1));
+    Place { field: t.field, rule: t.rule, lookup, values, alpha, beta }
 }
 
 fn element(words: &[u32], i: usize) -> Ext {
@@ -401,7 +428,7 @@ pub fn faults(t: &Table, challenges: &[u32]) -> Vec<(u32, usize, usize)> {
     for row in 0..t.height as usize {
         let values = node_values(t, row);
         for (i, lookup) in records.iter().enumerate() {
-            let place = placed(t.field, lookup, &values, challenges, i);
+            let place = placed(t, lookup, &values, challenges, i);
             let fault = place.fault();
             if fault != 0 {
                 faults.push((fault, row, i));
@@ -419,7 +446,7 @@ pub fn satisfying(t: &Table, challenges: &[u32]) -> (Vec<u32>, Ext) {
         let values = node_values(t, row);
         trace.extend(accumulator);
         for (i, lookup) in records.iter().enumerate() {
-            let place = placed(t.field, lookup, &values, challenges, i);
+            let place = placed(t, lookup, &values, challenges, i);
             let (numerator, denominator) = place.terms();
             let fraction = t.field.mul(numerator, t.field.inverse(denominator));
             trace.extend(fraction);
@@ -458,7 +485,7 @@ pub fn generate(t: &Table, challenges: &[u32], trace: &mut [u32]) -> (Answer, Op
         let values = node_values(t, row);
         words[..4].copy_from_slice(&accumulator);
         for (i, lookup) in records.iter().enumerate() {
-            let place = placed(t.field, lookup, &values, challenges, i);
+            let place = placed(t, lookup, &values, challenges, i);
             let fault = place.fault();
             if fault != 0 {
                 trace.fill(0);
@@ -502,7 +529,7 @@ pub fn constraints(t: &Table, challenges: &[u32], width: u64, trace: &[u32], ter
         let mut sum = cell(row, 0);
         let mut must_vanish = vec![];
         for (i, lookup) in records.iter().enumerate() {
-            let place = placed(t.field, lookup, &values, challenges, i);
+            let place = placed(t, lookup, &values, challenges, i);
             let (numerator, denominator) = place.terms();
             must_vanish.push((i, t.field.sub(t.field.mul(denominator, cell(row, i + 1)), numerator)));
             sum = t.field.add(sum, cell(row, i + 1));
@@ -742,7 +769,7 @@ pub fn height_bound(tables: &[Table], heights: &[u64]) -> Answer {
     if below { ACCEPTED } else { Answer { number: 19, details: [sum, 0, 0] } }
 }
 
-pub fn terminals(Chosen { field, profile }: Chosen, terminals: &[Option<Ext>]) -> Answer {
+pub fn terminals(Chosen { field, profile, .. }: Chosen, terminals: &[Option<Ext>]) -> Answer {
     if profile.limits().tables < terminals.len() {
         return refused(1);
     }
@@ -753,7 +780,7 @@ pub fn terminals(Chosen { field, profile }: Chosen, terminals: &[Option<Ext>]) -
     if sum(field, present().copied()) == [0; 4] { ACCEPTED } else { refused(20) }
 }
 
-pub fn prefixes(Chosen { field, profile }: Chosen, alpha: Ext, beta: Ext, width: u64, count: u64) -> (Answer, Vec<Ext>) {
+pub fn prefixes(Chosen { field, profile, .. }: Chosen, alpha: Ext, beta: Ext, width: u64, count: u64) -> (Answer, Vec<Ext>) {
     let number = first_refused(&[
         (1, &|| width <= profile.limits().prefix_width && count <= profile.limits().prefixes),
         (2, &|| words_below(field, &alpha) && words_below(field, &beta)),
@@ -814,7 +841,7 @@ pub fn bus_tables(all: &Table, sizes: &[u32]) -> Option<Vec<Table>> {
 }
 
 /// The tables of the height bound, of which there are lookups.
-pub fn weighed_tables(Chosen { field, profile }: Chosen, lookups: &[u32], counts: &[u32]) -> Option<Vec<Table>> {
+pub fn weighed_tables(Chosen { field, profile, .. }: Chosen, lookups: &[u32], counts: &[u32]) -> Option<Vec<Table>> {
     let own = split(counts, 0, [(LOOKUP_WORDS, lookups.len())])?;
     let table = |Own { parts: [part], .. }| Table { field, profile, lookups: lookups[part].to_vec(), ..Table::default() };
     Some(own.into_iter().map(table).collect())
@@ -841,6 +868,7 @@ pub fn whole_tables(all: &Table, sizes: &[u32]) -> Option<Vec<Table>> {
         Table {
             field: all.field,
             profile: all.profile,
+            rule: all.rule,
             main_width: shape[0].into(),
             height: shape[1].into(),
             pre_width: shape[2].into(),
@@ -896,7 +924,8 @@ pub fn balance(tables: &[Table], workspace: &mut [u32]) -> Answer {
             for row in 0..tables[t].height as usize {
                 let values = node_values(&tables[t], row);
                 let field = tables[t].field;
-                let place = Place { field, lookup: &records[t][i], values: &values, alpha: [0; 4], beta: [0; 4] };
+                // The tuples are not combined: rule and challenges do not matter.
+                let place = Place { field, rule: Rule::One, lookup: &records[t][i], values: &values, alpha: [0; 4], beta: [0; 4] };
                 for k in place.branches() {
                     let flag = if place.lookup.exclusive { place.flag(k) } else { 1 };
                     let count = field.mul_word(place.multiplicity(k), flag);

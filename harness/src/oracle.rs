@@ -1,4 +1,5 @@
 //! The oracle: p3-lookup's own source, run on a table in the field of its words. A panic comes back as its message.
+use std::borrow::Cow;
 use std::cell::Cell;
 use std::marker::PhantomData;
 use std::panic::{self, AssertUnwindSafe};
@@ -18,7 +19,7 @@ use p3_matrix::dense::RowMajorMatrix;
 use p3_monty_31::{MontyField31, Quartic};
 use serde::Transparent;
 
-use crate::model;
+use crate::model::{self, Rule};
 use crate::plain::{Ext, Field};
 use crate::table::{Interaction, Lookup, Part, Table, chosen_of};
 
@@ -84,14 +85,22 @@ macro_rules! in_field {
     };
 }
 
+/// The table that generation and constraints are given. The crate has rule 1 alone: for rule 2 it is fed each tuple reversed.
+fn fed(t: &Table) -> Cow<'_, Table> {
+    match t.rule {
+        Rule::One => Cow::Borrowed(t),
+        Rule::Two => Cow::Owned(t.reversed()),
+    }
+}
+
 /// `generate_permutation`: the trace's words and the terminal.
 pub fn generate(t: &Table, challenges: &[u32]) -> Run<(Vec<u32>, Option<Ext>)> {
-    in_field!(t.field, generate(t, challenges))
+    in_field!(t.field, generate(&fed(t), challenges))
 }
 
 /// `eval_all` on every row: the first row and place whose value is not zero. Without rows it runs once, on empty ones.
 pub fn constraints(t: &Table, challenges: &[u32], width: u64, trace: &[u32], terminal: Option<Ext>) -> Run<Option<(usize, usize)>> {
-    in_field!(t.field, constraints(t, challenges, width, trace, terminal))
+    in_field!(t.field, constraints(&fed(t), challenges, width, trace, terminal))
 }
 
 pub fn degree(t: &Table, lookup: usize, transition: usize) -> Run<u64> {

@@ -207,12 +207,19 @@ mod exported {
 
     /// The wrapper's choices for a field and profile.
     pub fn choices(chosen: impl Into<Chosen>) -> delmatik::Choices {
-        let Chosen { field, profile } = chosen.into();
+        let Chosen { field, profile, .. } = chosen.into();
         let profile = match profile {
             model::Profile::Cabinet => Profile::Cabinet,
             model::Profile::Gateway => Profile::Gateway,
         };
         delmatik::Choices { field: field_of(field), profile }
+    }
+
+    fn rule_of(rule: model::Rule) -> Rule {
+        match rule {
+            model::Rule::One => Rule::One,
+            model::Rule::Two => Rule::Two,
+        }
     }
 
     fn field_of(field: Field) -> delmatik::Field {
@@ -227,7 +234,7 @@ mod exported {
         choices(chosen_of(tables))
     }
 
-    /// A table of one crate as a table of another: their parts have the same names, but the wrapper's has no field and no profile.
+    /// A table of one crate as a table of another: their parts have the same names, but the wrapper's has no field, profile and rule.
     macro_rules! moved {
         ($table:expr, $size:expr, $into:ident, $($chosen:ident)*) => {{
             let (t, size) = ($table, $size);
@@ -260,16 +267,16 @@ mod exported {
         tables.iter().map(wrapped).collect()
     }
 
-    fn unwrapped(Chosen { field, profile }: Chosen, t: Words) -> Table {
-        moved!(t, |n| n as u64, Table, field profile)
+    fn unwrapped(Chosen { field, profile, rule }: Chosen, t: Words) -> Table {
+        moved!(t, |n| n as u64, Table, field profile rule)
     }
 
     fn wrapped_bytes(t: &Table<u8>) -> Bytes {
         moved!(t.clone(), size, Bytes,)
     }
 
-    fn unwrapped_bytes(Chosen { field, profile }: Chosen, t: Bytes) -> Table<u8> {
-        moved!(t, |n| n as u64, Table, field profile)
+    fn unwrapped_bytes(Chosen { field, profile, rule }: Chosen, t: Bytes) -> Table<u8> {
+        moved!(t, |n| n as u64, Table, field profile rule)
     }
 
     /// The tables as bytes, by the wrapper's own conversion, and the bytes of their sizes.
@@ -320,23 +327,23 @@ mod exported {
         }
 
         fn generate(&self, t: &Table, challenges: &[Ext]) -> Refused<(Vec<u32>, Option<Ext>)> {
-            let generated = wrapped(t).generate(choices(t.chosen()), Rule::One, challenges).map_err(answer)?;
+            let generated = wrapped(t).generate(choices(t.chosen()), rule_of(t.rule), challenges).map_err(answer)?;
             Ok((generated.trace, element(generated.terminal)))
         }
 
         fn generate_into(&self, t: &Table, challenges: &[u32], trace: &mut [u32]) -> Refused<Option<Ext>> {
-            wrapped(t).generate_into(choices(t.chosen()), Rule::One, challenges, trace).map(element).map_err(answer)
+            wrapped(t).generate_into(choices(t.chosen()), rule_of(t.rule), challenges, trace).map(element).map_err(answer)
         }
 
         fn constraints(&self, t: &Table, challenges: &[Ext], width: u64, trace: &[u32], terminal: Option<Ext>) -> Refused<()> {
             wrapped(t)
-                .constraints(choices(t.chosen()), Rule::One, challenges, size(width), trace, terminal.map(LookupTerminal))
+                .constraints(choices(t.chosen()), rule_of(t.rule), challenges, size(width), trace, terminal.map(LookupTerminal))
                 .map_err(answer)
         }
 
         fn constraints_on(&self, t: &Table, challenges: &[u32], width: u64, trace: &[u32], terminal: Option<Ext>) -> Refused<()> {
             wrapped(t)
-                .constraints_on(choices(t.chosen()), Rule::One, challenges, size(width), trace, terminal.map(LookupTerminal))
+                .constraints_on(choices(t.chosen()), rule_of(t.rule), challenges, size(width), trace, terminal.map(LookupTerminal))
                 .map_err(answer)
         }
 
@@ -411,7 +418,7 @@ mod exported {
         }
 
         fn generate_bytes(&self, t: &Table<u8>, challenges: &[u8], trace: &mut [u8]) -> Refused<Option<Ext>> {
-            wrapped_bytes(t).generate_into(choices(t.chosen()), Rule::One, challenges, trace).map(element).map_err(answer)
+            wrapped_bytes(t).generate_into(choices(t.chosen()), rule_of(t.rule), challenges, trace).map(element).map_err(answer)
         }
 
         fn pack_bytes(&self, t: &Table<u8>, limit: u64) -> Refused<Table<u8>> {

@@ -55,6 +55,7 @@ fn smaller_cases(case: &Case) -> Vec<Case> {
     }
     with(&|c| c.choices = Choices::of(c.chosen()));
     with(&|c| *c = c.in_cabinet());
+    with(&|c| *c = c.by_rule_1().unwrap_or_else(|| c.clone()));
     with(&|c| c.interactions.clear());
     with(&|c| shorten(&mut c.interactions));
     with(&|c| c.interactions.iter_mut().for_each(of_node_0));

@@ -2,15 +2,17 @@
 use std::borrow::Cow;
 use std::fmt;
 
-use crate::model::{Chosen, Profile};
+use crate::model::{Chosen, Profile, Rule};
 use crate::plain::Field;
 
 /// The lists are words, or the bytes of words.
 #[derive(Clone, Debug, Default, PartialEq, Eq)]
 pub struct Table<W = u32> {
-    /// The field that its words are of, and the profile whose limits it is to keep. The tables of one call are of one field and one profile.
+    /// The field that its words are of, the profile whose limits it is to keep, and the rule by which generation and constraints combine its
+    /// tuples. The tables of one call have the same three.
     pub field: Field,
     pub profile: Profile,
+    pub rule: Rule,
     pub main_width: u64,
     pub height: u64,
     pub pre_width: u64,
@@ -132,7 +134,7 @@ impl Plan {
 
 impl<W> Table<W> {
     pub fn chosen(&self) -> Chosen {
-        Chosen { field: self.field, profile: self.profile }
+        Chosen { field: self.field, profile: self.profile, rule: self.rule }
     }
 }
 
@@ -152,10 +154,21 @@ pub struct Entry {
 }
 
 impl Table {
-    /// The same words in this field and profile.
+    /// The same words in this field and profile, by this rule.
     pub fn over(&self, chosen: Chosen) -> Cow<'_, Table> {
-        let Chosen { field, profile } = chosen;
-        if self.chosen() == chosen { Cow::Borrowed(self) } else { Cow::Owned(Table { field, profile, ..self.clone() }) }
+        let Chosen { field, profile, rule } = chosen;
+        if self.chosen() == chosen { Cow::Borrowed(self) } else { Cow::Owned(Table { field, profile, rule, ..self.clone() }) }
+    }
+
+    /// The same with each tuple reversed. Where the widths say more than there are elements, the last tuple is what is left.
+    pub fn reversed(&self) -> Table {
+        let (mut elements, mut rest) = (vec![], &self.elements[..]);
+        for width in &self.tuples {
+            let width = rest.len().min(*width as usize) as u32;
+            elements.extend(front(&mut rest, width).iter().rev());
+        }
+        elements.extend(rest);
+        Table { elements, ..self.clone() }
     }
 
     pub fn entries(&self) -> Vec<Entry> {
@@ -280,10 +293,11 @@ impl Table {
     /// The lists of all tables, one table after the other.
     pub fn joined(tables: &[Table]) -> Table {
         let words = |list: fn(&Table) -> &[u32]| tables.iter().flat_map(list).copied().collect();
-        let Chosen { field, profile } = chosen_of(tables);
+        let Chosen { field, profile, rule } = chosen_of(tables);
         Table {
             field,
             profile,
+            rule,
             main: words(|t| &t.main),
             preprocessed: words(|t| &t.preprocessed),
             public_values: words(|t| &t.public_values),
@@ -303,6 +317,7 @@ impl Table {
         Table {
             field: self.field,
             profile: self.profile,
+            rule: self.rule,
             main_width: self.main_width,
             height: self.height,
             pre_width: self.pre_width,
@@ -327,6 +342,7 @@ impl Table<u8> {
         Table {
             field: self.field,
             profile: self.profile,
+            rule: self.rule,
             main_width: self.main_width,
             height: self.height,
             pre_width: self.pre_width,
@@ -387,6 +403,7 @@ impl fmt::Display for Table {
         let lines = [
             line("field", &[self.field.number()]),
             line("profile", &[self.profile.number()]),
+            line("rule", &[self.rule.number()]),
             line("table", &[self.main_width, self.height, self.pre_width, self.pre_height]),
             line("main", &self.main),
             line("preprocessed", &self.preprocessed),
@@ -398,7 +415,7 @@ impl fmt::Display for Table {
     }
 }
 
-/// The field and profile of the tables of a call, any where there is none.
+/// The field, profile and rule of the tables of a call, any where there is none.
 pub fn chosen_of(tables: &[Table]) -> Chosen {
     tables.first().map_or_else(Chosen::default, Table::chosen)
 }

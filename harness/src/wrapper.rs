@@ -1,5 +1,5 @@
 //! The safe functions of bindings/rust, over the harness's own tables: a value, or the refusal. The wrapper has them, the model as a reference, and
-//! the wrong wrappers of the tests. Its types have known fields, profiles and rules alone; a table is of its own field and profile.
+//! the wrong wrappers of the tests. Its types have known fields, profiles and rules alone; those of a call are its table's own.
 use crate::exports::{Exports, Model};
 use crate::model::{self, ACCEPTED, Answer, Chosen};
 use crate::plain::{Ext, Field};

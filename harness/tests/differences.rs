@@ -3,7 +3,7 @@
 #![cfg(source)]
 use harness::exports::{Exports, marked};
 use harness::generator;
-use harness::model::{ACCEPTED, Answer, Choices, Profile};
+use harness::model::{ACCEPTED, Answer, Choices, Profile, Rule};
 use harness::oracle::{self, Run};
 use harness::plain::{Ext, Field, lift};
 use harness::table::{Interaction, Lookup, Part, Plan, Table, chosen_of};
@@ -150,7 +150,7 @@ fn limits_of_a_table() {
     ];
     let of_gateway = ["9 lookups", "5 words a tuple", "height 4097", "preprocessed height 4097"];
     let names = names.map(|name| (name, 1)).into_iter().chain(of_gateway.map(|name| (name, 2)));
-    for name in names.flat_map(|(name, profile)| [1, 2].map(|field| format!("{name}, field {field}, profile {profile}"))) {
+    for name in names.flat_map(|(name, profile)| [1, 2].map(|field| format!("{name}, field {field}, profile {profile}, rule 1"))) {
         let (_, case) = cases.iter().find(|(other, _)| *other == name).unwrap();
         let t = &case.tables[0];
         assert_eq!(generate(t, &case.challenges).number, 1, "{name}");
@@ -162,7 +162,7 @@ fn limits_of_a_table() {
 fn unknown_choices() {
     let t = table(&[3], &[]);
     let known = Choices::of(FIELD);
-    for choices in [Choices { field: 3, ..known }, Choices { profile: 3, ..known }, Choices { rule: 2, ..known }] {
+    for choices in [Choices { field: 3, ..known }, Choices { profile: 3, ..known }, Choices { rule: 3, ..known }] {
         assert_eq!(PORT.generate(choices, &t, &[], &mut [], &mut [7; 5]).number, 1);
     }
 }
@@ -649,6 +649,27 @@ fn names_are_bytes() {
     let t = table(&[3], &[named(b"a", 0), named(b"a\0", 1), named(b"\xff", 2), named(b"", 3)]);
     assert_eq!(pack(&t, 9).number, 0);
     assert_eq!(oracle::pack(&t, 9), Ok(t.records()));
+}
+
+#[test]
+fn tuples_are_reversed_for_rule_2() {
+    // (3, 2) with beta 10 combines to 32, and to 23 by rule 2, as (2, 3) does in the crate.
+    let pair = |tuple: [u32; 2]| table(&[3], &[Lookup { tuples: vec![tuple.to_vec()], ..once(0) }]);
+    let (t, reversed) = (pair([0, 3]), pair([3, 0]));
+    let by_two = Table { rule: Rule::Two, ..t.clone() };
+    let with = |alpha: u32| [lift(alpha), lift(10)].concat();
+    says(oracle::generate(&t, &with(32)), "Tried to invert zero");
+    says(oracle::generate(&reversed, &with(23)), "Tried to invert zero");
+    assert_eq!((generate(&by_two, &with(32)).number, generate(&by_two, &with(23)).number), (0, 15));
+    // With alpha 25 the fraction is 1 / 2, and the crate's constraints accept it for the reversed tuple alone.
+    let mut trace_of_two = [7; 8];
+    PORT.generate(Choices::of(by_two.chosen()), &by_two, &with(25), &mut trace_of_two, &mut [7; 5]);
+    assert_eq!(oracle::generate(&reversed, &with(25)), Ok((trace_of_two.to_vec(), Some(lift(HALF)))));
+    assert_eq!(trace_of_two.to_vec(), trace());
+    let of_crate = |t: &Table| oracle::constraints(t, &with(25), 2, &trace(), Some(lift(HALF)));
+    assert_eq!((of_crate(&reversed), of_crate(&t)), (Ok(None), Ok(Some((0, 0)))));
+    assert_eq!(constraints(&by_two, &with(25), 2, &trace(), Some(lift(HALF))), ACCEPTED);
+    assert_eq!(constraints(&t, &with(25), 2, &trace(), Some(lift(HALF))), refused(17, [0; 3]));
 }
 
 #[test]

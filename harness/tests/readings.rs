@@ -293,6 +293,140 @@ fn the_gateway_shares_the_other_limits() {
     assert_eq!([1023, 1024].map(|used| PORT.count_negated(gateway, &mut [7; 3 * 1025], used, [0, 1], &mut [7; 2]).number), [0, 1]);
 }
 
+/// One row with the words 3 and 7, and a lookup on "mem" whose tuple is `elements`, with multiplicity 5. Nodes 0 and 1: the columns.
+fn pair(elements: &[u32]) -> Table {
+    let mut t = Table { main_width: 2, height: 1, main: vec![3, 7], nodes: vec![1, 0, 0, 1, 1, 0, 0, 5, 0], ..Table::default() };
+    let bus = Some(b"mem".to_vec());
+    t.set_records(&[Lookup { bus, weight: 5, tuples: vec![elements.to_vec()], multiplicities: vec![2], ..Lookup::default() }]);
+    t
+}
+
+/// Generation with this alpha and beta 10: the answer, the trace's row and the terminal.
+fn generated(choices: Choices, t: &Table, alpha: u32) -> (Answer, [u32; 8], [u32; 5]) {
+    let (mut row, mut terminal) = ([7; 8], [7; 5]);
+    let answer = PORT.generate(choices, t, &[lift(alpha), lift(10)].concat(), &mut row, &mut terminal);
+    (answer, row, terminal)
+}
+
+/// What it gives where the fraction is `m`.
+fn fraction(m: u32) -> (Answer, [u32; 8], [u32; 5]) {
+    (ACCEPTED, [0, 0, 0, 0, m, 0, 0, 0], marked(Some(lift(m))))
+}
+
+/// What it gives where the denominator is zero.
+const FAULT: (Answer, [u32; 8], [u32; 5]) = (Answer { number: 15, details: [0; 3] }, [0; 8], [0; 5]);
+
+#[test]
+fn powers_of_beta_by_each_rule() {
+    // (3, 7) combines to 37 by rule 1 and to 73 by rule 2: alpha - 37 or alpha - 73 is the denominator.
+    let t = pair(&[0, 1]);
+    for field in [ONE, TWO] {
+        for (rule, combined, other) in [(1, 37, 73), (2, 73, 37)] {
+            let choices = Choices { rule, ..field };
+            assert_eq!(generated(choices, &t, combined), FAULT);
+            assert_eq!(generated(choices, &t, other).0, ACCEPTED);
+            assert_eq!(generated(choices, &t, combined + 1), fraction(5));
+            // The constraints take that fraction with this alpha by this rule alone.
+            let trace = [0, 5].map(lift).concat();
+            let asked = |rule: u32, alpha: u32| {
+                let challenges = [lift(alpha), lift(10)].concat();
+                PORT.constraints(Choices { rule, ..field }, &t, &challenges, 2, &trace, marked(Some(lift(5)))).number
+            };
+            assert_eq!([asked(rule, combined + 1), asked(rule, other + 1), asked(3 - rule, combined + 1)], [0, 17, 17]);
+        }
+        // By rule 1 on the tuple the other way round, all is as by rule 2.
+        let by_two = Choices { rule: 2, ..field };
+        assert!([36, 37, 38, 73, 74].iter().all(|alpha| generated(by_two, &t, *alpha) == generated(field, &pair(&[1, 0]), *alpha)));
+    }
+}
+
+#[test]
+fn powers_of_beta_on_bytes() {
+    let (t, challenges) = (pair(&[0, 1]), [lift(74), lift(10)].concat());
+    let read = [&t.main[..], &t.nodes, &challenges, &t.lookups, &t.tuples, &t.multiplicities, &t.elements].concat();
+    let generate = |rule: u32| {
+        let mut rooms = Rooms { read: vec![7; read.len()], written: vec![7; 8] };
+        let (mut trace, mut terminal) = ([7; 32], [7; 5]);
+        let answer =
+            PORT.generate_bytes(Choices { rule, ..ONE }, &t.bytes(), &bytes_of(&challenges), &mut trace, &mut rooms, &mut terminal);
+        assert_eq!(bytes_of(&rooms.written), trace);
+        (answer, rooms, terminal)
+    };
+    let (_, row, terminal) = fraction(5);
+    // The room has the elements as they are lent.
+    assert_eq!(generate(2), (ACCEPTED, Rooms { read: read.clone(), written: row.to_vec() }, terminal));
+    let (answer, rooms, terminal) = generate(1);
+    assert_eq!((answer, rooms.read), (ACCEPTED, read));
+    assert_ne!(terminal, marked(Some(lift(5))));
+}
+
+#[test]
+fn tuples_without_an_order() {
+    // (), (7) and (3, 3) combine to 0, 7 and 33 by both rules.
+    for (elements, combined) in [(&[][..], 0), (&[1], 7), (&[0, 0], 33)] {
+        for choices in [1, 2].map(|rule| Choices { rule, ..ONE }) {
+            assert_eq!(generated(choices, &pair(elements), combined), FAULT);
+            assert_eq!(generated(choices, &pair(elements), combined + 1), fraction(5));
+        }
+    }
+}
+
+#[test]
+fn each_tuple_has_its_own_order() {
+    // (3), (7, 3) and () in one lookup, then (3, 7): by rule 2 they combine to 3, 37 and 0, then to 73, and no other alpha is refused.
+    let mut t = pair(&[]);
+    let lookup = t.records().remove(0);
+    let tuples = vec![vec![0], vec![1, 0], vec![]];
+    t.set_records(&[
+        Lookup { tuples, multiplicities: vec![2; 3], ..lookup.clone() },
+        Lookup { column: 1, tuples: vec![vec![0, 1]], ..lookup },
+    ]);
+    let number = |rule: u32, alphas: [u32; 2]| {
+        let challenges = alphas.map(|alpha| [lift(alpha), lift(10)].concat()).concat();
+        let answer = PORT.generate(Choices { rule, ..ONE }, &t, &challenges, &mut [7; 12], &mut [7; 5]);
+        (answer.number, answer.details[1])
+    };
+    let met = |rule: u32| {
+        let first = (0..80).filter(|alpha| number(rule, [*alpha, 1000]) == (15, 0)).collect::<Vec<u32>>();
+        let second = (0..80).filter(|alpha| number(rule, [1000, *alpha]) == (15, 1)).collect::<Vec<u32>>();
+        (first, second)
+    };
+    assert_eq!(met(2), (vec![0, 3, 37], vec![73]));
+    assert_eq!(met(1), (vec![0, 3, 73], vec![37]));
+}
+
+#[test]
+fn a_power_of_beta_0() {
+    // beta^0 is 1 for beta 0 too: by rule 1 the last element is what counts, by rule 2 the first.
+    for (rule, combined) in [(1, 7), (2, 3)] {
+        let number = |alpha: u32| {
+            PORT.generate(Choices { rule, ..ONE }, &pair(&[0, 1]), &[lift(alpha), lift(0)].concat(), &mut [7; 8], &mut [7; 5]).number
+        };
+        assert_eq!((0..20).filter(|alpha| number(*alpha) == 15).collect::<Vec<u32>>(), [combined]);
+    }
+}
+
+#[test]
+fn functions_without_a_rule() {
+    // Balance and packing take no rule: (3, 7) and (7, 3) are two tuples, and packed they keep their order.
+    let mut t = pair(&[]);
+    let lookup = t.records().remove(0);
+    t.add_node(12, 2, 0);
+    let of = |column: u32, tuple: Vec<u32>, multiplicity: u32| Lookup {
+        column,
+        tuples: vec![tuple],
+        multiplicities: vec![multiplicity],
+        ..lookup.clone()
+    };
+    for (second, number) in [(vec![0, 1], 0), (vec![1, 0], 18)] {
+        t.set_records(&[of(0, vec![0, 1], 2), of(1, second.clone(), 3)]);
+        assert_eq!(PORT.balance(ONE, &t, &t.sizes(), 1, &mut [7; 20]).number, number);
+        let mut out = t.clone();
+        assert_eq!(PORT.pack(ONE, &t, 9, &mut out, &mut [7; 6]), ACCEPTED);
+        assert_eq!(out.elements, [vec![0, 1], second].concat());
+    }
+}
+
 /// Choices with an unknown number among them.
 fn unknown() -> Vec<Choices> {
     let fields = [0, 3, u32::MAX].map(|field| Choices { field, ..ONE });
@@ -307,7 +441,7 @@ fn unknown_numbers_come_first() {
     let (mut high, mut without) = (table(Some(b"mem")), table(None));
     (high.main[0], high.nodes[4]) = (u32::MAX, u32::MAX);
     without.set_records(&[]);
-    let rules = [0, 2, u32::MAX].map(|rule| Choices { rule, ..TWO });
+    let rules = [0, 3, 257, 258, u32::MAX].map(|rule| Choices { rule, ..TWO });
     for t in [&high, &without] {
         for choices in [&unknown()[..], &rules].concat() {
             let (mut trace, mut terminal) = ([7; 8], [7; 5]);

@@ -1,10 +1,10 @@
 //! The comparison notices wrong ports and wrong wrappers, and makes what it finds small. The wrong ones are readings that
-//! docs/SPECIFICATION.md rules out, fields and profiles that are mixed, choices that are not tested, outputs that are written or left where they
-//! must not be, and slips in the wrapper.
+//! docs/SPECIFICATION.md rules out, fields, profiles and tuple rules that are mixed, choices that are not tested, outputs that are written or left
+//! where they must not be, and slips in the wrapper.
 use harness::compare::{Disagreement, Tally, check_port};
 use harness::exports::{Exports, Model, Rooms, marked};
 use harness::generator::{self, Case};
-use harness::model::{self, Answer, Choices, Chosen, Profile};
+use harness::model::{self, Answer, Choices, Chosen, Profile, Rule};
 use harness::plain::{Ext, Field, KoalaBear, PrimeField, Random};
 use harness::port::Port;
 use harness::shrink::shrink;
@@ -39,10 +39,12 @@ mistakes! {
     FirstPrimeInTwo, FirstPrimeInTwoOfConstants, FirstPrimeInNineteen, FirstPrimeInFractions, FirstPrimeInConstraints, FirstPrimeInTerminals,
     FirstPrimeInNets, FirstPrimeInCounts, ElevenInFractions, ElevenInPrefixes, ElevenInPowers, ElevenInInverses, SecondPrimeInTwo,
     SecondPrimeInNineteen,
+    // Rule 2 by rule 1 on tuples that are not reversed one by one, and its faults by rule 1.
+    AllReversedAsOne, LookupsReversedAsOne, FirstTupleReversedAlone, EndsExchanged, ConstraintsReverseAllAsOne, FaultsByRuleOne,
     // Lent words.
     WritesPastTheEnd, KeepsTraceAfterFault, WorkspaceNotCleared, TerminalZeroedByRefusal, TerminalKeptAfterFault, DegreeZeroedByRefusal,
     PackedZeroedByRefusal, BuiltZeroedByRefusal, WidestZeroedByRefusal, UsedInRecords, PackedPastTheEnd, PrefixesZeroedByRefusal,
-    ElementZeroedByRefusal, CountZeroedByRefusal, NodesZeroedByRefusal, RoomNotFilled, WrittenRoomNotFilled, RoomFilledThoughRefused,
+    ElementZeroedByRefusal, CountZeroedByRefusal, NodesZeroedByRefusal, RoomNotFilled, WrittenRoomNotFilled, RoomFilledThoughRefused, RoomReversed,
     BytesTerminalZeroedByRefusal, BytesUsedZeroedByRefusal,
     // The wrapper.
     WithoutFlags, WithoutNames, CountOfNine, SizesExchanged, GenerateWithoutTerminal, GenerateShort, ConstraintsWithoutTerminal, PackNotCut,
@@ -82,6 +84,15 @@ fn of_profile(choices: Choices, profile: Profile) -> Choices {
     Choices { profile: profile.number(), ..choices }
 }
 
+/// The same call by another rule.
+fn by_rule(choices: Choices, rule: Rule) -> Choices {
+    Choices { rule: rule.number(), ..choices }
+}
+
+fn is_by_two(choices: Choices) -> bool {
+    choices.rule == Rule::Two.number()
+}
+
 fn other_field(field: Field) -> Field {
     if field == Field::BabyBear { Field::KoalaBear } else { Field::BabyBear }
 }
@@ -103,16 +114,46 @@ fn between(words: &[u32]) -> bool {
     words.iter().any(|word| Field::BabyBear.prime() <= *word)
 }
 
+/// The elements of some tuples, the last first.
+fn reversed(tuples: &[Vec<u32>]) -> Vec<u32> {
+    tuples.concat().into_iter().rev().collect()
+}
+
+impl Mistake {
+    /// The call by rule 1 that is made in the place of one by rule 2, if any.
+    fn by_rule_1(&self, choices: Choices, t: &Table) -> Option<(Choices, Table)> {
+        if !is_by_two(choices) || !t.fits() {
+            return None;
+        }
+        let lookups: Vec<Vec<Vec<u32>>> = t.records().into_iter().map(|r| r.tuples).collect();
+        let mut tuples = lookups.concat();
+        match self {
+            AllReversedAsOne | ConstraintsReverseAllAsOne => tuples = vec![reversed(&tuples)],
+            LookupsReversedAsOne => tuples = lookups.iter().map(|tuples| reversed(tuples)).collect(),
+            FirstTupleReversedAlone => tuples.iter_mut().take(1).for_each(|tuple| tuple.reverse()),
+            EndsExchanged => tuples.iter_mut().for_each(|tuple| {
+                if let [first, .., last] = &mut tuple[..] {
+                    std::mem::swap(first, last);
+                }
+            }),
+            _ => return None,
+        }
+        Some((by_rule(choices, Rule::One), Table { elements: tuples.concat(), ..t.clone() }))
+    }
+}
+
 impl Exports for Mistake {
     fn generate(&self, choices: Choices, t: &Table, challenges: &[u32], trace: &mut [u32], terminal: &mut [u32; 5]) -> Answer {
-        let mut reversed = t.clone();
-        if *self == FirstElementBetaZero && t.fits() {
-            let mut records = t.records();
-            records.iter_mut().flat_map(|r| &mut r.tuples).for_each(|tuple| tuple.reverse());
-            reversed.set_records(&records);
+        let instead = match self {
+            FirstElementBetaZero => Some((choices, t.reversed())),
+            ConstraintsReverseAllAsOne => None,
+            _ => self.by_rule_1(choices, t),
+        };
+        if let Some((choices, t)) = instead {
+            return RIGHT.generate(choices, &t, challenges, trace, terminal);
         }
         let (before, terminal_before) = (trace.to_vec(), *terminal);
-        let mut answer = RIGHT.generate(choices, &reversed, challenges, trace, terminal);
+        let mut answer = RIGHT.generate(choices, t, challenges, trace, terminal);
         let accepted = answer.number == 0;
         let given = accepted && terminal[0] == 1;
         let row = 4 * (t.lookup_count() + 1);
@@ -125,6 +166,15 @@ impl Exports for Mistake {
                 for words in trace[..t.height as usize * row].chunks_exact_mut(row) {
                     let sum = words.chunks_exact(4).map(|e| e.try_into().unwrap()).fold([0; 4], |a, b| t.field.add(a, b));
                     words[..4].copy_from_slice(&sum);
+                }
+            }
+            FaultsByRuleOne if given && is_by_two(choices) => {
+                let (mut rows, mut sum) = (trace.to_vec(), *terminal);
+                let by_one = RIGHT.generate(by_rule(choices, Rule::One), t, challenges, &mut rows, &mut sum);
+                if by_one.number == 15 {
+                    trace.copy_from_slice(&rows);
+                    *terminal = sum;
+                    answer = by_one;
                 }
             }
             KeepsTraceAfterFault if 13 <= answer.number => trace.copy_from_slice(&before),
@@ -150,6 +200,10 @@ impl Exports for Mistake {
     fn constraints(&self, choices: Choices, t: &Table, challenges: &[u32], width: u64, trace: &[u32], terminal: [u32; 5]) -> Answer {
         let answer = RIGHT.constraints(choices, t, challenges, width, trace, terminal);
         match self {
+            ConstraintsReverseAllAsOne => {
+                let instead = self.by_rule_1(choices, t);
+                instead.map_or(answer, |(choices, t)| RIGHT.constraints(choices, &t, challenges, width, trace, terminal))
+            }
             AcceptsAnyTrace if answer.number == 17 => model::ACCEPTED,
             AbsentTerminalTested if answer.number != 1 && terminal[0] == 0 && terminal[1] == u32::MAX => model::refused(2),
             FirstPrimeInConstraints if is_second(choices) => {
@@ -296,6 +350,12 @@ impl Exports for Mistake {
     ) -> Answer {
         let before = rooms.clone();
         let answer = RIGHT.generate_bytes(choices, t, challenges, trace, rooms, terminal);
+        if *self == RoomReversed && is_by_two(choices) && rooms.read != before.read {
+            // The elements are the last of its lists.
+            let reversed = t.words().reversed().elements;
+            let start = rooms.read.len() - reversed.len();
+            rooms.read[start..].copy_from_slice(&reversed);
+        }
         self.of_rooms(answer, before, rooms);
         if *self == BytesTerminalZeroedByRefusal && by_refusal(answer) {
             *terminal = [0; 5];
@@ -620,6 +680,14 @@ enum Slip {
     /// One of the profiles computes in the other field.
     OtherFieldInCabinet,
     OtherFieldInGateway,
+    /// Everything is by rule 1, or by rule 2.
+    RuleIgnored,
+    RuleTwoAlone,
+    RuleTwoRefused,
+    /// Rule 2 is known by 3 too, or a rule by its least byte.
+    ThirdRuleKnown,
+    RuleOfOneByte,
+    ProfileAndRuleExchanged,
 }
 use Slip::*;
 
@@ -641,7 +709,9 @@ fn slips() -> Vec<Misread> {
         add(!is(&on_element) && function != "negated count", FieldAndProfileExchanged);
         add(true, UnknownFieldTaken);
         add(!is(&on_element), UnknownProfileTaken);
-        add(is(&ruled), UnknownRuleTaken);
+        for slip in [UnknownRuleTaken, RuleIgnored, RuleTwoAlone, RuleTwoRefused, ThirdRuleKnown, RuleOfOneByte, ProfileAndRuleExchanged] {
+            add(is(&ruled), slip);
+        }
         // A count of a number is refused by 1 alone.
         add(function != "count from a number", UnknownAfterTheOthers);
         add(is(&ruled) || is(&of_tables), UnknownWithoutLookupsTaken);
@@ -687,11 +757,14 @@ fn slips() -> Vec<Misread> {
         let is = |list: &[&str]| list.contains(&function);
         let on_element = is(&["wrapper: power", "wrapper: inverse"]);
         let limited = !on_element && !is(&["wrapper: terminals", "wrapper: prefixes", "wrapper: Count::from_i32"]);
+        let ruled = function.contains("generate") || function.contains("constraints");
         add(function != "wrapper: widths", FieldIgnored);
         add(function != "wrapper: widths", FieldsExchanged);
         add(limited, GatewayIgnored);
         add(limited, ProfilesExchanged);
         add(!on_element && function != "wrapper: widths", OtherFieldInGateway);
+        add(ruled, RuleIgnored);
+        add(ruled, RuleTwoAlone);
     }
     slips
 }
@@ -706,12 +779,17 @@ impl Misread {
         lent: &mut L,
         call: impl Fn(Choices, &mut L) -> Answer,
     ) -> Answer {
-        let Choices { field, profile, .. } = choices;
-        let chosen = Chosen { field: Field::numbered(field).unwrap_or_default(), profile: Profile::numbered(profile).unwrap_or_default() };
+        let Choices { field, profile, rule } = choices;
+        let chosen = Chosen {
+            field: Field::numbered(field).unwrap_or_default(),
+            profile: Profile::numbered(profile).unwrap_or_default(),
+            rule: Rule::numbered(rule).unwrap_or_default(),
+        };
         let known = Choices::of(chosen);
         let unknown = || choices != known && call(choices, &mut lent.clone()).number == 1;
         let lookups = tables.iter().any(|t| !t.lookups.is_empty());
         let gateway = profile == Profile::Gateway.number();
+        let known_rule = Rule::numbered(rule).is_some();
         let most = |of: fn(&Table) -> u64| tables.iter().map(of).max().unwrap_or(0);
         let within = |t: &Table| t.lookup_count() <= 8 && t.tuples.iter().all(|w| *w <= 4) && t.height.max(t.pre_height) <= 4096;
         let cabinet = of_profile(choices, Profile::Cabinet);
@@ -753,14 +831,20 @@ impl Misread {
             FirstTableAlone if gateway && tables.first().is_some_and(within) && !tables.iter().all(within) => cabinet,
             OtherFieldInCabinet if !gateway => Choices { field: other_field(chosen.field).number(), ..choices },
             OtherFieldInGateway if gateway => Choices { field: other_field(chosen.field).number(), ..choices },
+            RuleIgnored if known_rule => by_rule(choices, Rule::One),
+            RuleTwoAlone if known_rule => by_rule(choices, Rule::Two),
+            RuleTwoRefused if is_by_two(choices) => return model::refused(1),
+            ThirdRuleKnown if rule == 3 => by_rule(choices, Rule::Two),
+            RuleOfOneByte => Choices { rule: rule % 256, ..choices },
+            ProfileAndRuleExchanged => Choices { profile: rule, rule: profile, ..choices },
             _ => choices,
         };
         call(choices, lent)
     }
 
-    /// The field and profile with which a function of the wrapper is called.
+    /// The field, profile and rule with which a function of the wrapper is called.
     fn chosen(&self, function: &str, chosen: Chosen) -> Chosen {
-        let Chosen { field, profile } = chosen;
+        let Chosen { field, profile, .. } = chosen;
         match self.slip {
             _ if function != self.function => chosen,
             FieldIgnored => Chosen { field: Field::BabyBear, ..chosen },
@@ -769,6 +853,8 @@ impl Misread {
             ProfilesExchanged => Chosen { profile: other_profile(profile), ..chosen },
             OtherFieldInCabinet if profile == Profile::Cabinet => Chosen { field: other_field(field), ..chosen },
             OtherFieldInGateway if profile == Profile::Gateway => Chosen { field: other_field(field), ..chosen },
+            RuleIgnored => Chosen { rule: Rule::One, ..chosen },
+            RuleTwoAlone => Chosen { rule: Rule::Two, ..chosen },
             _ => chosen,
         }
     }
@@ -1051,13 +1137,13 @@ impl Wrapper for Misread {
     }
 
     fn generate_bytes(&self, t: &Table<u8>, challenges: &[u8], trace: &mut [u8]) -> Refused<Option<Ext>> {
-        let Chosen { field, profile } = self.chosen("wrapper: bytes::generate_into", t.chosen());
-        let t = Table { field, profile, ..t.clone() };
+        let Chosen { field, profile, rule } = self.chosen("wrapper: bytes::generate_into", t.chosen());
+        let t = Table { field, profile, rule, ..t.clone() };
         SAFE.generate_bytes(&t, challenges, trace)
     }
 
     fn pack_bytes(&self, t: &Table<u8>, limit: u64) -> Refused<Table<u8>> {
-        let Chosen { field, profile } = self.chosen("wrapper: bytes::pack", t.chosen());
+        let Chosen { field, profile, .. } = self.chosen("wrapper: bytes::pack", t.chosen());
         let packed = SAFE.pack_bytes(&Table { field, profile, ..t.clone() }, limit)?;
         Ok(Table { field: t.field, profile: t.profile, ..packed })
     }
@@ -1126,5 +1212,16 @@ fn what_the_gateway_accepts_is_compared_with_the_cabinet() {
         let wrong = Misread { function, slip: OtherFieldInCabinet };
         let found = cases.iter().find_map(|case| compared(&wrong, case)).map(|found| (found.function, found.text));
         assert!(found.is_some_and(|(other, text)| other == function && text.starts_with("gateway and cabinet")), "{function}");
+    }
+}
+
+#[test]
+fn rule_2_is_compared_with_rule_1() {
+    // Ports that are right by rule 2: nothing but the second call of these cases shows that they combine by it for rule 1 too.
+    let cases: Vec<Case> = cases().into_iter().filter(|case| is_by_two(case.choices)).collect();
+    for function in ["generation", "constraints", "generation on bytes"] {
+        let wrong = Misread { function, slip: RuleTwoAlone };
+        let found = cases.iter().find_map(|case| compared(&wrong, case)).map(|found| (found.function, found.text));
+        assert!(found.is_some_and(|(other, text)| other == function && text.starts_with("rule 2 and rule 1")), "{function}");
     }
 }

@@ -93,13 +93,30 @@ pub enum Profile {
     Gateway = 2,
 }
 
-/// How generation and constraints combine the words of a tuple.
+/// How generation and constraints combine the elements of a tuple. Nothing else depends on the rule, and no other function takes one.
+///
+/// ```
+/// use delmatik::{Choices, Lookup, Refusal, Rule, Table};
+///
+/// // One row with the tuple (3, 7), multiplicity 1. Nodes: the two columns, then the constant 1.
+/// let lookup = Lookup { bus: Some(b"mem".to_vec()), weight: 1, tuples: vec![vec![0, 1]], multiplicities: vec![2], ..Lookup::default() };
+/// let table = Table { main_width: 2, height: 1, main: vec![3, 7], nodes: vec![1, 0, 0, 1, 1, 0, 0, 1, 0], ..Table::default() }.with(&[lookup]);
+///
+/// // With beta 10 it combines to 37 by rule 1 and to 73 by rule 2. With that alpha the denominator is 0, and with one more 1.
+/// let generate = |rule, alpha| table.generate(Choices::default(), rule, &[[alpha, 0, 0, 0], [10, 0, 0, 0]]);
+/// for (rule, combined) in [(Rule::One, 37), (Rule::Two, 73)] {
+///     assert_eq!(generate(rule, combined), Err(Refusal { number: 15, details: [0; 3] }));
+///     assert_eq!(generate(rule, combined + 1).unwrap().terminal.unwrap().0, [1, 0, 0, 0]);
+/// }
+/// ```
 #[derive(Clone, Copy, Debug, Default, PartialEq, Eq)]
 #[non_exhaustive]
 pub enum Rule {
-    /// The first word goes with the highest power of beta, the last with beta^0.
+    /// The first element goes with the highest power of beta, the last with beta^0.
     #[default]
     One = 1,
+    /// The first element goes with beta^0, the last with the highest power of beta.
+    Two = 2,
 }
 
 /// What every function that can refuse takes first. By default field 1 and the cabinet's limits.

@@ -3,8 +3,8 @@
 //! source, balance beside a hash map as well, also on tuples that were chosen to be slow; and generation at growing heights. Counts the
 //! instructions of generation and constraints, by valgrind's callgrind. Generation and constraints are measured in both fields, a table for
 //! each; all else is in field 1. Prints tables; `--only PART` runs one part: evaluation, generation, constraints, instructions, growth, balance
-//! or collisions; `--rounds N` repeats long work N times in the place of 3. Whatever the crate's source would be compared with is measured
-//! without it too.
+//! or collisions; `--rounds N` repeats long work N times in the place of 3; `--rule 2` is the tuple rule in the place of 1. Whatever the
+//! crate's source would be compared with is measured without it too.
 //!
 //!     cargo run --release --offline --features port --bin bench
 use std::collections::HashMap;
@@ -32,6 +32,15 @@ type Side<'a, A> = Box<dyn FnMut() -> A + 'a>;
 fn rounds(rows: usize) -> usize {
     let given = argument("--rounds").map_or(3, |n| n.parse().expect("--rounds takes a number"));
     if rows <= 1 << 14 { given.max(31) } else { given }
+}
+
+/// The tuple rule of generation and constraints.
+fn rule() -> Rule {
+    match argument("--rule").as_deref() {
+        None | Some("1") => Rule::One,
+        Some("2") => Rule::Two,
+        Some(other) => panic!("--rule takes 1 or 2, not {other}"),
+    }
 }
 
 /// The medians of the sides, in nanoseconds a row, one round of each after the other; the first is the port.
@@ -120,8 +129,8 @@ impl Shape {
 }
 
 /// What generation gives, by the port.
-fn generated(choices: Choices, t: &delmatik::Table, challenges: &[Ext]) -> (Vec<u32>, Option<Ext>) {
-    let g = t.generate(choices, Rule::One, challenges).unwrap();
+fn generated(choices: Choices, rule: Rule, t: &delmatik::Table, challenges: &[Ext]) -> (Vec<u32>, Option<Ext>) {
+    let g = t.generate(choices, rule, challenges).unwrap();
     (g.trace, g.terminal.map(|LookupTerminal(e)| e))
 }
 
@@ -148,7 +157,7 @@ fn evaluation(random: &mut Random) {
         trace
     };
     heading(&["row evaluation", "port", "the same loop in Rust", "ratio"]);
-    let by_port = || generated(choices(FIELD), &port, &[[1, 0, 0, 0], [0; 4]]).0;
+    let by_port = || generated(choices(FIELD), Rule::One, &port, &[[1, 0, 0, 0], [0; 4]]).0;
     let times = race(ROWS, vec![Box::new(by_port), Box::new(same_loop)]);
     report("20 nodes, in a table with an empty lookup", &times, " ns");
 }
@@ -157,21 +166,29 @@ fn challenges(random: &mut Random, field: Field, count: u32) -> Vec<Ext> {
     (0..2 * count).map(|_| random.element(field)).collect()
 }
 
-/// A table with its challenges.
+/// A table with its challenges and its rule.
 struct Job {
-    table: Table,
     port: delmatik::Table,
+    /// The same for the other sides. They have rule 1 alone: by rule 2 each tuple is reversed, which is as much work.
+    table: Table,
+    rule: Rule,
     challenges: Vec<Ext>,
 }
 
 impl Job {
     fn new(shape: &Shape, random: &mut Random, field: Field, rows: usize) -> Self {
-        let table = shape.table(random, field, rows);
-        Job { port: wrapped(&table), challenges: challenges(random, field, shape.lookups), table }
+        let (mut table, rule) = (shape.table(random, field, rows), rule());
+        let port = wrapped(&table);
+        if rule == Rule::Two {
+            let mut records = table.records();
+            records.iter_mut().flat_map(|lookup| &mut lookup.tuples).for_each(|tuple| tuple.reverse());
+            table.set_records(&records);
+        }
+        Job { port, table, rule, challenges: challenges(random, field, shape.lookups) }
     }
 
     fn generated(&self) -> (Vec<u32>, Option<Ext>) {
-        generated(choices(self.table.field), &self.port, &self.challenges)
+        generated(choices(self.table.field), self.rule, &self.port, &self.challenges)
     }
 
     /// The port, the tuned version, with either way to invert, and the crate, where its source is at hand.
@@ -191,7 +208,7 @@ impl Job {
         let (choices, columns) = (choices(self.table.field), self.challenges.len() / 2 + 1);
         let wrapped = terminal.map(LookupTerminal);
         let mut sides: Vec<Side<'_, _>> =
-            vec![Box::new(move || self.port.constraints(choices, Rule::One, &self.challenges, columns, trace, wrapped).unwrap())];
+            vec![Box::new(move || self.port.constraints(choices, self.rule, &self.challenges, columns, trace, wrapped).unwrap())];
         sides.extend(crate_constraints(&self.table, self.challenges.as_flattened(), columns, trace, terminal));
         sides
     }
@@ -232,7 +249,7 @@ impl Part {
             Part::Generation => ("generation", ["tuned Rust", "ratio", "by norms too", "ratio", "the crate", "ratio"].as_slice()),
             Part::Constraints => ("constraints", ["the crate", "ratio"].as_slice()),
         };
-        heading(&[&[format!("{name}, field {}", field.number()).as_str(), "port"], others].concat());
+        heading(&[&[format!("{name}, field {}, rule {}", field.number(), rule() as u32).as_str(), "port"], others].concat());
     }
 
     /// The times of all sides, for a row.
@@ -291,7 +308,7 @@ fn instructions(random: &mut Random) {
                     let run = Command::new("valgrind")
                         .args(["--tool=callgrind", "--callgrind-out-file=/dev/null", "--toggle-collect=counted_work"])
                         .arg(std::env::current_exe().unwrap())
-                        .args(["--count", &format!("{number} {} {i} {side}", field.number())])
+                        .args(["--rule", &(rule() as u32).to_string(), "--count", &format!("{number} {} {i} {side}", field.number())])
                         .output()
                         .expect("valgrind is at hand");
                     let said = String::from_utf8_lossy(&run.stderr).into_owned();
@@ -306,17 +323,13 @@ fn instructions(random: &mut Random) {
     }
 }
 
-/// Four lookups at heights from 2^10 to 2^20.
+/// Four lookups at heights from 2^10 to 2^20, by the port and by the first tuned version.
 fn growth(random: &mut Random) {
     heading(&["generation, 4 lookups", "port", "tuned Rust", "ratio"]);
     for bits in (10..=20).step_by(2) {
-        let rows = 1 << bits;
-        let t = SHAPES[1].table(random, FIELD, rows);
-        let (port, challenges) = (wrapped(&t), challenges(random, FIELD, SHAPES[1].lookups));
-        let words = challenges.as_flattened();
-        let by_port = || generated(choices(FIELD), &port, &challenges);
-        let times = race(rows, vec![Box::new(by_port), Box::new(|| tuned::generate(&t, words, Product::Denominators))]);
-        report(&format!("2^{bits} rows"), &times, " ns");
+        let job = Job::new(&SHAPES[1], random, FIELD, 1 << bits);
+        let sides = job.generation().into_iter().take(2).collect();
+        report(&format!("2^{bits} rows"), &race(1 << bits, sides), " ns");
     }
 }
 

@@ -1,7 +1,7 @@
-//! Calls every exported function with good, damaged and random words, in both fields and profiles and with unknown choices, in memory that
-//! notices reads and writes outside what is lent. After each call: the number is one of the function's, and 1 where a choice is unknown; details
-//! are zero unless docs/SPECIFICATION.md names them; nothing beside the lists and no input was written; refusals 1 to 12 left all outputs as they
-//! were, the small ones too, and an unknown choice also the rooms.
+//! Calls every exported function with good, damaged and random words, in both fields and profiles, by both rules and with unknown choices, in
+//! memory that notices reads and writes outside what is lent. After each call: the number is one of the function's, and 1 where a choice is
+//! unknown; details are zero unless docs/SPECIFICATION.md names them; nothing beside the lists and no input was written; refusals 1 to 12 left all
+//! outputs as they were, the small ones too, and an unknown choice also the rooms.
 //!
 //!     cargo run --release --offline --features port --bin fuzz -- --cases 100000 --seed 1
 use std::collections::BTreeMap;

@@ -1,11 +1,11 @@
-//! How much memory a largest call of each exported function takes, in each profile: the stack that it writes, and what it is lent. Then the peak
-//! of the resident memory of a process that makes one call of generation. Prints tables (docs/BENCHMARKS.md).
+//! How much memory a largest call of each exported function takes, in each profile and by either rule: the stack that it writes, and what it is
+//! lent. Then the peak of the resident memory of a process that makes one call of generation. Prints tables (docs/BENCHMARKS.md).
 //!
 //!     cargo run --release --offline --features port --bin memory
 use std::process::Command;
 
 use delmatik::sys;
-use harness::model::{self, Limits, Profile};
+use harness::model::{self, Limits, Profile, Rule};
 use harness::plain::{Field, Random};
 use harness::report::{argument, grouped, heading};
 use harness::table::{self, Interaction, Lookup, Plan, Table, bytes_of};
@@ -157,31 +157,31 @@ impl OfTable {
         vec![0; 4 * (self.table.lookup_count() + 1) * self.sizes[1]]
     }
 
-    fn generation<'a>(&'a self, trace: &'a mut [u32], terminal: &'a mut [u32; 5]) -> Call<'a> {
+    fn generation<'a>(&'a self, rule: Rule, trace: &'a mut [u32], terminal: &'a mut [u32; 5]) -> Call<'a> {
         let (t, [field, profile], [width, height, pre_width, pre_height]) = (&self.table, self.chosen, self.sizes);
         call! { 0, delmatik_generate(
-            field, profile, 1, width, height, pre_width, pre_height, [t.main], [t.preprocessed], [t.public_values], [t.nodes], [t.lookups],
+            field, profile, rule.number(), width, height, pre_width, pre_height, [t.main], [t.preprocessed], [t.public_values], [t.nodes], [t.lookups],
             [t.names], [t.tuples], [t.multiplicities], [t.flags], [t.elements], [self.challenges], [mut trace], {*terminal}, {[0u64; 3]},
         ) }
     }
 
-    fn generation_on_bytes(&self) -> Need {
+    fn generation_on_bytes(&self, rule: Rule) -> Need {
         let ([field, profile], [width, height, pre_width, pre_height]) = (self.chosen, self.sizes);
         let (t, challenges, mut written) = (self.table.bytes(), bytes_of(&self.challenges), self.buffer());
         let mut trace = bytes_of(&written);
         let mut read = room(&[&t.main, &t.preprocessed, &t.public_values, &t.nodes, &challenges], &t);
         Need::of(call! { 0, delmatik_generate_bytes(
-            field, profile, 1, width, height, pre_width, pre_height, [t.main], [t.preprocessed], [t.public_values], [t.nodes], [t.lookups],
+            field, profile, rule.number(), width, height, pre_width, pre_height, [t.main], [t.preprocessed], [t.public_values], [t.nodes], [t.lookups],
             [t.names], [t.tuples], [t.multiplicities], [t.flags], [t.elements], [challenges], [mut trace], [mut read], [mut written],
             {[0u32; 5]}, {[0u64; 3]},
         ) })
     }
 
-    fn constraints(&self, trace: &[u32], [mark, t0, t1, t2, t3]: [u32; 5]) -> Need {
+    fn constraints(&self, rule: Rule, trace: &[u32], [mark, t0, t1, t2, t3]: [u32; 5]) -> Need {
         let (t, [field, profile], [width, height, pre_width, pre_height]) = (&self.table, self.chosen, self.sizes);
         let columns = t.lookup_count() + 1;
         Need::of(call! { 0, delmatik_constraints(
-            field, profile, 1, width, height, pre_width, pre_height, [t.main], [t.preprocessed], [t.public_values], [t.nodes], [t.lookups],
+            field, profile, rule.number(), width, height, pre_width, pre_height, [t.main], [t.preprocessed], [t.public_values], [t.nodes], [t.lookups],
             [t.names], [t.tuples], [t.multiplicities], [t.flags], [t.elements], [self.challenges], columns, [trace], mark, t0, t1, t2, t3,
             {[0u64; 3]},
         ) })
@@ -333,16 +333,22 @@ fn of_elements(profile: Profile) -> Need {
     calls.into_iter().map(Need::of).fold(Need::default(), Need::or)
 }
 
-/// The needs of the largest calls on so many rows, by the functions' names, with all lookups exclusive or all additive.
+/// The needs of the largest calls on so many rows, by the functions' names, with all lookups exclusive or all additive: where there is a rule, of
+/// the one that takes more.
 fn needs_of(profile: Profile, random: &mut Random, rows: usize, exclusive: bool) -> Vec<(&'static str, Need)> {
     let one = OfTable::new(profile, random, rows, exclusive);
     let (mut trace, mut terminal) = (one.buffer(), [0; 5]);
-    let generation = Need::of(one.generation(&mut trace, &mut terminal));
+    let [mut generation, mut on_bytes, mut constraints] = [Need::default(); 3];
+    for rule in Rule::ALL {
+        generation = generation.or(Need::of(one.generation(rule, &mut trace, &mut terminal)));
+        on_bytes = on_bytes.or(one.generation_on_bytes(rule));
+        constraints = constraints.or(one.constraints(rule, &trace, terminal));
+    }
     let all = OfTables::new(profile, random, rows, exclusive);
     vec![
         ("generation", generation),
-        ("generation on bytes", one.generation_on_bytes()),
-        ("constraints", one.constraints(&trace, terminal)),
+        ("generation on bytes", on_bytes),
+        ("constraints", constraints),
         ("row reader", one.row(&trace)),
         ("degree", one.degree()),
         ("packing", one.packing()),
@@ -373,8 +379,8 @@ fn lent_at(height: u64, few: Need, twice: Need) -> usize {
 }
 
 const LEGEND: &str = "
-The largest calls that the limits allow; balance has a slot for each tuple on each row. Stack: how deep a call writes, a page of 4 KiB that is
-not looked at included. Lent: the bytes of all that it is lent to read or write.
+The largest calls that the limits allow, by the rule that takes more; balance has a slot for each tuple on each row. Stack: how deep a call
+writes, a page of 4 KiB that is not looked at included. Lent: the bytes of all that it is lent to read or write.
 Measured: all stack, the cabinet's on 8 and 16 rows; what the gateway's calls are lent, at full height; what the cabinet's are lent where
 there are no rows. Computed: what else the cabinet's are lent, from the bytes that a row takes. For the gateway this gives what is measured.";
 
@@ -408,7 +414,7 @@ fn proc_bytes(file: &str, key: &str) -> usize {
     1024 * line.trim_matches(|c: char| !c.is_ascii_digit()).parse::<usize>().expect("a number")
 }
 
-/// The peak of the resident memory of a process that makes one call of generation: this program, run once more for each profile.
+/// The peak of the resident memory of a process that makes one call of generation, by rule 2: this program, run once more for each profile.
 fn peaks() {
     heading(&["process with one call of generation", "rows", "lent", "peak of resident memory before the call", "after it"]);
     for profile in Profile::ALL {
@@ -428,7 +434,7 @@ fn peak(random: &mut Random, profile: Profile) {
     let one = OfTable::new(profile, random, rows, true);
     let (mut trace, mut terminal) = (one.buffer(), [0; 5]);
     trace.fill(7);
-    let Call { lent, make } = one.generation(&mut trace, &mut terminal);
+    let Call { lent, make } = one.generation(Rule::Two, &mut trace, &mut terminal);
     let resident = || proc_bytes("/proc/self/status", "VmHWM:");
     let before = resident();
     make();

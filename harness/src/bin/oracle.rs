@@ -1,5 +1,5 @@
 //! Compares the model of the specification with the crate's own source, and with the port where it is linked, on random, damaged and
-//! boundary tables in both fields and both profiles. Prints what was run; exits with 1 at the first disagreement, made small, and with 2 where there is nothing
+//! boundary tables in both fields and profiles and by both rules. Prints what was run; exits with 1 at the first disagreement, made small, and with 2 where there is nothing
 //! to compare.
 //!
 //!     cargo run --release --offline --bin oracle -- --tables 100000 --seed 1
@@ -65,6 +65,9 @@ fn print_counts(tally: &Tally) {
     for (profile, count) in &tally.profiles {
         println!("{count} tables in profile {}", profile.number());
     }
+    for (rule, count) in &tally.rules {
+        println!("{count} cases by rule {}", rule.number());
+    }
     println!("{} cases with an unknown field, profile or rule", tally.unknown);
     println!("function, number: the same / another of several faults first / the crate has no such limit / not for the crate");
     let mut numbers: Vec<(&str, u32)> = tally.counts.keys().map(|(function, number, _)| (*function, *number)).collect();
@@ -78,8 +81,12 @@ fn print_counts(tally: &Tally) {
         let repeated = tally.repeated.get(function).unwrap_or(&0);
         println!("{function}: {count} with the port, {repeated} of them of the gateway and again in the cabinet");
     }
+    for (function, count) in &tally.reversed {
+        println!("{function}: {count} by rule 2 and again by rule 1 with each tuple reversed");
+    }
     if PORT.is_some() {
         println!("{} calls of the gateway again in the cabinet, the same", tally.repeated.values().sum::<u64>());
+        println!("{} calls by rule 2 again by rule 1 with each tuple reversed, the same", tally.reversed.values().sum::<u64>());
     }
 }
 

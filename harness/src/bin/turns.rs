@@ -1,8 +1,9 @@
 //! Runs two builds of `bench` in pairs, now the one first and now the other: what a change costs, where single runs differ by more. Each build
 //! has its own library and its own wrapper, so that the exported functions may differ.
 //!
-//!     turns BENCH_BEFORE BENCH_NOW PAIRS --only constraints --rounds 5        # after PAIRS: the arguments of both
+//!     turns BENCH_BEFORE BENCH_NOW PAIRS --only constraints --rounds 5 --now --rule 2
 //!
+//! After PAIRS come the arguments of both, and after `--now` those of the second build alone: a rule that the first does not know.
 //! Prints for each line the medians of the port's cost by each build, the median of the pairs' ratios, the lowest costs and their ratio, and
 //! the median of the ratios to the first table of the same run. The tables of the second build stand each beside the first build's of the
 //! same number, or its last.
@@ -54,18 +55,21 @@ fn median(costs: impl Iterator<Item = f64>) -> f64 {
 fn main() {
     let arguments: Vec<String> = std::env::args().skip(1).collect();
     let [before, now, pairs, ..] = arguments.as_slice() else {
-        panic!("turns BENCH_BEFORE BENCH_NOW PAIRS, and the arguments of both");
+        panic!("turns BENCH_BEFORE BENCH_NOW PAIRS, the arguments of both, and after --now those of the second");
     };
-    let (pairs, given): (usize, _) = (pairs.parse().expect("PAIRS is a number"), &arguments[3..]);
+    let pairs: usize = pairs.parse().expect("PAIRS is a number");
+    let parts: Vec<&[String]> = arguments[3..].splitn(2, |argument| argument == "--now").collect();
+    let (for_before, for_now) = (parts[0], parts.concat());
     let pair = |i: usize| {
         if i.is_multiple_of(2) {
-            let old = run(before, given);
-            (old, run(now, given))
+            let old = run(before, for_before);
+            (old, run(now, &for_now))
         } else {
-            let new = run(now, given);
-            (run(before, given), new)
+            let new = run(now, &for_now);
+            (run(before, for_before), new)
         }
     };
+    println!("before: {before} {}\nnow: {now} {}", for_before.join(" "), for_now.join(" "));
     let runs: Vec<(Vec<Costs>, Vec<Costs>)> = (0..pairs).map(pair).collect();
     for (t, table) in runs[0].1.iter().enumerate() {
         println!("\n| {} | before | now | of pairs | lowest before | lowest now | ratio | to table 1 |", table.heading);

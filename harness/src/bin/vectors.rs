@@ -8,7 +8,7 @@ use std::process::ExitCode;
 use harness::compare::{self, Compared};
 use harness::exports::{Exports, Model, built_words, marked};
 use harness::generator::{self, Case};
-use harness::model::{self, Answer, Choices};
+use harness::model::{self, Answer, Choices, Rule};
 use harness::plain::{Ext, Field, Random, lift};
 use harness::table::{Interaction, Lookup, Part, Plan, Table};
 
@@ -43,6 +43,12 @@ impl Text {
         let before = std::mem::replace(&mut self.choices, choices);
         cases(self);
         self.choices = before;
+    }
+
+    /// The calls that follow in the case are by this rule.
+    fn by(&mut self, rule: u32) {
+        let [field, profile, _] = self.choices;
+        self.list("choices", &[field, profile, rule]);
     }
 
     /// A case in the second field.
@@ -227,11 +233,26 @@ fn main() -> ExitCode {
     gateway(&mut text);
     gateway_of_two(&mut text);
     gateway_refusals(&mut text);
+    text.comment("Both tuple rules, with the answers that follow from docs/SPECIFICATION.md.");
+    rules(&mut text);
+    rules_on_rows(&mut text);
+    rules_on_digits(&mut text);
+    rules_and_choices(&mut text);
+    rule_two_refusals(&mut text);
     text.comment("Answers of p3-lookup 0.8.0, in either field.");
-    for (i, case) in cases().iter().enumerate() {
+    let cases = cases();
+    for (i, case) in cases.iter().enumerate() {
         text.with([case.field().number(), 1, 1], |text| {
             text.case(&format!("oracle {i}"));
             oracle(text, case);
+        });
+    }
+    text.comment("The first five of these with another trace by rule 2, by that rule: p3-lookup is given each tuple reversed.");
+    for (i, case) in cases.iter().enumerate().filter_map(|(i, case)| Some((i, by_rule_two(case)?))).take(5) {
+        text.with([case.field().number(), 1, 2], |text| {
+            text.case(&format!("rule 2: oracle {i}"));
+            text.tables(&case.tables);
+            generation(text, &case);
         });
     }
     print!("{}", text.lines);
@@ -276,13 +297,16 @@ fn words(elements: &[Ext]) -> Vec<u32> {
     elements.concat()
 }
 
+fn lifted(numbers: &[u32]) -> Vec<Ext> {
+    numbers.iter().map(|n| lift(*n)).collect()
+}
+
 /// A case of generation: the trace, in elements, and the terminal.
 fn generated(text: &mut Text, title: &str, t: &Table, alpha: u32, beta: u32, trace: &[u32], terminal: u32) {
     text.case(title);
     text.table(t);
     text.list("challenges", &words(&[lift(alpha), lift(beta)]));
-    let trace: Vec<Ext> = trace.iter().map(|w| lift(*w)).collect();
-    text.generate(ACCEPTED, &words(&trace), Some(lift(terminal)));
+    text.generate(ACCEPTED, &words(&lifted(trace)), Some(lift(terminal)));
 }
 
 fn worked(text: &mut Text) {
@@ -640,7 +664,7 @@ fn second_field_refusals(text: &mut Text) {
 /// An unknown field or profile is 1 at every function that can refuse, an unknown rule where there is one; nothing is written.
 fn unknown(text: &mut Text) {
     let (one, t) = (refused(1, [0; 3]), table(&[3], &[once()]));
-    for choices in [[0, 1, 1], [3, 1, 1], [1, 0, 1], [1, 3, 1], [1, 1, 2]] {
+    for choices in [[0, 1, 1], [3, 1, 1], [1, 0, 1], [1, 3, 1], [1, 1, 0], [1, 1, 3]] {
         let [field, profile, rule] = choices;
         text.with(choices, |text| text.case(&format!("1: field {field}, profile {profile}, rule {rule}")));
         text.table(&t);
@@ -670,8 +694,9 @@ fn unknown(text: &mut Text) {
     }
 }
 
-/// Field 1 in profile 2.
+/// Field 1 in profile 2, and by rule 2.
 const GATEWAY: [u32; 3] = [1, 2, 1];
+const RULE_TWO: [u32; 3] = [1, 1, 2];
 
 /// The same calls in the gateway, which takes them or answers 1, and in the cabinet, which takes them.
 fn in_both(text: &mut Text, title: &str, taken: bool, calls: impl Fn(&mut Text, bool)) {
@@ -821,6 +846,141 @@ fn gateway_refusals(text: &mut Text) {
     });
 }
 
+/// A case of a table, with the same two challenges for each lookup.
+fn challenged(text: &mut Text, title: &str, t: &Table, alpha: Ext, beta: Ext) {
+    text.case(title);
+    text.table(t);
+    text.list("challenges", &words(&[alpha, beta]).repeat(t.lookup_count()));
+}
+
+/// What generation gives by a rule passes the constraints by that rule; by the other they refuse it on row 0, for this lookup. The calls that
+/// follow are by the other.
+fn told_apart(text: &mut Text, t: &Table, rule: u32, trace: &[u32], terminal: u32, lookup: u64) {
+    let (width, trace, terminal) = (t.lookup_count() as u64 + 1, words(&lifted(trace)), Some(lift(terminal)));
+    text.by(rule);
+    text.generate(ACCEPTED, &trace, terminal);
+    text.constraints(ACCEPTED, width, &trace, terminal);
+    text.by(3 - rule);
+    text.constraints(refused(17, [0, lookup, 0]), width, &trace, terminal);
+}
+
+/// (3, 7) with beta 10 is 37 by rule 1 and 73 by rule 2. Where one rule would divide by 0 the other divides by 36 or -36.
+fn rules(text: &mut Text) {
+    let (t, thirty_sixth) = (table(&[3], &[lookup(&[&[0, 3]], &[1], None)]), 615164587);
+    for (rule, alpha, fraction) in [(1, 38, 1), (2, 74, 1), (1, 73, thirty_sixth), (2, 37, P - thirty_sixth)] {
+        challenged(text, &format!("rule {rule}: (3, 7) with beta 10, alpha {alpha}"), &t, lift(alpha), lift(10));
+        told_apart(text, &t, rule, &[0, fraction], fraction, 0);
+        if fraction != 1 {
+            text.generate(refused(15, [0; 3]), &[0, 0, 0, 0, 0, 0, 0, 0, BEFORE], None);
+        }
+    }
+    // The branches are (3), (3, 7) and (7, 3, 2).
+    let t = table(&[3], &[lookup(&[&[0], &[0, 3], &[3, 0, 4]], &[1, 1, 1], Some(&[2, 1, 2]))]);
+    challenged(text, "rule 2: (3, 7) in the chosen one of three branches", &t, lift(74), lift(10));
+    told_apart(text, &t, 2, &[0, 1], 1, 0);
+}
+
+/// What one rule has on the first of these rows the other has on the second.
+fn rules_on_rows(text: &mut Text) {
+    let mut t = Table { main_width: 2, height: 2, main: vec![3, 7, 7, 3], nodes: vec![1, 0, 0, 1, 1, 0, 0, 1, 0], ..Table::default() };
+    t.set_records(&[lookup(&[&[0, 1]], &[2], None)]);
+    let thirty_seventh = 707363702;
+    challenged(text, "rules 1 and 2: rows (3, 7) and (7, 3), alpha 74", &t, lift(74), lift(10));
+    told_apart(text, &t, 1, &[0, thirty_seventh, thirty_seventh, 1], thirty_seventh + 1, 0);
+    told_apart(text, &t, 2, &[0, 1, 1, thirty_seventh], thirty_seventh + 1, 0);
+    challenged(text, "rules 1 and 2, 15: rows (3, 7) and (7, 3), alpha 37", &t, lift(37), lift(10));
+    for (rule, row) in [(1, 0), (2, 1)] {
+        text.by(rule);
+        text.generate(refused(15, [row, 0, 0]), &[0; 16], None);
+    }
+}
+
+/// A tuple of digits, and what it is by rule 1 and by rule 2 with beta 10: the number that it reads forwards and backwards.
+type Digits = (&'static [u32], [u32; 2]);
+
+const NONE: Digits = (&[], [0, 0]);
+const SINGLE: Digits = (&[5], [5, 5]);
+const PAIR: Digits = (&[3, 7], [37, 73]);
+const EIGHT: Digits = (&[1, 2, 3, 4, 5, 6, 7, 8], [12345678, 87654321]);
+
+/// Ten nodes, the digits.
+fn digits() -> Table {
+    Table { main_width: 1, height: 1, main: vec![0], nodes: (0..10).flat_map(|digit| [0, digit, 0]).collect(), ..Table::default() }
+}
+
+/// The lookups of these tuples, with alpha 100. Each multiplicity is the denominator by this rule: so each tuple adds 1.
+fn of_digits(rule: usize, lookups: &[&[Digits]]) -> Table {
+    let mut t = digits();
+    let mut records = vec![];
+    for (column, tuples) in (0..).zip(lookups) {
+        let mut denominator = |(_, read): &Digits| t.add_node(0, Field::BabyBear.sub_word(100, read[rule - 1]), 0);
+        let multiplicities: Vec<u32> = tuples.iter().map(&mut denominator).collect();
+        records.push(Lookup { column, ..lookup(&tuples.iter().map(|(digits, _)| *digits).collect::<Vec<_>>(), &multiplicities, None) });
+    }
+    t.set_records(&records);
+    t
+}
+
+/// Tuples of different widths in one lookup and in several: elements that are taken from another tuple, or in another order, give other values.
+/// With no word or one the rules are the same: the constraints by the other rule refuse the first lookup with more.
+fn rules_on_digits(text: &mut Text) {
+    let cases: [(u32, &str, &[&[Digits]], u64); 4] = [
+        (1, "tuples of 0, 1, 2 and 8 words in a lookup", &[&[NONE, SINGLE, PAIR, EIGHT]], 0),
+        (2, "tuples of 0, 1, 2 and 8 words in a lookup", &[&[NONE, SINGLE, PAIR, EIGHT]], 0),
+        (2, "lookups of 0, of 1, of 2 and of 8 words", &[&[NONE], &[SINGLE], &[PAIR], &[EIGHT]], 2),
+        (2, "lookups of 2 and 8, of 0, of 8, 1 and 2 words", &[&[PAIR, EIGHT], &[NONE], &[EIGHT, SINGLE, PAIR]], 0),
+    ];
+    for (rule, title, lookups, first) in cases {
+        let t = of_digits(rule as usize, lookups);
+        let fractions = lookups.iter().map(|tuples| tuples.len() as u32);
+        let trace: Vec<u32> = std::iter::once(0).chain(fractions.clone()).collect();
+        challenged(text, &format!("rule {rule}: {title}"), &t, lift(100), lift(10));
+        told_apart(text, &t, rule, &trace, fractions.sum(), first);
+    }
+}
+
+/// The rule beside the other choices. (1, 2, 3, 4, 5) with beta X is 1 + 2 X + 3 X^2 + 4 X^3 + 5 X^4 by rule 2.
+fn rules_and_choices(text: &mut Text) {
+    let mut t = digits();
+    t.set_records(&[lookup(&[&[1, 2, 3, 4, 5]], &[1], None)]);
+    for (field, constant) in [(1, 1 + 5 * 11), (2, 1 + 5 * 3)] {
+        text.with([field, 1, 1], |text| {
+            let title = format!("field {field}, rule 2: (1, 2, 3, 4, 5) with beta X");
+            challenged(text, &title, &t, [constant + 1, 2, 3, 4], [0, 1, 0, 0]);
+            told_apart(text, &t, 2, &[0, 1], 1, 0);
+        });
+    }
+    let t = table(&[3], &[lookup(&[&[0, 3]], &[1], None)]);
+    text.with([2, 2, 1], |text| {
+        challenged(text, "field 2, gateway, rule 2: (3, 7) with beta 10, alpha 74", &t, lift(74), lift(10));
+        told_apart(text, &t, 2, &[0, 1], 1, 0);
+    });
+    let pair = words(&[lift(5), lift(0)]);
+    text.with([1, 2, 2], |text| untouched(text, "gateway, rule 2, 1: a tuple of 5 words", &threes(1, 5, ONE), &pair, 8, 1));
+    text.with([1, 1, 3], |text| untouched(text, "1: rule 3, challenge word 2013265921", &t, &[P, 0, 0, 0, 0, 0, 0, 0], 8, 1));
+}
+
+/// Refusals before the rows do not depend on the rule, nor do those of flags; without lookups there is nothing to combine.
+fn rule_two_refusals(text: &mut Text) {
+    let pair = words(&[lift(5), lift(0)]);
+    text.with(RULE_TWO, |text| {
+        text.case("rule 2: no lookups");
+        text.table(&table(&[3], &[]));
+        text.generate(ACCEPTED, &[BEFORE; 8], None);
+        text.constraints(ACCEPTED, 0, &[], None);
+        untouched(text, "rule 2, 1: a tuple of 9 words", &threes(1, 9, ONE), &pair, 8, 1);
+        untouched(text, "rule 2, 2: challenge word 2013265921", &table(&[3], &[once()]), &[P, 0, 0, 0, 0, 0, 0, 0], 8, 2);
+        untouched(text, "rule 2, 5: node 5 of 5", &table(&[3], &[lookup(&[&[5, 0]], &[1], None)]), &pair, 8, 5);
+        untouched(text, "rule 2, 10: 1 lookup, height 4, 31 words", &table(&[3; 4], &[once()]), &pair, 31, 10);
+        text.case("rule 2, 11: no terminal, 1 lookup");
+        text.table(&table(&[3], &[once()]));
+        text.list("challenges", &pair);
+        text.constraints(refused(11, [0; 3]), 2, &[0; 8], None);
+        fault(text, "rule 2, 13: flag 2", lookup(&[&[0, 3]], &[1], Some(&[4])), 5, 13);
+        fault(text, "rule 2, 14: flags 1, 1", lookup(&[&[0], &[0, 3]], &[1, 1], Some(&[1, 1])), 5, 14);
+    });
+}
+
 // The crate's answers.
 
 /// The answer, if the crate gives the same, or panics for the same reason.
@@ -831,15 +991,7 @@ fn confirmed((answer, compared): (Answer, Result<Compared, String>)) -> Option<A
 fn oracle(text: &mut Text, case: &Case) {
     text.tables(&case.tables);
     let [t] = &case.tables[..] else { return of_all_tables(text, case) };
-    text.list("challenges", &case.challenges);
-    if let Some(answer) = confirmed(compare::generation(case)) {
-        let mut trace = vec![BEFORE; case.buffer];
-        let (_, terminal) = model::generate(t, &case.challenges, &mut trace);
-        text.generate(answer, &trace, terminal);
-        if answer.number == 0 && 0 < t.lookup_count() {
-            changed(text, case);
-        }
-    }
+    generation(text, case);
     for (lookup, transition) in (0..t.lookup_count()).flat_map(|i| [(i, 0), (i, 1)]) {
         let case = Case { transition, ..case.clone() };
         if let Some(answer) = confirmed(compare::degree(&case, lookup)) {
@@ -855,6 +1007,33 @@ fn oracle(text: &mut Text, case: &Case) {
     if let Some(answer) = confirmed(compare::building(case)) {
         built_by_the_crate(text, t, &case.interactions, answer);
     }
+}
+
+/// Generation, and the constraints on what it gives.
+fn generation(text: &mut Text, case: &Case) {
+    text.list("challenges", &case.challenges);
+    if let Some(answer) = confirmed(compare::generation(case)) {
+        let (trace, terminal) = traced(&case.tables[0], case);
+        text.generate(answer, &trace, terminal);
+        if answer.number == 0 && 0 < case.tables[0].lookup_count() {
+            changed(text, case);
+        }
+    }
+}
+
+/// What generation leaves in the buffer, and the terminal, by the model.
+fn traced(t: &Table, case: &Case) -> (Vec<u32>, Option<Ext>) {
+    let mut trace = vec![BEFORE; case.buffer];
+    let (_, terminal) = model::generate(t, &case.challenges, &mut trace);
+    (trace, terminal)
+}
+
+/// The case by rule 2, where that gives another trace.
+fn by_rule_two(case: &Case) -> Option<Case> {
+    let [t] = &case.tables[..] else { return None };
+    let by_two = Table { rule: Rule::Two, ..t.clone() };
+    let [first, second] = [t, &by_two].map(|t| traced(t, case));
+    (second.1.is_some() && second != first).then(|| Case { tables: vec![by_two], ..case.clone() })
 }
 
 /// After the other functions: the lists of the table's own lookups give way to those of the interactions.
