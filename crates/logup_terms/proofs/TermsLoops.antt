@@ -10,8 +10,11 @@ use lib.ListN.{length, take, drop}
 use Rattle.lists.specs.Count.{total}
 use Rattle.lists.specs.laws.Parts.{part-length}
 use Rattle.field.specs.Modulus.{Certificate}
+use Rattle.field.specs.Word.{mulM}
 use Rattle.field.specs.Ext.{ext-words}
 use Rattle.field.specs.declared.extension.Ext.{Ext}
+use Rattle.field.specs.laws.Extension.{h}
+use Rattle.field.specs.laws.Element.{word-lift, lift-add}
 use Rattle.field.specs.Element.{Word4, zero4, one4, lift, add4, sub4, mul4, scale4, sum4, product4}
 use Rattle.expression.specs.Words.{word}
 use Rattle.lookup.specs.Lookups.{tuple-count, element-start, exclusive, tuple-nodes, tuple-width, multiplicity-node}
@@ -22,7 +25,7 @@ use Rattle.logup_column.specs.inner.Powers.{beta-of}
 use Rattle.logup_column.specs.inner.Own.{own-place, Fits}
 use Rattle.logup_column.specs.laws.Own.{start-next, start-in, own-multiplicity, own-flag, own-tuple}
 use Rattle.logup_terms.specs.inner.Constraint.{TermAdded, BranchAdded, Summed, FractionIs, LookupFraction, vanishing}
-use Rattle.logup_terms.specs.laws.Sums.{numerator-next}
+use Rattle.logup_terms.specs.laws.Sums.{numerator-next, first-numerator, first-denominator, lift-scaled}
 use Rattle.logup_terms.specs.declared.compute.Fraction.{Fraction}
 use Rattle.logup_terms.specs.declared.compute.Branches.{Branches}
 
@@ -78,6 +81,25 @@ adding-begins big e f =
       denominator-is = f;
     }
 
+-- before the first tuple
+pub adding-none : {p w : ℕ} {c : Place} {t : Fraction} {k : ℕ} → Added p w c t k → k ≡ 0 → (ext-words (t .numerator) ≡ zero4) × (ext-words (t .denominator) ≡ one4)
+unfolding sum4 product4
+adding-none {p} {w} {c} {t} {k} s e =
+    let none : Added p w c t 0 = subst (Added p w c t) e s in
+    (none .numerator-is, none .denominator-is)
+
+-- the first term stands alone
+pub first-added : {p w : ℕ} {t : Fraction} {m : ℕ} {d : Ext} → Certificate p w → (ext-words (t .numerator) ≡ zero4) × (ext-words (t .denominator) ≡ one4) → m < p
+    → Word4 p (ext-words d)
+    → TermAdded p w t m (ext-words d) (record { numerator = record { c0 = m; c1 = 0; c2 = 0; c3 = 0 }; denominator = d })
+first-added {p} {w} {t} {m} {d} C (en, ed) l k =
+    record {
+      numerator-below = word-lift p (h p w C) m l;
+      denominator-below = k;
+      numerator-is = first-numerator p w C m (ext-words d) l ∙ sym (ap₂ (λ (x y : List ℕ). add4 p (mul4 p w x (ext-words d)) (scale4 p m y)) en ed);
+      denominator-is = first-denominator p w C (ext-words d) refl k ∙ sym (ap (λ (x : List ℕ). mul4 p w x (ext-words d)) ed);
+    }
+
 pub adding-turn : {p w : ℕ} {c : Place} {t t′ : Fraction} {k m : ℕ} {d : List ℕ} → Certificate p w → Added p w c t k → m ≡ multiplicity c k → d ≡ denom p w c k
     → TermAdded p w t m d t′
     → Added p w c t′ (k + 1)
@@ -105,30 +127,34 @@ adding-ends {p} {w} {c} {t} {k} s e =
     }
 
 -- an exclusive lookup
-pub summed-begins : {p w : ℕ} {c : Place} {t : Branches} → 1 < p → ext-words (t .numerator) ≡ zero4 → ext-words (t .denominator) ≡ zero4 → ext-words (t .flags) ≡ zero4 → Summed p w c t 0
+pub summed-begins : {p w : ℕ} {c : Place} {t : Branches} → 1 < p → t .numerator ≡ 0 → ext-words (t .denominator) ≡ zero4 → t .flags ≡ 0 → Summed p w c t 0
 unfolding sum4
 summed-begins big e f g =
     record {
-      numerator-below = word-of e (record { w0 = omega arith; w1 = omega arith; w2 = omega arith; w3 = omega arith });
+      numerator-below = omega arith;
       denominator-below = word-of f (record { w0 = omega arith; w1 = omega arith; w2 = omega arith; w3 = omega arith });
-      flags-below = word-of g (record { w0 = omega arith; w1 = omega arith; w2 = omega arith; w3 = omega arith });
-      numerator-is = e;
+      flags-below = omega arith;
+      numerator-is = ap lift e;
       denominator-is = f;
-      flags-are = g;
+      flags-are = ap lift g;
     }
 
-pub summed-turn : {p w : ℕ} {c : Place} {t t′ : Branches} {k f m : ℕ} {d : List ℕ} → Summed p w c t k → f ≡ flag c k → m ≡ multiplicity c k → d ≡ denom p w c k
+pub summed-turn : {p w : ℕ} {c : Place} {t t′ : Branches} {k f m : ℕ} {d : List ℕ} → Certificate p w → Summed p w c t k → f ≡ flag c k → m ≡ multiplicity c k
+    → d ≡ denom p w c k
     → BranchAdded p t f m d t′
     → Summed p w c t′ (k + 1)
 unfolding sum4
-summed-turn {p} {w} {c} {t} {t′} {k} {f} {m} {d} s ef em ed a =
+summed-turn {p} {w} {c} {t} {t′} {k} {f} {m} {d} C s ef em ed a =
     record {
       numerator-below = a .numerator-below;
       denominator-below = a .denominator-below;
       flags-below = a .flags-below;
-      numerator-is = rw (add-one k) (a .numerator-is ∙ ap₂ (add4 p) (s .numerator-is) (ap₂ (λ (a b : ℕ). scale4 p a (lift b)) ef em));
+      numerator-is =
+          rw (add-one k)
+          (ap lift (a .numerator-is) ∙ lift-add p w C (t .numerator) (mulM p f m)
+          ∙ ap₂ (add4 p) (s .numerator-is) (lift-scaled p w C f m ∙ ap₂ (λ (a b : ℕ). scale4 p a (lift b)) ef em));
       denominator-is = rw (add-one k) (a .denominator-is ∙ ap₂ (add4 p) (s .denominator-is) (ap₂ (scale4 p) ef ed));
-      flags-are = rw (add-one k) (a .flags-are ∙ ap₂ (add4 p) (s .flags-are) (ap lift ef));
+      flags-are = rw (add-one k) (ap lift (a .flags-are) ∙ lift-add p w C (t .flags) f ∙ ap₂ (add4 p) (s .flags-are) (ap lift ef));
     }
 
 -- the two loops: where they stand, and what they have summed up
@@ -153,16 +179,16 @@ additive-turn {p} {w} {powers} {alpha} {own} {widths} {mults} {nodes} {vals} {n}
           (ed ∙ tuples-loop-denom p w [] vals (ext-words alpha) (beta-of powers) (s .walk) er) e;
     }
 
-pub exclusive-turn : {p w : ℕ} {powers : List (List ℕ)} {alpha : Ext} {own widths mults flags nodes vals : List ℕ} {n at k r f m : ℕ} {t t′ : Branches} {d : List ℕ}
+pub exclusive-turn : {p w : ℕ} {powers : List (List ℕ)} {alpha : Ext} {own widths mults flags nodes vals : List ℕ} {n at k r f m : ℕ} {t t′ : Branches} {d : List ℕ} → Certificate p w
     → ExclusiveLoop p w powers alpha own widths mults flags nodes vals n t at k → k < n → f ≡ word vals (word flags k) → m ≡ word vals (word mults k) → r ≡ word widths k
     → d ≡ denominator p w (ext-words alpha) (beta-of powers) (map (word vals) (take (at + r - at) (drop at nodes)))
     → BranchAdded p t f m d t′
     → ExclusiveLoop p w powers alpha own widths mults flags nodes vals n t′ (at + r) (k + 1)
-exclusive-turn {p} {w} {powers} {alpha} {own} {widths} {mults} {flags} {nodes} {vals} {n} {at} {k} s h ef em er ed e =
+exclusive-turn {p} {w} {powers} {alpha} {own} {widths} {mults} {flags} {nodes} {vals} {n} {at} {k} C s h ef em er ed e =
     record {
       walk = tuples-loop-turn (s .walk) h er;
       sums =
-          summed-turn (s .sums) (ef ∙ own-flag own widths mults flags nodes vals (ext-words alpha) (beta-of powers) k)
+          summed-turn C (s .sums) (ef ∙ own-flag own widths mults flags nodes vals (ext-words alpha) (beta-of powers) k)
           (em ∙ own-multiplicity own widths mults flags nodes vals (ext-words alpha) (beta-of powers) k)
           (ed ∙ tuples-loop-denom p w flags vals (ext-words alpha) (beta-of powers) (s .walk) er) e;
     }
@@ -183,13 +209,14 @@ exclusive-end {p} {w} {powers} {alpha} {own} {widths} {mults} {flags} {nodes} {v
     subst (Summed p w (own-place own widths mults flags nodes vals (ext-words alpha) (beta-of powers)) t) e (s .sums)
 
 pub exclusive-ends : {p w : ℕ} {c : Place} {n : ℕ} {t : Branches} {rest denominator : Ext} → Summed p w c t n → n ≡ branches c
-    → Word4 p (ext-words rest) × (ext-words rest ≡ sub4 p one4 (ext-words (t .flags)))
+    → Word4 p (ext-words rest) × (ext-words rest ≡ sub4 p one4 (lift (t .flags)))
     → Word4 p (ext-words denominator) × (ext-words denominator ≡ add4 p (ext-words (t .denominator)) (ext-words rest))
-    → FractionIs p (exclusive-numerator p w c) (exclusive-denominator p w c) (record { numerator = t .numerator; denominator = denominator })
+    → FractionIs p (exclusive-numerator p w c) (exclusive-denominator p w c)
+    (record { numerator = record { c0 = t .numerator; c1 = 0; c2 = 0; c3 = 0 }; denominator = denominator })
 unfolding exclusive-numerator exclusive-denominator
-exclusive-ends {p} {w} {c} {n} s e (_, er) (k, ed) =
+exclusive-ends {p} {w} {c} {n} {t} s e (_, er) (k, ed) =
     record {
-      numerator-below = s .numerator-below;
+      numerator-below = word-lift p (omega (arith, s .numerator-below)) (t .numerator) (s .numerator-below);
       denominator-below = k;
       numerator-is = s .numerator-is ∙ ap (sum4 p _) e;
       denominator-is = ed ∙ ap₂ (add4 p) (s .denominator-is ∙ ap (sum4 p _) e) (er ∙ ap (sub4 p one4) (s .flags-are ∙ ap (sum4 p _) e));

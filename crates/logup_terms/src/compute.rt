@@ -6,11 +6,12 @@ ghost use mathlib.Core.List.{[]};
 ghost use Prim.Native.Nat.{_<_, _≤_};
 ghost use lib.ListN.{length};
 ghost use Rattle.field.specs.inner.Requires.{KnownPrime};
-ghost use Rattle.field.specs.Element.{Word4};
+ghost use Rattle.field.specs.Element.{Word4, zero4, one4};
 ghost use Rattle.field.specs.Ext.{ext-words};
 ghost use Rattle.lookup.specs.Lookups.{tuple-count, exclusive};
 ghost use Rattle.logup.specs.Column.{Place};
 ghost use Rattle.logup.specs.Constraints.{additive-numerator, additive-denominator, exclusive-numerator, exclusive-denominator};
+ghost use Rattle.logup_column.specs.inner.Requires.{Field};
 ghost use Rattle.logup_column.specs.inner.Powers.{beta-of, Powers};
 ghost use Rattle.logup_column.specs.inner.Own.{own-place, FieldValues};
 ghost use Rattle.logup_column.specs.inner.Results.{PartsFit};
@@ -18,6 +19,7 @@ ghost use Rattle.logup_terms.specs.inner.Constraint.{TermAdded, BranchAd
 use expression::words::to_usize;
 use field::extension;
 use field::extension::Ext;
+use field::word;
 use logup_column::tuple;
 use lookup::types;
 
@@ -27,18 +29,30 @@ pub struct Fraction {
     pub denominator: Ext,
 }
 
-// What the branches of an exclusive lookup sum up to.
+// What the branches of an exclusive lookup sum up to: flag · multiplicity and flags are words.
 pub struct Branches {
-    pub numerator: Ext,
+    pub numerator: u32,
     pub denominator: Ext,
-    pub flags: Ext,
+    pub flags: u32,
 }
 
-// N ÷ D + m ÷ d = (N·d + m·D) ÷ (D·d)
-fn add_term(p: u32, w: u32, t: Fraction, m: u32, d: Ext) -> Fraction
-    requires { ⌜ KnownPrime p × (w < p) × Word4 p (ext-words (t .numerator)) × Word4 p (ext-words (t .denominator)) × (m < p) × Word4 p (ext-words d) ⌝ }
+// The fraction with tuple k's term: N ÷ D + m ÷ d = (N·d + m·D) ÷ (D·d). Before the first it is 0 ÷ 1, so that the first takes no product.
+fn add_term(p: u32, w: u32, t: Fraction, k: usize, m: u32, d: Ext) -> Fraction
+    requires { ⌜ Field p w × Word4 p (ext-words (t .numerator)) × Word4 p (ext-words (t .denominator)) × (k ≡ 0 → (ext-words (t .numerator) ≡ zero4) × (ext-words (t .denominator) ≡ one4))
+        × (m < p) × Word4 p (ext-words d) ⌝ }
     ensures { λ r. ⌜ TermAdded p w t m (ext-words d) r ⌝ }
 {
+    if k == 0 {
+        return Fraction {
+            numerator: Ext {
+                c0: m,
+                c1: 0,
+                c2: 0,
+                c3: 0,
+            },
+            denominator: d,
+        };
+    }
     let numerator = t.numerator;
     let denominator = t.denominator;
     Fraction {
@@ -89,7 +103,7 @@ pub fn compute_combined_sum_terms(
         let m = tuple::value(vals, multiplicities[k]);
         let end = at + to_usize(widths[k]);
         let d = tuple::denominator(p, w, powers, alpha, vals, &nodes[at..end]);
-        t = add_term(p, w, t, m, d);
+        t = add_term(p, w, t, k, m, d);
         at = end;
         k += 1;
     }
@@ -98,28 +112,16 @@ pub fn compute_combined_sum_terms(
 
 // One branch more: flag · multiplicity, flag · denominator and the flag itself.
 fn add_branch(p: u32, t: Branches, f: u32, m: u32, d: Ext) -> Branches
-    requires { ⌜ KnownPrime p × Word4 p (ext-words (t .numerator)) × Word4 p (ext-words (t .denominator)) × Word4 p (ext-words (t .flags)) × (f < p) × (m < p) × Word4 p (ext-words d) ⌝ }
+    requires { ⌜ KnownPrime p × (t .numerator < p) × Word4 p (ext-words (t .denominator)) × (t .flags < p) × (f < p) × (m < p) × Word4 p (ext-words d) ⌝ }
     ensures { λ r. ⌜ BranchAdded p t f m (ext-words d) r ⌝ }
 {
     let numerator = t.numerator;
     let denominator = t.denominator;
     let flags = t.flags;
-    let multiplicity = Ext {
-        c0: m,
-        c1: 0,
-        c2: 0,
-        c3: 0,
-    };
-    let flag = Ext {
-        c0: f,
-        c1: 0,
-        c2: 0,
-        c3: 0,
-    };
     Branches {
-        numerator: extension::add(p, numerator, extension::scale(p, f, multiplicity)),
+        numerator: word::add(p, numerator, word::mul(p, f, m)),
         denominator: extension::add(p, denominator, extension::scale(p, f, d)),
-        flags: extension::add(p, flags, flag),
+        flags: word::add(p, flags, f),
     }
 }
 
@@ -143,24 +145,14 @@ fn sum_branches(
 {
     let n = to_usize(types::tuple_count(own, 0));
     let mut t = Branches {
-        numerator: Ext {
-            c0: 0,
-            c1: 0,
-            c2: 0,
-            c3: 0,
-        },
+        numerator: 0,
         denominator: Ext {
             c0: 0,
             c1: 0,
             c2: 0,
             c3: 0,
         },
-        flags: Ext {
-            c0: 0,
-            c1: 0,
-            c2: 0,
-            c3: 0,
-        },
+        flags: 0,
     };
     let mut at = 0;
     let mut k = 0;
@@ -206,17 +198,26 @@ pub fn compute_exclusive_terms(
         nodes,
         vals,
     );
-    let numerator = t.numerator;
     let denominator = t.denominator;
-    let flags_sum = t.flags;
     let one = Ext {
         c0: 1,
         c1: 0,
         c2: 0,
         c3: 0,
     };
+    let flags_sum = Ext {
+        c0: t.flags,
+        c1: 0,
+        c2: 0,
+        c3: 0,
+    };
     Fraction {
-        numerator,
+        numerator: Ext {
+            c0: t.numerator,
+            c1: 0,
+            c2: 0,
+            c3: 0,
+        },
         denominator: extension::add(p, denominator, extension::sub(p, one, flags_sum)),
     }
 }

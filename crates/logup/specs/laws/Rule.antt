@@ -24,13 +24,13 @@ use Rattle.logup.specs.Constraints.{constraints-refusal}
 use Rattle.logup.specs.Ledger.{has-ledger}
 
 -- lists reversed
-pub map-reverse : (f : ℕ → ℕ) (l : List ℕ) → map f (reverse l) ≡ reverse (map f l)
+map-reverse : (f : ℕ → ℕ) (l : List ℕ) → map f (reverse l) ≡ reverse (map f l)
 map-reverse f [] = refl
 map-reverse f (x ∷ xs) =
     ap (map f) (reverse-cons x xs) ∙ map-append f (reverse xs) (x ∷ []) ∙ ap (λ (q : List ℕ). q ++ (f x ∷ [])) (map-reverse f xs)
     ∙ sym (reverse-cons (f x) (map f xs))
 
-pub length-reversed : (tuples elements : List ℕ) → length (reversed tuples elements) ≡ length elements
+length-reversed : (tuples elements : List ℕ) → length (reversed tuples elements) ≡ length elements
 unfolding reversed
 length-reversed [] elements = refl
 length-reversed (n ∷ tuples) elements =

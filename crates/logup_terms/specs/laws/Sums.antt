@@ -3,13 +3,16 @@ use mathlib.Core.Path.{_≡_, refl, sym, ap, ap₂, _∙_}
 use mathlib.Core.Bool.{Bool, cond}
 use mathlib.Core.List.{List}
 use Prim.Native.Nat.{ℕ, zero, suc, _<_}
+use native.Mathlib.Nat.{mod-eq-of-lt}
 use native.Mathlib.Omega.{arith}
+use lib.ListN.{length}
 use lib.Dec.{eqb}
 use Rattle.lists.specs.laws.Count.{eqb-true, eqb-false}
 use Rattle.field.specs.Modulus.{Certificate}
-use Rattle.field.specs.Element.{one4, lift, add4, mul4, scale4, sum4, product4}
+use Rattle.field.specs.Word.{mulM}
+use Rattle.field.specs.Element.{Word4, zero4, one4, lift, add4, mul4, scale4, sum4, product4}
 use Rattle.field.specs.laws.Extension.{h}
-use Rattle.field.specs.laws.Element.{four-product4, word-product4, mul4-comm, mul4-assoc, mul4-add, mul4-one, zero-mul4, scale4-is, sum4-cong, product4-cong}
+use Rattle.field.specs.laws.Element.{four-product4, word-product4, word-lift, mul4-comm, mul4-assoc, mul4-add, mul4-one, zero-add4, zero-mul4, scale4-is, scale4-one, lift-mul, sum4-cong, product4-cong}
 
 module _ (p w : ℕ) (C : Certificate p w) where
   product4-one : (f : ℕ → List ℕ) (n : ℕ) → mul4 p w (product4 p w f n) one4 ≡ product4 p w f n
@@ -26,6 +29,18 @@ module _ (p w : ℕ) (C : Certificate p w) where
   scale-times : (m : ℕ) (a d : List ℕ) → mul4 p w (scale4 p m a) d ≡ scale4 p m (mul4 p w a d)
   scale-times m a d =
       ap (λ (x : List ℕ). mul4 p w x d) (scale4-is p w C m a) ∙ mul4-assoc p w C (lift m) a d ∙ sym (scale4-is p w C m (mul4 p w a d))
+
+  -- the first term: 0 ÷ 1 + m ÷ d = m ÷ d
+  pub first-numerator : (m : ℕ) (d : List ℕ) → m < p → lift m ≡ add4 p (mul4 p w zero4 d) (scale4 p m one4)
+  first-numerator m d l =
+      sym (ap₂ (add4 p) (zero-mul4 p w C d) (scale4-one p m ∙ ap lift (mod-eq-of-lt l)) ∙ zero-add4 p w C (lift m) refl (word-lift p (h p w C) m l))
+
+  pub first-denominator : (d : List ℕ) → length d ≡ 4 → Word4 p d → d ≡ mul4 p w one4 d
+  first-denominator d l k = sym (mul4-comm p w C one4 d ∙ mul4-one p w C d l k)
+
+  -- a product of words, as elements
+  pub lift-scaled : (f m : ℕ) → lift (mulM p f m) ≡ scale4 p f (lift m)
+  lift-scaled f m = lift-mul p w C f m ∙ sym (scale4-is p w C f (lift m))
 
   module _ (m : ℕ → ℕ) (d : ℕ → List ℕ) where
     -- the product of the first n denominators but the k-th

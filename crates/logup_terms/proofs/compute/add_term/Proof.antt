@@ -1,8 +1,14 @@
 use mathlib.Core.Path.{ap₂, _∙_}
 use Rattle.field.specs.Element.{add4}
+use Rattle.logup_terms.proofs.TermsLoops.{first-added}
 use borrow.Author.Needs.{needs}
 use Rattle.logup_terms.proofs.compute.add_term.Statement.{statement}
 use Rattle.logup_terms.proofs.compute.add_term.Tie as tie
+
+returns : tie.Need-returns
+returns c =
+    let pre = c .before .pre in
+    first-added (pre .0 .certificate) (pre .3 (c .if1 .taken)) (pre .4) (pre .5)
 
 mul-requires : tie.Need-mul-requires
 mul-requires c κs = search needs
@@ -16,8 +22,8 @@ add-requires c κs = search needs
 mul-requires-2 : tie.Need-mul-requires-2
 mul-requires-2 c κs = search needs
 
-returns : tie.Need-returns
-returns c =
+returns-2 : tie.Need-returns-2
+returns-2 c =
     record {
       numerator-below = c .before .add .ensures .0;
       denominator-below = c .mul2 .ensures .0;
@@ -27,4 +33,4 @@ returns c =
 
 pub add-term-spec : {M : Type 1} → statement M
 add-term-spec =
-    tie.close (tie.spec mul-requires scale-requires add-requires mul-requires-2 returns)
+    tie.close (tie.spec returns mul-requires scale-requires add-requires mul-requires-2 returns-2)

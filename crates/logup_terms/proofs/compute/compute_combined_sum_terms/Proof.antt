@@ -1,7 +1,7 @@
 use native.Mathlib.Omega.{arith}
 use Prim.Native.Nat.{_<_, ℕ, _-_}
 use mathlib.Core.Path.{refl, sym, subst, _∙_}
-use Rattle.logup_terms.proofs.TermsLoops.{AdditiveLoop, additive-turn, additive-end, adding-begins, tuples-loop-begins, tuples-loop-in, tuples-loop-few}
+use Rattle.logup_terms.proofs.TermsLoops.{AdditiveLoop, additive-turn, additive-end, adding-begins, adding-none, tuples-loop-begins, tuples-loop-in, tuples-loop-few}
 use borrow.Author.Needs.{needs}
 use Rattle.logup_terms.proofs.compute.compute_combined_sum_terms.Statement.{statement}
 use Rattle.logup_terms.proofs.compute.compute_combined_sum_terms.Tie as tie
@@ -77,10 +77,10 @@ add-term-requires c κs =
     let at-4 = c .before .before .before .before in
     let at-7 = at-4 .before .before .before in
     let at-15 = at-7 .before .before .before .before .before .before .before .before in (
-      at-15 .pre .0 .modulus,
-      at-15 .pre .0 .low,
+      record { modulus = at-15 .pre .0 .modulus; low = at-15 .pre .0 .low; certificate = at-15 .pre .0 .certificate },
       at-7 .loop .inv .sums .numerator-below,
       at-7 .loop .inv .sums .denominator-below,
+      adding-none (at-7 .loop .inv .sums),
       subst (λ (n : ℕ). n < at-15 .args .p) (sym (at-4 .value .ensures)) (at-15 .pre .0 .below .each _),
       c .denominator .ensures .0,
     )

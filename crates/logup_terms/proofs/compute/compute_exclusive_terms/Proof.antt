@@ -16,7 +16,7 @@ add-requires c κs = search needs
 
 returns : tie.Need-returns
 unfolding branches
-returns c = exclusive-ends (c .before .before .before .before .before .sum-branches .ensures) refl (c .before .sub .ensures) (c .add .ensures)
+returns c = exclusive-ends (c .before .before .before .sum-branches .ensures) refl (c .before .sub .ensures) (c .add .ensures)
 
 pub compute-exclusive-terms-spec : {M : Type 1} → statement M
 compute-exclusive-terms-spec =

@@ -113,7 +113,8 @@ loop-again c =
     let at-7 = at-5 .before .before in
     let at-9 = at-7 .before .before in
     let at-10 = at-9 .before in
-    exclusive-turn (at-10 .loop .inv) (at-9 .loop-test .taken) (at-7 .value .ensures) (at-5 .value2 .ensures)
+    let at-19 = at-10 .before .before .before .before .before .before .before .before .before in
+    exclusive-turn (at-19 .pre .0 .certificate) (at-10 .loop .inv) (at-9 .loop-test .taken) (at-7 .value .ensures) (at-5 .value2 .ensures)
     (c .before .before .before .to-usize2 .ensures .0) (c .before .denominator .ensures .1) (c .add-branch .ensures)
 
 returns : tie.Need-returns Inv-loop μ-loop
