@@ -3,8 +3,8 @@
 //! source, balance beside a hash map as well, also on tuples that were chosen to be slow; and generation at growing heights. Counts the
 //! instructions of generation and constraints, by valgrind's callgrind. Generation and constraints are measured in both fields, a table for
 //! each; all else is in field 1. Prints tables; `--only PART` runs one part: evaluation, generation, constraints, instructions, growth, balance
-//! or collisions; `--rounds N` repeats long work N times in the place of 3; `--rule 2` is the tuple rule in the place of 1. Whatever the
-//! crate's source would be compared with is measured without it too.
+//! or collisions; `--rounds N` repeats long work N times in the place of 3; `--rule 2` is the tuple rule in the place of 1; `--side port` times
+//! the port alone, which is all that `turns` reads. Whatever the crate's source would be compared with is measured without it too.
 //!
 //!     cargo run --release --offline --features port --bin bench
 use std::collections::HashMap;
@@ -43,8 +43,20 @@ fn rule() -> Rule {
     }
 }
 
+/// Whether the port is timed beside nothing.
+fn port_alone() -> bool {
+    match argument("--side").as_deref() {
+        None => false,
+        Some("port") => true,
+        Some(other) => panic!("--side takes port, not {other}"),
+    }
+}
+
 /// The medians of the sides, in nanoseconds a row, one round of each after the other; the first is the port.
 fn race<A: PartialEq + Debug>(rows: usize, mut sides: Vec<Side<'_, A>>) -> Vec<f64> {
+    if port_alone() {
+        sides.truncate(1);
+    }
     let mut times = vec![vec![]; sides.len()];
     for _ in 0..rounds(rows) {
         let mut results = vec![];
@@ -65,6 +77,10 @@ fn median(mut times: Vec<f64>) -> f64 {
 
 /// A line of a table: the port's time or count, then each other's with the ratio to it.
 fn report(name: &str, costs: &[f64], unit: &str) {
+    if let [alone] = costs {
+        // In tenths: a nanosecond is more than a hundredth of the shortest.
+        return println!("| {name} | {alone:.1}{unit} |");
+    }
     let others: String = costs[1..].iter().map(|c| format!(" {}{unit} | {:.2} |", grouped(*c), costs[0] / c)).collect();
     println!("| {name} | {}{unit} |{others}", grouped(costs[0]));
 }

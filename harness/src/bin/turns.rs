@@ -81,7 +81,7 @@ fn main() {
             let of_pairs = median(old().zip(new()).map(|(old, new)| new / old));
             let to_first = median(runs.iter().map(|(_, new)| cost(new, t, l) / cost(new, 0, l)));
             println!(
-                "| {name} | {:.0} | {:.0} | {of_pairs:.3} | {low_old:.0} | {low_new:.0} | {:.3} | {to_first:.3} |",
+                "| {name} | {:.1} | {:.1} | {of_pairs:.3} | {low_old:.1} | {low_new:.1} | {:.3} | {to_first:.3} |",
                 median(old()),
                 median(new()),
                 low_new / low_old
