@@ -12,13 +12,17 @@ use Rattle.expression.specs.declared.node.Node.the-variants.{Constant, M
 abbrev pub node-words : ℕ
 node-words = 3
 
--- the kinds of SPECIFICATION, section 3.1
+-- the row offsets: 0 to 3, "a larger offset is refusal 3"
+abbrev pub row-offsets : ℕ
+row-offsets = 4
+
+-- The kinds of SPECIFICATION, section 3.1. "Kinds 1 and 3 carry a row offset in b", "kinds 2 and 4 mean offset 1 and ignore b".
 unfoldable pub decode : ℕ → ℕ → ℕ → Node
 decode k a b =
     cond (eqb k 0) (Constant a)
-    (cond (eqb k 1) (Main 0 a)
+    (cond (eqb k 1) (Main b a)
     (cond (eqb k 2) (Main 1 a)
-    (cond (eqb k 3) (Preprocessed 0 a)
+    (cond (eqb k 3) (Preprocessed b a)
     (cond (eqb k 4) (Preprocessed 1 a)
     (cond (eqb k 5) (PublicValue a)
     (cond (eqb k 6) FirstRow

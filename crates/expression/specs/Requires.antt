@@ -6,7 +6,7 @@ use mathlib.Core.List.{List}
 use lib.ListN.{length}
 use Rattle.field.specs.inner.Requires.{KnownPrime}
 use Rattle.expression.specs.Words.{word}
-use Rattle.expression.specs.Node.{node, node-count}
+use Rattle.expression.specs.Node.{row-offsets, node-count}
 use Rattle.expression.specs.Window.{Traces}
 use Rattle.expression.specs.Tests.{constants-below, nodes-known}
 use Rattle.expression.specs.declared.sizes.Shape.{Shape}
@@ -29,45 +29,40 @@ pub record Slots (p : ℕ) (l : List ℕ) : Type 0 where
   pub below : Below p l
   pub size : length l ≡ 1024
 
--- a table whose rows may be evaluated
-pub record Evaluable (p : ℕ) (t : Traces) (nodes : List ℕ) : Type 0 where
-  pub modulus : KnownPrime p
-  pub few : node-count nodes ≤ 1024
+-- traces whose rows may be read
+pub record RowsReadable (p : ℕ) (t : Traces) : Type 0 where
   pub main-fits : t .shape .«main_width» * t .shape .height ≤ length (t .main)
   pub pre-fits : t .shape .«pre_width» * t .shape .height ≤ length (t .preprocessed)
   pub main-below : Below p (t .main)
   pub pre-below : Below p (t .preprocessed)
   pub public-below : Below p (t .public-values)
+
+-- a table whose rows may be evaluated
+pub record Evaluable (p : ℕ) (t : Traces) (nodes : List ℕ) : Type 0 where
+  pub modulus : KnownPrime p
+  pub few : node-count nodes ≤ 1024
+  pub rows : RowsReadable p t
   pub constants : constants-below p nodes ≡ true
   pub known : nodes-known (t .shape) (length (t .public-values)) nodes ≡ true
 
--- what a node reads is there: the words of the lent rows, and a value among the 1,024
-abbrev pub Readable : ℕ → List ℕ → List ℕ → List ℕ → List ℕ → List ℕ → Node → Type 0
-Readable p main0 main1 pre0 pre1 public-values (Constant a) = a < p
-Readable p main0 main1 pre0 pre1 public-values (Main o a) = (a < length main0) × (a < length main1)
-Readable p main0 main1 pre0 pre1 public-values (Preprocessed o a) = (a < length pre0) × (a < length pre1)
-Readable p main0 main1 pre0 pre1 public-values (PublicValue a) = a < length public-values
-Readable p main0 main1 pre0 pre1 public-values FirstRow = Unit
-Readable p main0 main1 pre0 pre1 public-values LastRow = Unit
-Readable p main0 main1 pre0 pre1 public-values Transition = Unit
-Readable p main0 main1 pre0 pre1 public-values (Sum a b) = (a < 1024) × (b < 1024)
-Readable p main0 main1 pre0 pre1 public-values (Difference a b) = (a < 1024) × (b < 1024)
-Readable p main0 main1 pre0 pre1 public-values (Product a b) = (a < 1024) × (b < 1024)
-Readable p main0 main1 pre0 pre1 public-values (Negation a) = a < 1024
-Readable p main0 main1 pre0 pre1 public-values Unknown = Unit
+-- what a node reads is there: a word of one of the four rows, and a value among the 1,024
+abbrev pub Readable : ℕ → Traces → Node → Type 0
+Readable p t (Constant a) = a < p
+Readable p t (Main o a) = (o < row-offsets) × (a < t .shape .«main_width»)
+Readable p t (Preprocessed o a) = (o < row-offsets) × (a < t .shape .«pre_width»)
+Readable p t (PublicValue a) = a < length (t .public-values)
+Readable p t FirstRow = Unit
+Readable p t LastRow = Unit
+Readable p t Transition = Unit
+Readable p t (Sum a b) = (a < 1024) × (b < 1024)
+Readable p t (Difference a b) = (a < 1024) × (b < 1024)
+Readable p t (Product a b) = (a < 1024) × (b < 1024)
+Readable p t (Negation a) = a < 1024
+Readable p t Unknown = Unit
 
--- the rows that one row's values are computed from: the words below p
-pub record Rows (p : ℕ) (main0 main1 pre0 pre1 public-values : List ℕ) (row height : ℕ) : Type 0 where
+-- node n, which is read on row r
+pub record NodeReadable (p : ℕ) (t : Traces) (r : ℕ) (n : Node) : Type 0 where
   pub modulus : KnownPrime p
-  pub inside : row < height
-  pub main0-below : Below p main0
-  pub main1-below : Below p main1
-  pub pre0-below : Below p pre0
-  pub pre1-below : Below p pre1
-  pub public-below : Below p public-values
-
--- the n nodes that are evaluated over these rows
-pub record NodesEvaluable (p : ℕ) (main0 main1 pre0 pre1 public-values nodes : List ℕ) (n : ℕ) : Type 0 where
-  pub few : n ≤ 1024
-  pub there : 3 * n ≤ length nodes
-  pub readable : (i : ℕ) → i < n → Readable p main0 main1 pre0 pre1 public-values (node nodes i)
+  pub rows : RowsReadable p t
+  pub inside : r < t .shape .height
+  pub readable : Readable p t n

@@ -6,7 +6,7 @@ use lib.Dec.{eqb, leb, ltb}
 use lib.ListN.{length}
 use Rattle.lists.specs.Count.{every}
 use Rattle.expression.specs.Words.{all-below, all-within}
-use Rattle.expression.specs.Node.{node, node-count}
+use Rattle.expression.specs.Node.{row-offsets, node, node-count}
 use Rattle.expression.specs.Window.{Traces}
 use Rattle.expression.specs.Degree.{degrees}
 use Rattle.expression.specs.declared.sizes.Shape.{Shape}
@@ -60,8 +60,8 @@ constants-below p nodes = every (λ i. constant-below p (node nodes i)) (node-co
 -- refusal 3: node i, where there are so many public values
 abbrev pub node-known : Shape → ℕ → ℕ → Node → Bool
 node-known s publics i (Constant a) = true
-node-known s publics i (Main o a) = ltb a (s .«main_width»)
-node-known s publics i (Preprocessed o a) = ltb a (s .«pre_width»)
+node-known s publics i (Main o a) = ltb o row-offsets && ltb a (s .«main_width»)
+node-known s publics i (Preprocessed o a) = ltb o row-offsets && ltb a (s .«pre_width»)
 node-known s publics i (PublicValue a) = ltb a publics
 node-known s publics i FirstRow = true
 node-known s publics i LastRow = true

@@ -1,8 +1,6 @@
 -- The traces of a table and the window on them. SPECIFICATION, sections 2.2 and 3.2.
 use Prim.Native.Nat.{ℕ, _+_, _*_, _%_}
-use mathlib.Core.Bool.{cond}
 use mathlib.Core.List.{List}
-use lib.Dec.{eqb}
 use lib.ListN.{take, drop}
 use Rattle.expression.specs.declared.sizes.Shape.{Shape}
 
@@ -17,7 +15,7 @@ pub record Traces : Type 0 where
 abbrev pub lent-traces : Shape → List ℕ → List ℕ → List ℕ → Traces
 lent-traces s main preprocessed public-values = record { shape = s; main = main; preprocessed = preprocessed; public-values = public-values }
 
--- What a row is evaluated from: the rows of main and of the preprocessed trace at each offset, 0 the current row and 1 the next.
+-- What a row is evaluated from: the rows of main and of the preprocessed trace at each offset, 0 the current row.
 pub record Window : Type 0 where
   pub main : ℕ → List ℕ
   pub preprocessed : ℕ → List ℕ
@@ -29,7 +27,7 @@ pub record Window : Type 0 where
 unfoldable pub row-of : List ℕ → ℕ → ℕ → List ℕ
 row-of words width r = take width (drop (r * width) words)
 
--- SPECIFICATION, section 3.2: "the current row r, and the next, (r + 1) modulo the height of main", "for the preprocessed trace too"
+-- SPECIFICATION, section 3.2: "the row at offset o is row (r + o) modulo the height of main", "for the rows of the preprocessed trace too, by the height of main"
 unfoldable pub window : Traces → ℕ → Window
 window t r =
     record {
@@ -39,12 +37,3 @@ window t r =
       row = r;
       height = t .shape .height;
     }
-
--- the row at an offset, of two that are lent
-abbrev pub two : List ℕ → List ℕ → ℕ → List ℕ
-two current next o = cond (eqb o 0) current next
-
--- the window over two rows of main and two of the preprocessed trace that are lent
-abbrev pub lent-window : List ℕ → List ℕ → List ℕ → List ℕ → List ℕ → ℕ → ℕ → Window
-lent-window main0 main1 pre0 pre1 public-values row height =
-    record { main = two main0 main1; preprocessed = two pre0 pre1; public-values = public-values; row = row; height = height }

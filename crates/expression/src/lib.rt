@@ -1,4 +1,4 @@
-// The expression table: its words and limits, the refusals, and the definitions of the two-row window, the degrees and the
+// The expression table: its words and limits, the refusals, and the definitions of the window, the degrees and the
 // values of the nodes.
 // Refusals as numbers.
 pub mod choices;

@@ -7,7 +7,10 @@ ghost use Rattle.expression.specs.Node.{node-words, decode, node};
 // The words of a node: kind, a, b.
 pub const NODE_WORDS: usize = 3;
 
-// An offset is counted in rows from the current one.
+// The row offsets: 0 to 3.
+pub const ROW_OFFSETS: u32 = 4;
+
+// An offset is counted in rows from the current one, around the end of the table.
 pub enum Node {
     Constant(u32),
     // offset, column
@@ -31,9 +34,9 @@ pub fn decode(k: u32, a: u32, b: u32) -> Node
 {
     match k {
         0 => Node::Constant(a),
-        1 => Node::Main(0, a),
+        1 => Node::Main(b, a),
         2 => Node::Main(1, a),
-        3 => Node::Preprocessed(0, a),
+        3 => Node::Preprocessed(b, a),
         4 => Node::Preprocessed(1, a),
         5 => Node::PublicValue(a),
         6 => Node::FirstRow,

@@ -1,6 +1,7 @@
 // Refusals 2 and 3: the words are below p, and the nodes are known.
 use expression::node::NODE_WORDS;
 use expression::node::Node;
+use expression::node::ROW_OFFSETS;
 use expression::node::node_at;
 use expression::sizes::Shape;
 use expression::words::all_below;
@@ -45,8 +46,8 @@ fn node_known(shape: Shape, publics: usize, i: usize, n: Node) -> bool
 {
     match n {
         Node::Constant(_) => true,
-        Node::Main(_, a) => to_usize(a) < shape.main_width,
-        Node::Preprocessed(_, a) => to_usize(a) < shape.pre_width,
+        Node::Main(o, a) => (o < ROW_OFFSETS) & (to_usize(a) < shape.main_width),
+        Node::Preprocessed(o, a) => (o < ROW_OFFSETS) & (to_usize(a) < shape.pre_width),
         Node::PublicValue(a) => to_usize(a) < publics,
         Node::FirstRow => true,
         Node::LastRow => true,

@@ -1,4 +1,3 @@
-// The two-row window on a trace.
-// One row of a table: the two-row window and the values of the nodes.
+// One row of a table: the window on its traces and the values of the nodes.
 pub mod traits;
 pub mod window;

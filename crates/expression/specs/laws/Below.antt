@@ -1,17 +1,17 @@
 -- Laws of words below p.
 use mathlib.Core.Path.{_≡_, refl, ap, _∙_}
-use mathlib.Core.Bool.{Bool, true, false, cond}
+use mathlib.Core.Bool.{Bool, true, false}
 use mathlib.Core.List.{List, [], _∷_, _++_}
 use Prim.Native.Nat.{ℕ, zero, suc, _+_, _*_, _-_, _<_, _≤_}
 use native.Mathlib.Omega.{arith}
-use lib.Dec.{eqb, leb, ltb}
+use lib.Dec.{leb, ltb}
 use lib.ListN.{length, take, drop, set, replicate, List·getD-eq-default}
 use lib.Seq.{getD-drop}
 use borrow.Author.Tests.{ltb-true, ltb-false, leb-true}
 use Rattle.lists.specs.Count.{every}
 use Rattle.lists.specs.laws.Tests.{every-true}
 use Rattle.expression.specs.Words.{word, all-below, all-within}
-use Rattle.expression.specs.Window.{row-of, two}
+use Rattle.expression.specs.Window.{row-of}
 use Rattle.expression.specs.Requires.{Below}
 
 pub below-pos : {p : ℕ} {l : List ℕ} → Below p l → 0 < p
@@ -70,14 +70,6 @@ pub below-row : {p : ℕ} {l : List ℕ} (width r : ℕ) → Below p l → Below
 unfolding row-of
 below-row {p} {l} width r h =
     record { each = take-each p width (drop (r * width) l) (below-pos h) (λ j. rw (getD-drop (r * width) l j 0) (h .each (r * width + j))) }
-
--- a word of one of two rows
-either-below : (p : ℕ) (c : Bool) (k l : List ℕ) (a : ℕ) → word k a < p → word l a < p → word (cond c k l) a < p
-either-below p true k l a h g = h
-either-below p false k l a h g = g
-
-pub below-two : {p : ℕ} {k l : List ℕ} → Below p k → Below p l → (o a : ℕ) → word (two k l o) a < p
-below-two {p} {k} {l} h g o a = either-below p (eqb o 0) k l a (h .each a) (g .each a)
 
 -- what the tests of words say
 below-at : (p : ℕ) (l : List ℕ) → 0 < p → every (λ i. ltb (word l i) p) (length l) ≡ true → (i : ℕ) (b : Bool) → ltb i (length l) ≡ b → word l i < p

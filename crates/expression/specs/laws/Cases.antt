@@ -1,7 +1,7 @@
 -- The examples of SPECIFICATION, sections 3, 10.1 and 12, that are about the expression table, as one table with one theorem.
 use mathlib.Core.Bool.{Bool, true, false, _&&_}
 use mathlib.Core.List.{List, [], _∷_, _++_}
-use Prim.Native.Nat.{ℕ}
+use Prim.Native.Nat.{ℕ, _+_}
 use lib.Dec.{eqb, T}
 use Rattle.lists.specs.Count.{every}
 use Rattle.lists.specs.Same.{same-list}
@@ -41,9 +41,22 @@ one-row =
       public-values = [];
     }
 
+abbrev two-rows : Traces
+two-rows =
+    record {
+      shape = record { «main_width» = 1; height = 2; «pre_width» = 1; «pre_height» = 3 };
+      main = 3 ∷ 4 ∷ [];
+      preprocessed = 6 ∷ 7 ∷ 8 ∷ [];
+      public-values = [];
+    }
+
 -- the constant 2, then the column and the preprocessed column, each in the current and the next row, and the public value
 abbrev pub leaves : List ℕ
 leaves = 0 ∷ 2 ∷ 0 ∷ 1 ∷ 0 ∷ 0 ∷ 2 ∷ 0 ∷ 0 ∷ 3 ∷ 0 ∷ 0 ∷ 4 ∷ 0 ∷ 0 ∷ 5 ∷ 0 ∷ 0 ∷ []
+
+-- a column at the offsets 0 to 3 by kind k, and by the kind after it, which ignores the 3
+abbrev ahead : ℕ → List ℕ
+ahead k = k ∷ 0 ∷ 0 ∷ k ∷ 0 ∷ 1 ∷ k ∷ 0 ∷ 2 ∷ k ∷ 0 ∷ 3 ∷ (k + 1) ∷ 0 ∷ 3 ∷ []
 
 -- first row, last row, transition
 abbrev pub selectors : List ℕ
@@ -94,13 +107,21 @@ cases =
     ∷ record { computed = verdict (nodes-known (three-rows .shape) 1 (13 ∷ 0 ∷ 0 ∷ [])); expected = 0 ∷ [] }
     ∷ record { computed = verdict (nodes-known (three-rows .shape) 1 (1 ∷ 1 ∷ 0 ∷ [])); expected = 0 ∷ [] }
     ∷ record { computed = verdict (nodes-known (one-row .shape) 0 (3 ∷ 0 ∷ 0 ∷ [])); expected = 0 ∷ [] }
+    -- offset 4 of main and of the preprocessed trace; 3, and an ignored 4
+    ∷ record { computed = verdict (nodes-known (three-rows .shape) 1 (1 ∷ 0 ∷ 4 ∷ [])); expected = 0 ∷ [] }
+    ∷ record { computed = verdict (nodes-known (three-rows .shape) 1 (3 ∷ 0 ∷ 4 ∷ [])); expected = 0 ∷ [] }
+    ∷ record { computed = verdict (nodes-known (three-rows .shape) 1 (1 ∷ 0 ∷ 3 ∷ 2 ∷ 0 ∷ 4 ∷ 3 ∷ 0 ∷ 3 ∷ 4 ∷ 0 ∷ 4 ∷ [])); expected = 1 ∷ [] }
     -- refusal 4: a column squared 8 times
     ∷ record { computed = verdict (degrees-low cabinet squared-again); expected = 0 ∷ [] }
     ∷ record { computed = verdict (degrees-low cabinet squared); expected = 1 ∷ [] }
     ∷ record { computed = degrees 0 (8 ∷ 0 ∷ 0 ∷ 1 ∷ 0 ∷ 0 ∷ 9 ∷ 0 ∷ 1 ∷ 11 ∷ 1 ∷ 2 ∷ []) 4; expected = 0 ∷ 1 ∷ 1 ∷ 2 ∷ [] }
-    -- the two-row window: row 1, and the last row with row 0 after it, in the preprocessed trace too
+    -- the window: row 1, and the last row with row 0 after it, in the preprocessed trace too
     ∷ record { computed = row-values babybear leaves three-rows 1; expected = 2 ∷ 4 ∷ 5 ∷ 7 ∷ 8 ∷ 10 ∷ [] }
     ∷ record { computed = row-values babybear leaves three-rows 2; expected = 2 ∷ 5 ∷ 3 ∷ 8 ∷ 6 ∷ 10 ∷ [] }
+    -- three rows ahead, around the end of main, at heights 3, 2 and 1
+    ∷ record { computed = row-values babybear (ahead 1 ++ ahead 3) three-rows 1; expected = 4 ∷ 5 ∷ 3 ∷ 4 ∷ 5 ∷ 7 ∷ 8 ∷ 6 ∷ 7 ∷ 8 ∷ [] }
+    ∷ record { computed = row-values babybear (ahead 1 ++ ahead 3) two-rows 1; expected = 4 ∷ 3 ∷ 4 ∷ 3 ∷ 3 ∷ 7 ∷ 6 ∷ 7 ∷ 6 ∷ 6 ∷ [] }
+    ∷ record { computed = row-values babybear (ahead 1) one-row 0; expected = 3 ∷ 3 ∷ 3 ∷ 3 ∷ 3 ∷ [] }
     -- kinds 6 to 8 on each of three rows, and at height 1
     ∷ record { computed = row-values babybear selectors three-rows 0; expected = 1 ∷ 0 ∷ 1 ∷ [] }
     ∷ record { computed = row-values babybear selectors three-rows 1; expected = 0 ∷ 0 ∷ 1 ∷ [] }

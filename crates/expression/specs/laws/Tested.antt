@@ -122,11 +122,14 @@ traces-tested m p t nodes g o n₁ f₁ w₂ c₂ k₃ r₉ =
     record {
       modulus = o;
       few = few-tested m nodes g n₁;
-      main-fits = omega (arith, main-fits);
-      pre-fits = pre-enough (t .shape .«pre_width») (t .shape .height) (t .shape .«pre_height») (length (t .preprocessed)) pre-fits (eqb (t .shape .«pre_width») 0) refl r₉;
-      main-below = below-tested (t .main) pos (ws .0);
-      pre-below = below-tested (t .preprocessed) pos (ws .1 .0);
-      public-below = below-tested (t .public-values) pos (ws .1 .1 .0);
+      rows =
+          record {
+            main-fits = omega (arith, main-fits);
+            pre-fits = pre-enough (t .shape .«pre_width») (t .shape .height) (t .shape .«pre_height») (length (t .preprocessed)) pre-fits (eqb (t .shape .«pre_width») 0) refl r₉;
+            main-below = below-tested (t .main) pos (ws .0);
+            pre-below = below-tested (t .preprocessed) pos (ws .1 .0);
+            public-below = below-tested (t .public-values) pos (ws .1 .1 .0);
+          };
       constants = c₂;
       known = k₃;
     }

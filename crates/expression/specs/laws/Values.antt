@@ -77,6 +77,6 @@ pub row-values-below : {p : ℕ} {t : Traces} {nodes : List ℕ} (r : ℕ) → E
 unfolding row-values window constants-below
 row-values-below {p} {t} {nodes} r v =
     values-below p (window t r) nodes (node-count nodes) (v .modulus .big)
-    (λ o. below-row (t .shape .«main_width») ((r + o) % t .shape .height) (v .main-below) .each)
-    (λ o. below-row (t .shape .«pre_width») ((r + o) % t .shape .height) (v .pre-below) .each)
-    (v .public-below) (λ i l. every-true (λ i. constant-below p (node nodes i)) (node-count nodes) i (v .constants) l)
+    (λ o. below-row (t .shape .«main_width») ((r + o) % t .shape .height) (v .rows .main-below) .each)
+    (λ o. below-row (t .shape .«pre_width») ((r + o) % t .shape .height) (v .rows .pre-below) .each)
+    (v .rows .public-below) (λ i l. every-true (λ i. constant-below p (node nodes i)) (node-count nodes) i (v .constants) l)

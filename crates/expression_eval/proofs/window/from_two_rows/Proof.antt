@@ -1,4 +1,4 @@
--- `window::pair::from_two_rows` meets its contract: a walk of its MIR, by hand. A `VerticalPair` is made of the two slices passed, in the result's local.
+-- `window::from_two_rows` meets its contract: a walk of its MIR, by hand. A `VerticalPair` is made of the two slices passed, in the result's local.
 -- A `&[u32]` is Copy, so what it owns is had twice: once for the exit, and once inside the result.
 -- Assumes nothing.
 use mathlib.Core.Path.{refl}

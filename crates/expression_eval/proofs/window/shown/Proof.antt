@@ -1,4 +1,4 @@
--- `window::pair::shown` meets its contract: a walk of its MIR, by hand. The struct is taken apart, and `at_offset` is called on its rows and two numbers. All that the proof knows of `at_offset` is that it meets its contract.
+-- `window::shown` meets its contract: a walk of its MIR, by hand. The struct is taken apart, and `at_offset` is called on its rows and two numbers. All that the proof knows of `at_offset` is that it meets its contract.
 -- The struct is Copy: what it owns is had twice, and one copy is kept whole for the exit. The callee takes the fields in their order, then the numbers. The lifetime's token goes to it, and comes back.
 -- Assumes nothing.
 use mathlib.Core.Path.{_≡_, refl}
@@ -42,7 +42,7 @@ use denote.Triple.Walked.{says, needs, Stays, stay-none, walkOf, goes-none, Walk
 use denote.Exit.{yes}
 use denote.Triple.Clauses.{ensured, lasts}
 use Rattle.expression.specs.Words.{word}
-use Rattle.expression.specs.Window.{two}
+use Rattle.expression_eval.specs.inner.Window.{at-offset}
 use Rattle.expression_eval.specs.declared.window.VerticalPair.{VerticalPair}
 use Rattle.expression_eval.proofs.window.VerticalPair as T
 use Rattle.expression_eval.proofs.window.VerticalPair.Laws as T′
@@ -89,7 +89,7 @@ module _ {M : Type 1} (𝓤 : URA M) (H : Heap 𝓤) (A : Atoms 𝓤) (W : Given
   at = (mach ∷ [], (vint w32 o ∷ [], (vint w32 a ∷ [], tt)))
 
   abbrev answer : ℕ
-  answer = word (two (now (d .top)) (now (d .bottom)) o) a
+  answer = word (at-offset (now (d .top)) (now (d .bottom)) o) a
 
   abbrev Post : Val → SProp 𝓤
   Post = walkOf 𝓤 H A shown.ended stayed (shown.clauses 𝓤 H A mem run) .post ((κs, (q, tt), tt, (d, (o, (a, tt))), at), tt)
