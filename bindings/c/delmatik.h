@@ -53,11 +53,28 @@ extern "C" {
  * A table's lists, in the order in which every function takes them:
  *   main, preprocessed   the traces, row by row
  *   public_values
- *   nodes                kind, a, b for each node
+ *   nodes                three words each: kind, a, b, see below
  *   lookups              eight words each: scope (0 local, else bus), name length, weight, column, exclusive, tuples, multiplicities, flags
  *   names                the bus names, one after the other, in bytes
  *   tuples               the width of each tuple
  *   multiplicities, flags, elements   node numbers
+ *
+ * A node has a value on each row, by its kind:
+ *   0   constant                 a: the word
+ *   1   main                     a: column, b: row offset from 0 to 3
+ *   2   main, next row           a: column; as kind 1 at offset 1
+ *   3   preprocessed             a: column, b: row offset from 0 to 3
+ *   4   preprocessed, next row   a: column; as kind 3 at offset 1
+ *   5   public value             a: its number
+ *   6   first row                1 on row 0, else 0
+ *   7   last row                 1 on the last row, else 0
+ *   8   transition               0 on the last row, else 1
+ *   9   sum                      a, b: nodes with lower numbers
+ *   10  difference               a, b: the same
+ *   11  product                  a, b: the same
+ *   12  negation                 a: a node with a lower number
+ * At offset o a node sees row (r + o) modulo the height of main on row r, in the preprocessed trace too: rows are counted around the end of the
+ * table. A larger offset is refusal 3, used or not. A word that is not named here may be any, such as b of kinds 2 and 4.
  */
 
 /* generate_permutation: two challenges for each lookup, alpha then beta, four words each. The trace takes height * (lookups + 1) * 4 words,

@@ -29,12 +29,13 @@ pub struct Disagreement {
     pub text: String,
 }
 
-/// How many tables there were in each field and profile, how many cases by each rule and with an unknown choice, how often each function gave each
-/// number, was compared with the port, and was called once more: in the cabinet, or by rule 1.
+/// How many tables there were in each field and profile, and with nodes at offset 2 or 3; how many cases by each rule and with an unknown choice; how
+/// often each function gave each number, was compared with the port, and was called once more: in the cabinet, or by rule 1.
 #[derive(Default)]
 pub struct Tally {
     pub fields: BTreeMap<Field, u64>,
     pub profiles: BTreeMap<Profile, u64>,
+    pub far: u64,
     pub rules: BTreeMap<Rule, u64>,
     pub unknown: u64,
     pub counts: BTreeMap<(&'static str, u32, Compared), u64>,
@@ -48,6 +49,7 @@ type Checked = Result<Compared, String>;
 pub fn check(case: &Case, port: Option<Port>, tally: &mut Tally) -> Result<(), Disagreement> {
     *tally.fields.entry(case.field()).or_default() += case.tables.len() as u64;
     *tally.profiles.entry(case.chosen().profile).or_default() += case.tables.len() as u64;
+    tally.far += case.tables.iter().filter(|t| t.looks_far()).count() as u64;
     *tally.rules.entry(case.chosen().rule).or_default() += 1;
     tally.unknown += u64::from(case.choices.known_with_rule().is_none());
     let mut run = |function: &'static str, (answer, compared): (Answer, Checked)| match compared {

@@ -272,11 +272,15 @@ struct Maker<'a> {
 }
 
 impl Maker<'_> {
+    /// A node without operands. The second word is a row offset in kinds 1 and 3, mostly one that the crate has; other kinds do not use it.
     fn leaf(&mut self, kind: u32, a: u32) -> u32 {
         let degree = if matches!(kind, 0 | 5) { 0 } else { 1 };
         self.sizes.push((1, degree));
-        let unused = self.random.below(3) as u32;
-        self.table.add_node(kind, a, unused)
+        let b = match kind {
+            1 | 3 => self.random.pick(&[0, 1, 2, 0, 1, 3]),
+            _ => self.random.pick(&[0, 1, 2, 0, 1, 4, 0, 1, u32::MAX, 0, 1, 2]),
+        };
+        self.table.add_node(kind, a, b)
     }
 
     fn constant(&mut self, word: u32) -> u32 {
@@ -328,8 +332,11 @@ impl Maker<'_> {
     fn nodes(&mut self) {
         for column in 0..self.table.main_width as u32 {
             self.leaf(1, column);
-            if self.random.one_in(2) {
-                self.leaf(2, column);
+            // Half of the columns once more, at an offset of its own or on the next row.
+            match self.random.below(4) {
+                0 => _ = self.leaf(1, column),
+                2 => _ = self.leaf(2, column),
+                _ => (),
             }
         }
         for column in 0..self.table.pre_width as u32 {
@@ -362,7 +369,11 @@ impl Maker<'_> {
             2 if branches <= 2 => (0..branches as u32).map(|k| self.leaf(6 + k, 0)).collect(),
             _ => {
                 let first = self.selectors(branches);
-                (first..first + branches as u32).map(|column| self.leaf(1, column)).collect()
+                let flags: Vec<u32> = (first..first + branches as u32).map(|column| self.leaf(1, column)).collect();
+                // All of one row: there at most one of them is 1.
+                let offsets: Vec<usize> = flags.iter().map(|flag| NODE_WORDS * *flag as usize + 2).collect();
+                offsets.iter().for_each(|place| self.table.nodes[*place] = self.table.nodes[offsets[0]]);
+                flags
             }
         }
     }
@@ -733,7 +744,7 @@ pub fn damage(random: &mut Random, case: &mut Case) {
 }
 
 fn damage_table(random: &mut Random, t: &mut Table) {
-    match random.below(20) {
+    match random.below(22) {
         0 => damage_list(random, &mut t.main),
         1 => damage_list(random, &mut t.preprocessed),
         2 => damage_list(random, &mut t.public_values),
@@ -754,11 +765,22 @@ fn damage_table(random: &mut Random, t: &mut Table) {
             t.height = t.height.saturating_sub(random.below(2)) + random.below(2);
             t.main.resize((t.main_width * t.height) as usize, 1);
         }
+        19 | 20 => look_too_far(random, t),
         _ => {
             let size = random.pick(&[0, 1, 64, 65, 256, 257, 4096, 4097, 1 << 20, (1 << 20) + 1, 1 << 32, 1 << 63, u64::MAX]);
             let place = random.below(4);
             *[&mut t.main_width, &mut t.height, &mut t.pre_width, &mut t.pre_height][place as usize] = size;
         }
+    }
+}
+
+/// Gives a node a larger offset than there is: one of the table's own, or a new one, which nothing names. Now and then its column is absent too.
+fn look_too_far(random: &mut Random, t: &mut Table) {
+    let own: Vec<usize> = (0..t.node_count()).filter(|i| matches!(t.node(*i)[0], 1 | 3)).collect();
+    let node = if own.is_empty() || random.one_in(3) { t.add_node(1, 0, 0) as usize } else { random.pick(&own) };
+    t.nodes[NODE_WORDS * node + 2] = random.pick(&[4, 4, 5, 256, 1 << 31, u32::MAX, u32::MAX]);
+    if random.one_in(4) {
+        t.nodes[NODE_WORDS * node + 1] = random.pick(&[t.main_width as u32, u32::MAX]);
     }
 }
 
@@ -874,13 +896,14 @@ fn tables_at_limits(chosen: Chosen, over: usize) -> Vec<(String, Table)> {
 /// Adds a case of these tables, with a change.
 type Add<'a> = dyn FnMut(String, Vec<Table>, &dyn Fn(&mut Case)) + 'a;
 
-/// The limits of docs/SPECIFICATION.md in each field and profile, each met and passed by one, words at the primes, unknown choices, and tuples
-/// by both rules, with a name. By rule 2 there is only what generation and constraints read.
+/// The limits of docs/SPECIFICATION.md in each field and profile, each met and passed by one, row offsets likewise, words at the primes, unknown
+/// choices, and tuples and rows ahead by both rules, with a name. By rule 2 there is only what generation and constraints read.
 pub fn boundaries() -> Vec<(String, Case)> {
     let chosen = |rule| Profile::ALL.into_iter().flat_map(move |profile| Field::ALL.map(|field| Chosen { field, profile, rule }));
     let by_rule_1 = chosen(Rule::One).flat_map(|chosen| named(chosen, at_limits));
     let by_rule_2 = chosen(Rule::Two).flat_map(|chosen| named(chosen, at_limits_of_rows));
-    let by_both = Rule::ALL.into_iter().flat_map(chosen).flat_map(|chosen| [named(chosen, tuples), named(chosen, met_tuples)].concat());
+    let both = |chosen| [named(chosen, tuples), named(chosen, met_tuples), named(chosen, rows_ahead)].concat();
+    let by_both = Rule::ALL.into_iter().flat_map(chosen).flat_map(both);
     by_both.chain(by_rule_2).chain(by_rule_1).collect()
 }
 
@@ -971,6 +994,7 @@ fn at_limits(add: &mut Add, chosen: Chosen) {
         rows_and_buffers(add, chosen, over);
     }
     heights(add, chosen);
+    farthest_rows(add, chosen);
     for word in AT_PRIMES {
         at_prime_in_rows(add, chosen, word);
         at_prime(add, chosen, word);
@@ -987,6 +1011,7 @@ fn at_limits_of_rows(add: &mut Add, chosen: Chosen) {
         rows_and_buffers(add, chosen, over);
     }
     heights(add, chosen);
+    farthest_rows(add, chosen);
     for word in AT_PRIMES {
         at_prime_in_rows(add, chosen, word);
     }
@@ -1137,5 +1162,95 @@ fn met_tuples(add: &mut Add, chosen: Chosen) {
                 add(name, vec![t], &|c| c.challenges = [alpha, beta].concat());
             }
         }
+    }
+}
+
+/// The node of the tables below that looks ahead.
+const AHEAD: u32 = 3;
+
+/// Different words on rows near each other, of main and of a preprocessed trace, which has so many rows more. A node, beside the current row, is
+/// an element of two tuples and a multiplicity.
+fn looking_ahead(chosen: Chosen, height: u64, more: u64, node: [u32; 3]) -> Table {
+    let mut t = plain_table(chosen, height);
+    t.main = (0..height as u32).map(|row| 10 + row % 7).collect();
+    (t.pre_width, t.pre_height) = (1, height + more);
+    t.preprocessed = (0..t.pre_height as u32).map(|row| 20 + row % 7).collect();
+    t.nodes.extend(node);
+    t.set_records(&[on_bus(0, vec![0, AHEAD], 1), on_bus(1, vec![AHEAD, 0], AHEAD)]);
+    t
+}
+
+/// Every offset where the rows are gone around, up to three times, and the largest at the ends of parts of 1,024 rows. Then second words that are
+/// not used.
+fn rows_ahead(add: &mut Add, chosen: Chosen) {
+    let mut add = |name: String, height: u64, more: u64, node: [u32; 3]| {
+        add(format!("{name}, height {height}, {more} preprocessed rows more"), vec![looking_ahead(chosen, height, more, node)], &|_| ());
+    };
+    for (height, offset) in (1..=4).flat_map(|height| (0..=model::MOST_AHEAD).map(move |offset| (height, offset))) {
+        add(format!("main at offset {offset}"), height, 1, [1, 0, offset]);
+        for more in [0, 5] {
+            add(format!("preprocessed at offset {offset}"), height, more, [3, 0, offset]);
+        }
+    }
+    for (kind, height) in [1, 3].into_iter().flat_map(|kind| [1024, 1025, 1026, 1027, 2049].map(|height| (kind, height))) {
+        add(format!("kind {kind} at offset 3"), height, 2, [kind, 0, model::MOST_AHEAD]);
+    }
+    for (kind, unused) in [0, 2, 4, 6, 7, 8, 12].into_iter().flat_map(|kind| [3, 4, u32::MAX].map(|unused| (kind, unused))) {
+        add(format!("kind {kind} with the second word {unused}"), 3, 1, [kind, 0, unused]);
+    }
+}
+
+/// A table of two rows with a node of this kind and offset, which its lookups use or not.
+struct Farthest {
+    kind: u32,
+    offset: u32,
+    used: bool,
+}
+
+impl Farthest {
+    fn name(&self) -> String {
+        format!("kind {} at offset {}, {}", self.kind, self.offset, if self.used { "used" } else { "unused" })
+    }
+
+    /// Adds the case with a change of the table, and other tables before it. Building has the node in a tuple, where it is used.
+    fn add(&self, add: &mut Add, chosen: Chosen, name: &str, before: &[Table], change: fn(&mut Table)) {
+        let mut t = looking_ahead(chosen, 2, 1, [self.kind, 0, 0]);
+        if !self.used {
+            t.set_records(&[on_bus(0, vec![0], 1)]);
+        }
+        let part = Part { elements: vec![if self.used { AHEAD } else { 0 }], multiplicity: 1, weight: 1 };
+        add(format!("{}{name}", self.name()), [before, &[t]].concat(), &|c| {
+            let t = c.tables.last_mut().unwrap();
+            t.nodes[NODE_WORDS * AHEAD as usize + 2] = self.offset;
+            change(t);
+            c.interactions = vec![Interaction::Global(b"mem".to_vec(), part.clone())];
+        });
+    }
+}
+
+/// The largest offset, and larger ones; one over it with another fault too, of which some come first.
+fn farthest_rows(add: &mut Add, chosen: Chosen) {
+    let squared = |t: &mut Table| {
+        for _ in 0..8 {
+            let last = t.node_count() as u32 - 1;
+            t.add_node(11, last, last);
+        }
+    };
+    for (kind, used) in [(1, true), (1, false), (3, true), (3, false)] {
+        for offset in [model::MOST_AHEAD, model::MOST_AHEAD + 1, u32::MAX] {
+            let farthest = Farthest { kind, offset, used };
+            farthest.add(add, chosen, "", &[], |_| ());
+            farthest.add(add, chosen, ", no lookups", &[], |t| t.set_records(&[]));
+            // Balance, which takes no rule, reads more tables than one.
+            if chosen.rule == Rule::One {
+                farthest.add(add, chosen, ", in the second table", &[plain_table(chosen, 3)], |_| ());
+            }
+        }
+        let too_far = Farthest { kind, offset: model::MOST_AHEAD + 1, used };
+        too_far.add(add, chosen, ", column 1 of 1", &[], |t| t.nodes[NODE_WORDS * AHEAD as usize + 1] = 1);
+        too_far.add(add, chosen, ", no preprocessed trace", &[], |t| (t.pre_width, t.pre_height, t.preprocessed) = (0, 0, vec![]));
+        too_far.add(add, chosen, ", a high constant", &[], |t| _ = t.add_node(0, u32::MAX, 0));
+        too_far.add(add, chosen, ", a high degree", &[], squared);
+        too_far.add(add, chosen, ", an absent node", &[], |t| t.elements[0] = u32::MAX);
     }
 }

@@ -218,14 +218,19 @@ pub fn traces_below(t: &Table) -> bool {
     [&t.main, &t.preprocessed, &t.public_values].iter().all(|words| words_below(t.field, words))
 }
 
+/// How many rows ahead of the current one a node looks at most.
+pub const MOST_AHEAD: u32 = 3;
+
 pub fn nodes_known(t: &Table) -> bool {
     (0..t.node_count()).all(|i| {
         let [kind, a, b] = t.node(i);
         let lower = |n: u32| (n as usize) < i;
         match kind {
             0 | 6 | 7 | 8 => true,
-            1 | 2 => u64::from(a) < t.main_width,
-            3 | 4 => u64::from(a) < t.pre_width,
+            1 => b <= MOST_AHEAD && u64::from(a) < t.main_width,
+            2 => u64::from(a) < t.main_width,
+            3 => b <= MOST_AHEAD && u64::from(a) < t.pre_width,
+            4 => u64::from(a) < t.pre_width,
             5 => (a as usize) < t.public_values.len(),
             9..=11 => lower(a) && lower(b),
             12 => lower(a),
@@ -287,19 +292,20 @@ fn rows_enough(t: &Table) -> bool {
 /// The value of each node on a row.
 pub fn node_values(t: &Table, row: usize) -> Vec<u32> {
     let height = t.height as usize;
-    let next = (row + 1) % height;
-    let main = |row: usize, column: u32| t.main[row * t.main_width as usize + column as usize];
-    let preprocessed = |row: usize, column: u32| t.preprocessed[row * t.pre_width as usize + column as usize];
+    // Rows are counted around the end of main, those of the preprocessed trace too.
+    let ahead = |offset: u32| (row + offset as usize) % height;
+    let main = |column: u32, offset: u32| t.main[ahead(offset) * t.main_width as usize + column as usize];
+    let preprocessed = |column: u32, offset: u32| t.preprocessed[ahead(offset) * t.pre_width as usize + column as usize];
     let mut values: Vec<u32> = vec![];
     for i in 0..t.node_count() {
         let [kind, a, b] = t.node(i);
         let of = |n: u32| values[n as usize];
         let value = match kind {
             0 => a,
-            1 => main(row, a),
-            2 => main(next, a),
-            3 => preprocessed(row, a),
-            4 => preprocessed(next, a),
+            1 => main(a, b),
+            2 => main(a, 1),
+            3 => preprocessed(a, b),
+            4 => preprocessed(a, 1),
             5 => t.public_values[a as usize],
             6 => (row == 0).into(),
             7 => (row + 1 == height).into(),

@@ -21,7 +21,7 @@ use serde::Transparent;
 
 use crate::model::{self, Rule};
 use crate::plain::{Ext, Field};
-use crate::table::{Interaction, Lookup, Part, Table, chosen_of};
+use crate::table::{Interaction, Lookup, NODE_WORDS, Part, Table, chosen_of};
 
 type Expression<const P: u32> = SymbolicExpression<MontyField31<P>>;
 
@@ -85,11 +85,39 @@ macro_rules! in_field {
     };
 }
 
+/// The table that the crate is given. Its expressions read the current and the next row alone: for each node that looks further ahead the trace
+/// has one more column, with the words that the node sees, and the node reads that column of the current row. Nodes keep their numbers, and no
+/// function of the crate looks at how many columns there are.
+fn widened(t: &Table) -> Cow<'_, Table> {
+    let mut given = Cow::Borrowed(t);
+    for i in 0..t.node_count() {
+        let [kind @ (1 | 3), column, offset @ (2 | 3)] = t.node(i) else { continue };
+        let Table { main, main_width, preprocessed, pre_width, nodes, .. } = given.to_mut();
+        let (trace, width) = if kind == 1 { (main, main_width) } else { (preprocessed, pre_width) };
+        *trace = with_column_ahead(trace, *width as usize, column as usize, offset as usize, t.height as usize);
+        nodes[NODE_WORDS * i..NODE_WORDS * (i + 1)].copy_from_slice(&[kind, *width as u32, 0]);
+        *width += 1;
+    }
+    given
+}
+
+/// The rows of a trace, each with one word more: that of a column so many rows ahead, around the end of main. It is 0 in rows past main's height,
+/// which nothing reads, and where the trace is too short for main.
+fn with_column_ahead(words: &[u32], width: usize, column: usize, offset: usize, height: usize) -> Vec<u32> {
+    let seen = |row: usize| if row < height { words.get((row + offset) % height * width + column).copied() } else { None };
+    let row = |(row, own): (usize, &[u32])| [own, &[seen(row).unwrap_or(0)]].concat();
+    words.chunks_exact(width).enumerate().flat_map(row).collect()
+}
+
+fn all_widened(tables: &[Table]) -> Vec<Cow<'_, Table>> {
+    tables.iter().map(widened).collect()
+}
+
 /// The table that generation and constraints are given. The crate has rule 1 alone: for rule 2 it is fed each tuple reversed.
 fn fed(t: &Table) -> Cow<'_, Table> {
     match t.rule {
-        Rule::One => Cow::Borrowed(t),
-        Rule::Two => Cow::Owned(t.reversed()),
+        Rule::One => widened(t),
+        Rule::Two => Cow::Owned(widened(t).reversed()),
     }
 }
 
@@ -104,26 +132,26 @@ pub fn constraints(t: &Table, challenges: &[u32], width: u64, trace: &[u32], ter
 }
 
 pub fn degree(t: &Table, lookup: usize, transition: usize) -> Run<u64> {
-    in_field!(t.field, degree(t, lookup, transition))
+    in_field!(t.field, degree(&widened(t), lookup, transition))
 }
 
 pub fn pack(t: &Table, limit: u64) -> Run<Vec<Lookup>> {
-    in_field!(t.field, pack(t, limit))
+    in_field!(t.field, pack(&widened(t), limit))
 }
 
 /// `from_interactions`, reached through `from_air`.
 pub fn build(t: &Table, interactions: &[Interaction]) -> Run<Vec<Lookup>> {
-    in_field!(t.field, build(t, interactions))
+    in_field!(t.field, build(&widened(t), interactions))
 }
 
 /// The widest bus tuple, or the two widths that differ.
 pub fn widths(tables: &[Table]) -> Run<Result<u64, (u64, u64)>> {
-    in_field!(chosen_of(tables).field, widths(tables))
+    in_field!(chosen_of(tables).field, widths(&all_widened(tables)))
 }
 
 /// Accepted, or the sum that is too large.
 pub fn height_bound(tables: &[Table], heights: &[u64]) -> Run<Result<(), u128>> {
-    in_field!(chosen_of(tables).field, height_bound(tables, heights))
+    in_field!(chosen_of(tables).field, height_bound(&all_widened(tables), heights))
 }
 
 /// Whether the sum of the terminals is zero.
@@ -142,20 +170,20 @@ pub fn count_from(field: Field, n: i32) -> Run<([u32; 3], u32)> {
 
 /// The negation of a count: the words of its node, and its weight.
 pub fn count_negated(t: &Table, node: u32, weight: u32) -> Run<([u32; 3], u32)> {
-    in_field!(t.field, count_negated(t, node, weight))
+    in_field!(t.field, count_negated(&widened(t), node, weight))
 }
 
 pub fn count_bounded(t: &Table, node: u32, weight: u32) -> Run<(u32, u32)> {
-    in_field!(t.field, count_bounded(t, node, weight))
+    in_field!(t.field, count_bounded(&widened(t), node, weight))
 }
 
 pub fn count_provided(t: &Table, node: u32) -> Run<(u32, u32)> {
-    in_field!(t.field, count_provided(t, node))
+    in_field!(t.field, count_provided(&widened(t), node))
 }
 
 /// `check_lookups`: its panic's message where something is not balanced.
 pub fn balance(tables: &[Table]) -> Run<()> {
-    in_field!(chosen_of(tables).field, balance(tables))
+    in_field!(chosen_of(tables).field, balance(&all_widened(tables)))
 }
 
 /// How the crate names a group in the message of a panic.
@@ -200,7 +228,7 @@ impl<const P: u32, const W: u32> Over<Quartic<P, W>> {
         words.iter().map(|w| MontyField31::new(*w)).collect()
     }
 
-    /// The expression of each node.
+    /// The expression of each node of a table that is widened.
     fn expressions(t: &Table) -> Vec<Expression<P>> {
         let mut made: Vec<Expression<P>> = vec![];
         for i in 0..t.node_count() {
@@ -209,8 +237,10 @@ impl<const P: u32, const W: u32> Over<Quartic<P, W>> {
             let column = a as usize;
             let expression = match kind {
                 0 => Expression::constant(MontyField31::new(a)),
-                1 | 2 => Expression::main(kind == 2, column),
-                3 | 4 => Expression::preprocessed(kind == 4, column),
+                1 => Expression::main(b == 1, column),
+                2 => Expression::main(true, column),
+                3 => Expression::preprocessed(b == 1, column),
+                4 => Expression::preprocessed(true, column),
                 5 => Expression::public_value(column),
                 6 => Expression::first_row(),
                 7 => Expression::last_row(),
@@ -265,7 +295,7 @@ impl<const P: u32, const W: u32> Over<Quartic<P, W>> {
         Lookups::wrap(Self::lookups(t, nodes))
     }
 
-    fn all_wrapped(tables: &[Table]) -> Vec<Lookups<MontyField31<P>>> {
+    fn all_wrapped(tables: &[Cow<Table>]) -> Vec<Lookups<MontyField31<P>>> {
         tables.iter().map(|t| Self::wrapped(t, &Self::expressions(t))).collect()
     }
 
@@ -459,7 +489,7 @@ impl<const P: u32, const W: u32> Over<Quartic<P, W>> {
         caught(|| Self::records(&Lookups::from_air::<Quartic<P, W>, _>(&air), &nodes))
     }
 
-    fn widths(tables: &[Table]) -> Run<Result<u64, (u64, u64)>> {
+    fn widths(tables: &[Cow<Table>]) -> Run<Result<u64, (u64, u64)>> {
         let lookups = Self::all_wrapped(tables);
         caught(|| match types::check_bus_widths(&lookups) {
             Ok(widest) => Ok(widest as u64),
@@ -468,7 +498,7 @@ impl<const P: u32, const W: u32> Over<Quartic<P, W>> {
         })
     }
 
-    fn height_bound(tables: &[Table], heights: &[u64]) -> Run<Result<(), u128>> {
+    fn height_bound(tables: &[Cow<Table>], heights: &[u64]) -> Run<Result<(), u128>> {
         let lookups = Self::all_wrapped(tables);
         let heights: Vec<usize> = heights.iter().map(|h| *h as usize).collect();
         caught(|| match types::check_multiplicity_height_bound(&lookups, &heights) {
@@ -519,8 +549,8 @@ impl<const P: u32, const W: u32> Over<Quartic<P, W>> {
         })
     }
 
-    fn balance(tables: &[Table]) -> Run<()> {
-        let traces: Vec<Traces<P>> = tables.iter().map(Self::traces).collect();
+    fn balance(tables: &[Cow<Table>]) -> Run<()> {
+        let traces: Vec<Traces<P>> = tables.iter().map(|t| Self::traces(t)).collect();
         let lookups: Vec<_> = tables.iter().map(|t| Self::lookups(t, &Self::expressions(t))).collect();
         let instance = |(t, lookups)| {
             let t: &Traces<P> = t;

@@ -1,6 +1,6 @@
 //! Makes a failing case small: tries smaller cases, keeps each that still fails in the same way, until none does.
 use crate::generator::{Case, shorten};
-use crate::model::Choices;
+use crate::model::{Choices, MOST_AHEAD};
 use crate::table::{Interaction, Lookup, NODE_WORDS, Part, Table};
 
 const MOST_TRIALS: usize = 20_000;
@@ -70,6 +70,12 @@ fn smaller_cases(case: &Case) -> Vec<Case> {
     }
     with(&|c| (c.count, c.negated, c.counted) = (0, [0; 2], 0));
     with(&|c| c.counted = 0);
+    // A node less before the place of a count.
+    with(&|c| {
+        let nodes = &mut c.tables[0].nodes;
+        nodes.drain(..NODE_WORDS.min(nodes.len()));
+        c.counted = c.counted.saturating_sub(1);
+    });
     with(&|c| (c.reader, c.exponent, c.seed) = ([0; 3], 0, 0));
     with(&|c| c.limit /= 2);
     with(&|c| c.workspace = 640);
@@ -142,6 +148,10 @@ fn smaller_tables(t: &Table) -> Vec<(Table, Option<usize>)> {
         with(None, &|t| drop_node(t, i));
         with(None, &|t| t.nodes[NODE_WORDS * i..NODE_WORDS * (i + 1)].fill(0));
         with(None, &|t| t.nodes[NODE_WORDS * i + 2] = 0);
+        // An offset that is too large becomes the least such, then lower by one.
+        if let [1 | 3, _, offset] = t.node(i) {
+            with(None, &|t| t.nodes[NODE_WORDS * i + 2] = offset.saturating_sub(1).min(MOST_AHEAD + 1));
+        }
     }
     for i in 0..t.main.len().min(64) {
         with(None, &|t| t.main[i] = 0);

@@ -20,7 +20,7 @@ pub struct Table<W = u32> {
     pub main: Vec<W>,
     pub preprocessed: Vec<W>,
     pub public_values: Vec<W>,
-    /// kind, a, b of each node
+    /// kind, a, b of each node; b is the row offset in kinds 1 and 3
     pub nodes: Vec<W>,
     /// scope (0 local, else bus), name length, weight, column, exclusive, tuples, multiplicities, flags of each lookup
     pub lookups: Vec<W>,
@@ -196,6 +196,11 @@ impl Table {
 
     pub fn node(&self, i: usize) -> [u32; 3] {
         [self.nodes[3 * i], self.nodes[3 * i + 1], self.nodes[3 * i + 2]]
+    }
+
+    /// Whether it has a node that sees a row after the next.
+    pub fn looks_far(&self) -> bool {
+        (0..self.node_count()).any(|i| matches!(self.node(i), [1 | 3, _, 2 | 3]))
     }
 
     pub fn add_node(&mut self, kind: u32, a: u32, b: u32) -> u32 {

@@ -17,8 +17,9 @@ pub enum Product {
 #[derive(Clone, Copy)]
 enum Node {
     Constant(u32),
-    Main { next: bool, column: usize },
-    Preprocessed { next: bool, column: usize },
+    /// How many words after the first one of the current row its word stands, where row 0 comes once more after the last.
+    Main(usize),
+    Preprocessed(usize),
     Public(usize),
     First,
     Last,
@@ -29,12 +30,16 @@ enum Node {
     Negation(usize),
 }
 
-fn node(words: &[u32]) -> Node {
+fn node(t: &Table, words: &[u32]) -> Node {
     let (a, b) = (words[1] as usize, words[2] as usize);
+    // A table of one, two or three rows may be gone around more than once.
+    let ahead = |offset: usize, width: u64| offset % t.height as usize * width as usize + a;
     match words[0] {
         0 => Node::Constant(words[1]),
-        kind @ (1 | 2) => Node::Main { next: kind == 2, column: a },
-        kind @ (3 | 4) => Node::Preprocessed { next: kind == 4, column: a },
+        1 => Node::Main(ahead(b, t.main_width)),
+        2 => Node::Main(ahead(1, t.main_width)),
+        3 => Node::Preprocessed(ahead(b, t.pre_width)),
+        4 => Node::Preprocessed(ahead(1, t.pre_width)),
         5 => Node::Public(a),
         6 => Node::First,
         7 => Node::Last,
@@ -88,12 +93,12 @@ fn add<F: PrimeField>(a: Ext, b: Ext) -> Ext {
 
 fn evaluate<F: PrimeField>(t: &Table, nodes: &[Node], r: usize, values: &mut [u32]) {
     let (height, width, pre_width) = (t.height as usize, t.main_width as usize, t.pre_width as usize);
-    let next_row = if r + 1 == height { 0 } else { r + 1 };
+    let around = |at: usize, end: usize| if at < end { at } else { at - end };
     for i in 0..nodes.len() {
         values[i] = match nodes[i] {
             Node::Constant(word) => word,
-            Node::Main { next, column } => t.main[if next { next_row } else { r } * width + column],
-            Node::Preprocessed { next, column } => t.preprocessed[if next { next_row } else { r } * pre_width + column],
+            Node::Main(ahead) => t.main[around(r * width + ahead, height * width)],
+            Node::Preprocessed(ahead) => t.preprocessed[around(r * pre_width + ahead, height * pre_width)],
             Node::Public(at) => t.public_values[at],
             Node::First => (r == 0).into(),
             Node::Last => (r + 1 == height).into(),
@@ -179,11 +184,11 @@ pub fn generate(t: &Table, challenges: &[u32], product: Product) -> (Vec<u32>, O
 }
 
 pub fn generate_in<F: PrimeField>(t: &Table, challenges: &[u32], product: Product) -> (Vec<u32>, Option<Ext>) {
-    let nodes: Vec<Node> = t.nodes.chunks_exact(3).map(node).collect();
     let lookups = lookups::<F>(t, challenges);
     if lookups.is_empty() {
         return (vec![], None);
     }
+    let nodes: Vec<Node> = t.nodes.chunks_exact(3).map(|words| node(t, words)).collect();
     let (height, columns) = (t.height as usize, lookups.len() + 1);
     // An exclusive lookup has one term at most.
     let terms: usize = lookups.iter().map(|l| l.tuples.len()).sum();

@@ -281,7 +281,7 @@ fn word_too_large() {
 
 #[test]
 fn malformed_nodes() {
-    for node in [[9, 4, 1], [12, 4, 0], [13, 0, 0]] {
+    for node in [[9, 4, 1], [12, 4, 0], [13, 0, 0], [1, 0, 4]] {
         let mut t = table(&[3], &[once(0)]);
         t.nodes.extend(node);
         assert_eq!(generate(&t, &pairs(1)).number, 3);
@@ -670,6 +670,32 @@ fn tuples_are_reversed_for_rule_2() {
     assert_eq!((of_crate(&reversed), of_crate(&t)), (Ok(None), Ok(Some((0, 0)))));
     assert_eq!(constraints(&by_two, &with(25), 2, &trace(), Some(lift(HALF))), ACCEPTED);
     assert_eq!(constraints(&t, &with(25), 2, &trace(), Some(lift(HALF))), refused(17, [0; 3]));
+}
+
+#[test]
+fn rows_further_ahead() {
+    // The rows 1, 2 and 3, each beside the word at an offset.
+    let with = [lift(5), lift(10)].concat();
+    let beside = |node: [u32; 3]| {
+        let mut t = table(&[1, 2, 3], &[Lookup { tuples: vec![vec![0, 4]], ..once(0) }]);
+        t.nodes.extend(node);
+        t
+    };
+    // The crate has offsets 0 and 1. With one more column of the words that are further ahead it gives the same as well; the runs make that
+    // column themselves.
+    for (offset, words) in [(0, [1, 2, 3]), (1, [2, 3, 1]), (2, [3, 1, 2]), (3, [1, 2, 3])] {
+        let t = beside([1, 0, offset]);
+        let main = [1, 2, 3].into_iter().zip(words).flat_map(|(own, ahead)| [own, ahead]).collect();
+        let wide = Table { main_width: 2, main, ..beside([1, 1, 0]) };
+        let (mut trace, mut terminal) = ([7; 24], [7; 5]);
+        assert_eq!(PORT.generate(Choices::of(FIELD), &t, &with, &mut trace, &mut terminal), ACCEPTED);
+        let [_, sum @ ..] = terminal;
+        assert_eq!(constraints(&t, &with, 2, &trace, Some(sum)), ACCEPTED);
+        for given in [&t, &wide] {
+            assert_eq!(oracle::generate(given, &with), Ok((trace.to_vec(), Some(sum))));
+            assert_eq!(oracle::constraints(given, &with, 2, &trace, Some(sum)), Ok(None));
+        }
+    }
 }
 
 #[test]

@@ -427,6 +427,74 @@ fn functions_without_a_rule() {
     }
 }
 
+/// So many rows with the words 10, 11, .. in main and 20, 21, .. in a preprocessed trace of so many rows more. The one element of a local is
+/// this node, number 1; its multiplicity is 1.
+fn ahead(height: u32, more: u32, node: [u32; 3]) -> Table {
+    let mut t = Table { main_width: 1, height: height.into(), main: (10..10 + height).collect(), ..Table::default() };
+    (t.pre_width, t.pre_height, t.preprocessed) = (1, (height + more).into(), (20..20 + height + more).collect());
+    t.nodes = [[0, 1, 0], node].concat();
+    t.set_records(&[Lookup { weight: 1, tuples: vec![vec![1]], multiplicities: vec![0], ..Lookup::default() }]);
+    t
+}
+
+/// The words that its node sees, row by row: balance keeps them in its slots.
+fn seen(t: &Table) -> Vec<u32> {
+    let mut workspace = vec![7; 10 * t.height as usize];
+    assert_eq!(PORT.balance(ONE, t, &t.sizes(), 1, &mut workspace).number, 18);
+    workspace.chunks_exact(10).map(|slot| slot[1]).collect()
+}
+
+#[test]
+fn rows_ahead() {
+    // Rows go around the end of main, as often as it takes, also in a preprocessed trace that has more.
+    assert_eq!([0, 1, 2, 3].map(|b| seen(&ahead(1, 0, [1, 0, b]))), [[10], [10], [10], [10]]);
+    assert_eq!([0, 1, 2, 3].map(|b| seen(&ahead(2, 1, [3, 0, b]))), [[20, 21], [21, 20], [20, 21], [21, 20]]);
+    assert_eq!([0, 1, 2, 3].map(|b| seen(&ahead(3, 5, [3, 0, b]))), [[20, 21, 22], [21, 22, 20], [22, 20, 21], [20, 21, 22]]);
+    assert_eq!(seen(&ahead(5, 0, [1, 0, 3])), [13, 14, 10, 11, 12]);
+    // Generation reads the same rows: alpha 12 meets the word 12 on row 1 of three, where the node looks one row ahead, and on row 0 at offset 2.
+    for (b, row) in [(0, 2), (1, 1), (2, 0), (3, 2)] {
+        let answer = PORT.generate(ONE, &ahead(3, 0, [1, 0, b]), &[lift(12), lift(0)].concat(), &mut [7; 24], &mut [7; 5]);
+        assert_eq!(answer, Answer { number: 15, details: [row, 0, 0] });
+    }
+}
+
+#[test]
+fn second_words_that_are_not_used() {
+    for b in [0, 1, 2, 3, 4, u32::MAX] {
+        assert_eq!(seen(&ahead(3, 1, [2, 0, b])), [11, 12, 10]);
+        assert_eq!(seen(&ahead(3, 1, [4, 0, b])), [21, 22, 20]);
+    }
+}
+
+#[test]
+fn offsets_over_three() {
+    // Refusal 3 at every function that tests nodes, whether they are used or not.
+    for (kind, offset, number) in [(1, 3, 0), (3, 3, 0), (1, 4, 3), (3, 4, 3), (1, u32::MAX, 3), (3, u32::MAX, 3)] {
+        let used = ahead(2, 0, [kind, 0, offset]);
+        let unused = Table { elements: vec![0], ..used.clone() };
+        for (name, answer, _) in [&used, &unused].into_iter().flat_map(|t| given(ONE, t)) {
+            let expected = match (name, number) {
+                ("widths" | "height bound", _) => 0,
+                // The local does not balance.
+                ("balance" | "balance on bytes", 0) => 18,
+                _ => number,
+            };
+            assert_eq!(answer.number, expected, "{name}");
+        }
+        // It comes after 2, and before 4 and 5.
+        let mut constant = unused.clone();
+        constant.add_node(0, P, 0);
+        let mut squared = unused.clone();
+        let mut last = 1;
+        for _ in 0..8 {
+            last = squared.add_node(11, last, last);
+        }
+        let absent = Table { elements: vec![9], ..unused };
+        let numbers = [constant, squared, absent].map(|t| generate(&t, &PAIR).number);
+        assert_eq!(numbers, if number == 0 { [2, 4, 5] } else { [2, 3, 3] });
+    }
+}
+
 /// Choices with an unknown number among them.
 fn unknown() -> Vec<Choices> {
     let fields = [0, 3, u32::MAX].map(|field| Choices { field, ..ONE });

@@ -1,6 +1,8 @@
 //! The comparison notices wrong ports and wrong wrappers, and makes what it finds small. The wrong ones are readings that
-//! docs/SPECIFICATION.md rules out, fields, profiles and tuple rules that are mixed, choices that are not tested, outputs that are written or left
-//! where they must not be, and slips in the wrapper.
+//! docs/SPECIFICATION.md rules out, fields, profiles and tuple rules that are mixed, choices and row offsets that are not tested or read otherwise,
+//! outputs that are written or left where they must not be, and slips in the wrapper.
+use std::borrow::Cow;
+
 use harness::compare::{Disagreement, Tally, check_port};
 use harness::exports::{Exports, Model, Rooms, marked};
 use harness::generator::{self, Case};
@@ -643,7 +645,7 @@ fn compared<Wrong: Exports + Wrapper>(wrong: &Wrong, case: &Case) -> Option<Disa
     check_port(case, Port { exports: wrong, wrapper: wrong }, &mut Tally::default()).err()
 }
 
-/// Reads the choices of one function otherwise than it must.
+/// Reads the choices or the row offsets of one function otherwise than it must.
 struct Misread {
     function: &'static str,
     slip: Slip,
@@ -688,6 +690,18 @@ enum Slip {
     ThirdRuleKnown,
     RuleOfOneByte,
     ProfileAndRuleExchanged,
+    /// Kinds 1 and 3 see the current row, or one row ahead at most; kinds 2 and 4 see the row at the offset that is their second word.
+    OffsetIgnored,
+    OneRowAheadAtMost,
+    OffsetOfTheNextRow,
+    /// Rows are counted around the preprocessed trace's own end; no further than the last; around the end once.
+    AroundItsOwnEnd,
+    HeldAtTheLastRow,
+    AroundOnce,
+    /// An offset is taken by its two lowest bits, or not tested where nothing names its node; a word that is not used is tested as one.
+    OffsetOfTwoBits,
+    UnusedOffsetTaken,
+    UnusedWordTested,
 }
 use Slip::*;
 
@@ -729,6 +743,13 @@ fn slips() -> Vec<Misread> {
         add(of_nodes, Degree127);
         add(is(&["widths", "height bound", "balance", "balance on bytes"]), FirstTableAlone);
         add(!is(&on_element) && !is(&unread), OtherFieldInGateway);
+        // On bytes the room shows the nodes that are read: a slip in them would be found by that alone.
+        for slip in [OffsetIgnored, OneRowAheadAtMost, OffsetOfTheNextRow, AroundItsOwnEnd, HeldAtTheLastRow, AroundOnce] {
+            add(of_rows && !function.ends_with("bytes"), slip);
+        }
+        for slip in [OffsetOfTwoBits, UnusedOffsetTaken, UnusedWordTested] {
+            add(of_nodes && !function.ends_with("bytes"), slip);
+        }
     }
     let wrapped = [
         "wrapper: generate",
@@ -842,6 +863,51 @@ impl Misread {
         call(choices, lent)
     }
 
+    /// The table as a function reads its row offsets; `lists` has the lookups that name its nodes.
+    fn read<'a>(&self, function: &str, t: &'a Table, lists: &Table) -> Cow<'a, Table> {
+        let mut read = Cow::Borrowed(t);
+        if function != self.function {
+            return read;
+        }
+        let accepted = t.fits() && 0 < t.height && model::nodes_known(t) && model::preprocessed_enough(t);
+        for i in 0..t.node_count() {
+            let instead = match (self.slip, t.node(i)) {
+                (OffsetIgnored, [kind @ (1 | 3), a, 1..=3]) => [kind, a, 0],
+                (OneRowAheadAtMost, [kind @ (1 | 3), a, 2 | 3]) => [kind, a, 1],
+                (OffsetOfTheNextRow, [kind @ (2 | 4), a, b @ 0..=3]) => [kind - 1, a, b],
+                (OffsetOfTwoBits, [kind @ (1 | 3), a, b]) => [kind, a, b % 4],
+                (UnusedOffsetTaken, [kind @ (1 | 3), a, _]) if !names(t, lists, i as u32) => [kind, a, 0],
+                (UnusedWordTested, [0 | 2 | 4..=8 | 12, _, 4..=u32::MAX]) => [13, 0, 0],
+                (AroundItsOwnEnd | HeldAtTheLastRow | AroundOnce, [1 | 3, _, 1..=3] | [2 | 4, ..]) if accepted => {
+                    // The words that it sees, in one more column of main.
+                    let words: Vec<u32> = (0..t.height as usize).map(|row| self.word(t, t.node(i), row)).collect();
+                    let Table { main, main_width, .. } = read.to_mut();
+                    let rows = main.chunks_exact(*main_width as usize).zip(words);
+                    *main = rows.flat_map(|(row, word)| [row, &[word]].concat()).collect();
+                    *main_width += 1;
+                    [1, *main_width as u32 - 1, 0]
+                }
+                _ => continue,
+            };
+            read.to_mut().nodes[NODE_WORDS * i..NODE_WORDS * (i + 1)].copy_from_slice(&instead);
+        }
+        read
+    }
+
+    /// What a node that looks ahead sees on a row.
+    fn word(&self, t: &Table, [kind, column, b]: [u32; 3], row: usize) -> u32 {
+        let at = row + if kind % 2 == 1 { b as usize } else { 1 };
+        let (words, width, own) = if kind < 3 { (&t.main, t.main_width, t.height) } else { (&t.preprocessed, t.pre_width, t.pre_height) };
+        let height = t.height as usize;
+        let seen = match self.slip {
+            AroundItsOwnEnd => at % own as usize,
+            HeldAtTheLastRow => at.min(height - 1),
+            _ if at < height => at,
+            _ => (at - height).min(height - 1),
+        };
+        words[seen * width as usize + column as usize]
+    }
+
     /// The field, profile and rule with which a function of the wrapper is called.
     fn chosen(&self, function: &str, chosen: Chosen) -> Chosen {
         let Chosen { field, profile, .. } = chosen;
@@ -864,9 +930,16 @@ impl Misread {
     }
 }
 
+/// Whether the lists of lookups or other nodes name a node.
+fn names(t: &Table, lists: &Table, node: u32) -> bool {
+    let operand = |words: &[u32]| matches!(words[0], 9..=12) && words[1..].contains(&node);
+    t.nodes.chunks_exact(NODE_WORDS).any(operand)
+        || [&lists.multiplicities, &lists.flags, &lists.elements].iter().any(|l| l.contains(&node))
+}
+
 impl Exports for Misread {
     fn generate(&self, choices: Choices, t: &Table, challenges: &[u32], trace: &mut [u32], terminal: &mut [u32; 5]) -> Answer {
-        let mut lent = (trace.to_vec(), *terminal);
+        let (t, mut lent) = (&*self.read("generation", t, t), (trace.to_vec(), *terminal));
         let answer = self.call("generation", choices, std::slice::from_ref(t), &mut lent, |choices, (trace, terminal)| {
             RIGHT.generate(choices, t, challenges, trace, terminal)
         });
@@ -876,19 +949,21 @@ impl Exports for Misread {
     }
 
     fn constraints(&self, choices: Choices, t: &Table, challenges: &[u32], width: u64, trace: &[u32], terminal: [u32; 5]) -> Answer {
+        let t = &*self.read("constraints", t, t);
         self.call("constraints", choices, std::slice::from_ref(t), &mut (), |choices, _| {
             RIGHT.constraints(choices, t, challenges, width, trace, terminal)
         })
     }
 
     fn degree(&self, choices: Choices, t: &Table, lookup: u64, transition: u32, degree: &mut u64) -> Answer {
+        let t = &*self.read("degree", t, t);
         self.call("degree", choices, std::slice::from_ref(t), degree, |choices, degree| {
             RIGHT.degree(choices, t, lookup, transition, degree)
         })
     }
 
     fn pack(&self, choices: Choices, t: &Table, limit: u64, out: &mut Table, used: &mut [u64; 6]) -> Answer {
-        let mut lent = (out.clone(), *used);
+        let (t, mut lent) = (&*self.read("packing", t, t), (out.clone(), *used));
         let answer = self
             .call("packing", choices, std::slice::from_ref(t), &mut lent, |choices, (out, used)| RIGHT.pack(choices, t, limit, out, used));
         (*out, *used) = lent;
@@ -896,6 +971,7 @@ impl Exports for Misread {
     }
 
     fn build(&self, choices: Choices, t: &Table, plan: &Plan, lookups: &mut [u32], used: &mut u64) -> Answer {
+        let t = &*self.read("building", t, &plan.lists);
         // As many lookups as there are interactions, with the lists of the plan.
         let words = vec![0; LOOKUP_WORDS * plan.interactions.len() / 2];
         let built = Table { lookups: words, nodes: t.nodes.clone(), ..plan.lists.clone() };
@@ -932,10 +1008,15 @@ impl Exports for Misread {
 
     fn balance(&self, choices: Choices, all: &Table, sizes: &[u32], seed: u64, workspace: &mut [u32]) -> Answer {
         let mut lent = workspace.to_vec();
+        let lent_tables = model::whole_tables(all, sizes);
+        let tables: Vec<Table> = lent_tables.iter().flatten().map(|t| self.read("balance", t, t).into_owned()).collect();
+        // What makes no tables is refused as it is.
+        let (all, sizes) = match lent_tables {
+            Some(_) => (&Table::joined(&tables), &tables.iter().flat_map(Table::sizes).collect::<Vec<u32>>()[..]),
+            None => (all, sizes),
+        };
         let answer =
-            self.call("balance", choices, &model::whole_tables(all, sizes).unwrap_or_default(), &mut lent, |choices, workspace| {
-                RIGHT.balance(choices, all, sizes, seed, workspace)
-            });
+            self.call("balance", choices, &tables, &mut lent, |choices, workspace| RIGHT.balance(choices, all, sizes, seed, workspace));
         workspace.copy_from_slice(&lent);
         answer
     }
@@ -1194,7 +1275,7 @@ fn each_mistake_is_found_and_made_small() {
 }
 
 #[test]
-fn each_misread_choice_is_found() {
+fn each_misread_choice_or_offset_is_found() {
     let cases = cases();
     for wrong in slips() {
         let Misread { function, slip } = wrong;
@@ -1223,5 +1304,24 @@ fn rule_2_is_compared_with_rule_1() {
         let wrong = Misread { function, slip: RuleTwoAlone };
         let found = cases.iter().find_map(|case| compared(&wrong, case)).map(|found| (found.function, found.text));
         assert!(found.is_some_and(|(other, text)| other == function && text.starts_with("rule 2 and rule 1")), "{function}");
+    }
+}
+
+#[test]
+fn offsets_are_made_small() {
+    // The least offset that shows the mistake is left, of a table whose own is larger.
+    for (slip, larger, least) in [(OneRowAheadAtMost, 3, 2), (OffsetOfTwoBits, u32::MAX, 4)] {
+        let wrong = Misread { function: "generation", slip };
+        let fails = |case: &Case| compared(&wrong, case).is_some_and(|found| found.function == "generation");
+        let offsets = |case: &Case| -> Vec<u32> {
+            case.tables
+                .iter()
+                .flat_map(|t| (0..t.node_count()).map(|i| t.node(i)))
+                .filter_map(|[kind, _, b]| (kind == 1).then_some(b))
+                .collect()
+        };
+        let case = cases().into_iter().rev().find(|case| offsets(case).contains(&larger) && fails(case)).unwrap();
+        let small = shrink(&case, &fails);
+        assert_eq!(offsets(&small).into_iter().max(), Some(least), "{small}");
     }
 }

@@ -25,7 +25,7 @@
 //! ```
 use crate::{Choices, LookupTerminal, Refusal, Rule, call, drawn_seed, joined, sys};
 
-/// A table's lists as bytes; the names are bytes in any case.
+/// The lists of a [`crate::Table`] as bytes; the names are bytes in any case.
 #[derive(Clone, Debug, Default, PartialEq, Eq)]
 pub struct Table {
     pub main_width: usize,

@@ -186,6 +186,38 @@ pub enum Interaction {
 }
 
 /// A table in flat words, as the exported functions take it.
+///
+/// A node is three words, and has a value on each row:
+///
+/// | kind | value | a | b |
+/// |---|---|---|---|
+/// | 0 | a constant | the word | |
+/// | 1 | a word of main | its column | its row offset, 0 to 3 |
+/// | 2 | a word of main on the next row | its column | |
+/// | 3 | a preprocessed word | its column | its row offset, 0 to 3 |
+/// | 4 | a preprocessed word on the next row | its column | |
+/// | 5 | a public value | its number | |
+/// | 6, 7, 8 | 1 on the first row; on the last; on all but the last; else 0 | | |
+/// | 9, 10, 11 | a sum, difference or product | a lower node | a lower node |
+/// | 12 | a negation | a lower node | |
+///
+/// At offset o a node sees row (r + o) modulo the height of main on row r, in the preprocessed trace too: rows are counted around the end of
+/// the table. A larger offset is refusal 3, used or not. A word that is not named may be any, such as b of kinds 2 and 4.
+///
+/// ```
+/// use delmatik::{Choices, Lookup, Table, balance};
+///
+/// // Four rows, and a tuple of the word at this offset. Nodes: that word, then the constant 1.
+/// let table = |offset| {
+///     let lookup = Lookup { tuples: vec![vec![0]], multiplicities: vec![1], ..Lookup::default() };
+///     [Table { main_width: 1, height: 4, main: vec![5, 6, 7, 8], nodes: vec![1, 0, offset, 0, 1, 0], ..Table::default() }.with(&[lookup])]
+/// };
+/// // None of the tuples is balanced; the workspace holds them, row by row.
+/// let mut workspace = [0; 40];
+/// assert_eq!(balance(Choices::default(), &table(3), &mut workspace).unwrap_err().number, 18);
+/// assert_eq!(workspace.chunks_exact(10).map(|slot| slot[1]).collect::<Vec<u32>>(), [8, 5, 6, 7]);
+/// assert_eq!(balance(Choices::default(), &table(4), &mut workspace).unwrap_err().number, 3);
+/// ```
 #[derive(Clone, Debug, Default, PartialEq, Eq)]
 pub struct Table {
     pub main_width: usize,
@@ -195,7 +227,7 @@ pub struct Table {
     pub main: Vec<u32>,
     pub preprocessed: Vec<u32>,
     pub public_values: Vec<u32>,
-    /// kind, a, b of each node
+    /// kind, a, b of each node; a main or preprocessed word has its row offset in b
     pub nodes: Vec<u32>,
     /// scope (0 local, else bus), name length, weight, column, exclusive, tuples, multiplicities, flags of each lookup
     pub lookups: Vec<u32>,

@@ -77,12 +77,13 @@ impl Need {
 const ZERO: u32 = 707;
 const ONE: u32 = 708;
 
-/// As many nodes as the limit allows: both rows of both traces, public values, the three marks of rows, two constants, then nodes of nodes.
+/// As many nodes as the limit allows: rows of both traces at each offset, public values, the three marks of rows, two constants, then nodes of
+/// nodes.
 fn largest_nodes() -> Vec<u32> {
     let node = |n: u32| match n {
-        0..256 => [1, n, 0],
+        0..256 => [1, n, n % 4],
         256..512 => [2, n - 256, 0],
-        512..576 => [3, n - 512, 0],
+        512..576 => [3, n - 512, n % 4],
         576..640 => [4, n - 576, 0],
         640..704 => [5, n - 640, 0],
         704..ZERO => [n - 698, 0, 0],

@@ -65,6 +65,7 @@ fn print_counts(tally: &Tally) {
     for (profile, count) in &tally.profiles {
         println!("{count} tables in profile {}", profile.number());
     }
+    println!("{} tables with nodes at offset 2 or 3", tally.far);
     for (rule, count) in &tally.rules {
         println!("{count} cases by rule {}", rule.number());
     }

@@ -239,6 +239,11 @@ fn main() -> ExitCode {
     rules_on_digits(&mut text);
     rules_and_choices(&mut text);
     rule_two_refusals(&mut text);
+    text.comment("Row offsets, with the answers that follow from docs/SPECIFICATION.md.");
+    offsets(&mut text);
+    unused_words(&mut text);
+    largest_offset(&mut text);
+    offset_refusals(&mut text);
     text.comment("Answers of p3-lookup 0.8.0, in either field.");
     let cases = cases();
     for (i, case) in cases.iter().enumerate() {
@@ -979,6 +984,133 @@ fn rule_two_refusals(text: &mut Text) {
         fault(text, "rule 2, 13: flag 2", lookup(&[&[0, 3]], &[1], Some(&[4])), 5, 13);
         fault(text, "rule 2, 14: flags 1, 1", lookup(&[&[0], &[0, 3]], &[1, 1], Some(&[1, 1])), 5, 14);
     });
+}
+
+/// Rows with the words 10, 11, .. in main and 20, 21, .. in the preprocessed trace, which has two rows more. Lookup i has the tuple (node i, i),
+/// and node i is its multiplicity too.
+fn of_nodes(height: u32, nodes: &[[u32; 3]]) -> Table {
+    let mut t = Table { main_width: 1, height: height.into(), main: (10..10 + height).collect(), ..Table::default() };
+    (t.pre_width, t.pre_height) = (1, u64::from(height) + 2);
+    t.preprocessed = (20..20 + height).chain([90, 91]).collect();
+    let n = nodes.len() as u32;
+    t.nodes = [nodes, &(0..n).map(|i| [0, i, 0]).collect::<Vec<_>>()].concat().concat();
+    t.set_records(&(0..n).map(|i| Lookup { column: i, ..lookup(&[&[i, n + i]], &[i], None) }).collect::<Vec<Lookup>>());
+    t
+}
+
+/// A case of such a table, whose nodes see these words, row by row. With beta 0 and alpha i + 1 each denominator is 1, so each fraction is the
+/// word that the node sees, and balance has it in a slot and as its net. It names the tuple (10, 0), which is in this slot.
+fn seen(text: &mut Text, title: &str, t: &Table, rows: &[&[u32]], slot: u64) {
+    let n = t.lookup_count() as u32;
+    text.case(title);
+    text.table(t);
+    text.list("challenges", &words(&(0..n).flat_map(|i| [lift(i + 1), lift(0)]).collect::<Vec<Ext>>()));
+    let (mut trace, mut sum) = (vec![], 0);
+    for row in rows {
+        trace.extend([&[sum], *row].concat());
+        sum += row.iter().sum::<u32>();
+    }
+    let (mut trace, terminal) = (words(&lifted(&trace)), Some(lift(sum)));
+    text.generate(ACCEPTED, &trace, terminal);
+    text.constraints(ACCEPTED, u64::from(n) + 1, &trace, terminal);
+    // Another word for the last node on the last row.
+    let last = trace.len() - 4;
+    trace[last] += 1;
+    text.constraints(refused(17, [t.height - 1, u64::from(n) - 1, 0]), u64::from(n) + 1, &trace, terminal);
+    let slots = (0..n).flat_map(|i| rows.iter().flat_map(move |row| [2, row[i as usize], i, 0, 0, 0, 0, 0, 0, row[i as usize]]));
+    text.balance(refused(18, [0, slot, 10]), &slots.collect::<Vec<u32>>());
+}
+
+/// What the nodes at offsets 0 to 3 of main, then of the preprocessed trace, see on each row.
+const AROUND: [&[&[u32]]; 4] = [
+    &[&[10, 10, 10, 10, 20, 20, 20, 20]],
+    &[&[10, 11, 10, 11, 20, 21, 20, 21], &[11, 10, 11, 10, 21, 20, 21, 20]],
+    &[&[10, 11, 12, 10, 20, 21, 22, 20], &[11, 12, 10, 11, 21, 22, 20, 21], &[12, 10, 11, 12, 22, 20, 21, 22]],
+    &[
+        &[10, 11, 12, 13, 20, 21, 22, 23],
+        &[11, 12, 13, 14, 21, 22, 23, 24],
+        &[12, 13, 14, 10, 22, 23, 24, 20],
+        &[13, 14, 10, 11, 23, 24, 20, 21],
+        &[14, 10, 11, 12, 24, 20, 21, 22],
+    ],
+];
+
+/// Tables of one, two, three and five rows, in both fields.
+fn offsets(text: &mut Text) {
+    let nodes = [[1, 0, 0], [1, 0, 1], [1, 0, 2], [1, 0, 3], [3, 0, 0], [3, 0, 1], [3, 0, 2], [3, 0, 3]];
+    for (field, rows) in [1, 2].into_iter().flat_map(|field| AROUND.map(|rows| (field, rows))) {
+        let title = format!("field {field}: offsets 0 to 3, height {}", rows.len());
+        text.with([field, 1, 1], |text| seen(text, &title, &of_nodes(rows.len() as u32, &nodes), rows, 0));
+    }
+}
+
+/// Kinds 2 and 4 see the next row, whatever their second word; the other kinds that do not use it take any too.
+fn unused_words(text: &mut Text) {
+    let nodes = [[2, 0, 0], [2, 0, 3], [2, 0, 4], [4, 0, 2], [4, 0, u32::MAX]];
+    let mut t = of_nodes(3, &nodes);
+    t.public_values = vec![5];
+    t.nodes.extend([[0, 1, 4], [5, 0, 4], [6, 4, 4], [7, 4, 4], [8, 4, 4], [12, 0, u32::MAX]].as_flattened());
+    let rows: [&[u32]; 3] = [&[11, 11, 11, 21, 21], &[12, 12, 12, 22, 22], &[10, 10, 10, 20, 20]];
+    for field in [1, 2] {
+        let title = format!("field {field}: kinds 2 and 4, whose second words are not used");
+        text.with([field, 1, 1], |text| seen(text, &title, &t, &rows, 2));
+    }
+}
+
+/// The row 3 in both traces, and a tuple of one node. Node 5 is of this kind and offset.
+fn farthest(element: u32, kind: u32, offset: u32) -> Table {
+    let mut t = Table { pre_width: 1, pre_height: 1, preprocessed: vec![3], ..table(&[3], &[lookup(&[&[element]], &[1], None)]) };
+    t.add_node(kind, 0, offset);
+    t
+}
+
+/// Every function that tests nodes, where the tuple's node sees 3: each takes the table, or gives this refusal and writes nothing.
+fn each_function(text: &mut Text, t: &Table, number: u32) {
+    let (taken, trace, terminal) = (number == 0, words(&[lift(0), lift(1)]), Some(lift(1)));
+    let answer = |accepted: Answer| if taken { accepted } else { refused(number, [0; 3]) };
+    text.table(t);
+    text.list("challenges", &words(&[lift(4), lift(0)]));
+    text.generate(answer(ACCEPTED), &left(taken, &trace), terminal);
+    text.constraints(answer(ACCEPTED), 2, &trace, terminal);
+    text.answer("degree", answer(ACCEPTED), &[0, 0, if taken { 2 } else { BEFORE.into() }]);
+    text.pack(t, answer(ACCEPTED), 3, &t.records());
+    text.balance(answer(refused(18, [0, 0, 1])), &left(taken, &slot(1, 1)));
+    let global = global(Part { elements: t.elements.clone(), ..part(1, 1) });
+    text.build(&[global], answer(ACCEPTED), &left(taken, &t.lookups), if taken { 8 } else { BEFORE as usize });
+}
+
+/// Offset 3 is taken, a larger one is refusal 3, in a node that the tuple has and in one that nothing names.
+fn largest_offset(text: &mut Text) {
+    for (field, kind, element, used) in [(1, 1, 5, "used"), (1, 3, 0, "unused"), (2, 3, 5, "used"), (2, 1, 0, "unused")] {
+        text.with([field, 1, 1], |text| {
+            text.case(&format!("field {field}: offsets 3, 4 and 4294967295 of kind {kind}, {used}"));
+            for (offset, number) in [(3, 0), (4, 3), (u32::MAX, 3)] {
+                each_function(text, &farthest(element, kind, offset), number);
+            }
+        });
+    }
+}
+
+/// Offset 4 without lookups, beside other faults, in the second of two tables and in the gateway. Counts do not test the nodes before them.
+fn offset_refusals(text: &mut Text) {
+    let pair = words(&[lift(4), lift(0)]);
+    let mut t = farthest(0, 1, 4);
+    t.set_records(&[]);
+    untouched(text, "3: offset 4, no lookups", &t, &[], 8, 3);
+    let mut t = farthest(5, 1, 4);
+    t.nodes[10] = P;
+    untouched(text, "2: offset 4, a constant 2013265921", &t, &pair, 8, 2);
+    untouched(text, "3: offset 4, node 9 of 6", &Table { elements: vec![9], ..farthest(0, 3, 4) }, &pair, 8, 3);
+    text.with(GATEWAY, |text| untouched(text, "gateway, 3: offset 4", &farthest(5, 3, 4), &pair, 8, 3));
+    text.case("3: offset 4 in the second of two tables");
+    text.tables(&[farthest(5, 1, 3), farthest(5, 1, 4)]);
+    text.balance(refused(3, [0; 3]), &[BEFORE; 10]);
+    text.case("counts after a node of offset 4");
+    let nodes = [1, 0, 4, BEFORE, BEFORE, BEFORE];
+    text.count(&nodes, &[1, 0, 4, 0, 5, 0], [1, 5]);
+    text.count_of(1, 5, ACCEPTED);
+    text.count(&nodes, &[1, 0, 4, 12, 0, 0], [1, 5]);
+    text.negated(1, [0, 5], ACCEPTED);
 }
 
 // The crate's answers.
