@@ -1,8 +1,8 @@
 -- The examples of SPECIFICATION, sections 3, 10.1 and 12, that are about the expression table, as one table with one theorem.
-use mathlib.Core.Bool.{Bool, true, false, _&&_}
+use mathlib.Core.Bool.{Bool}
 use mathlib.Core.List.{List, [], _∷_, _++_}
 use Prim.Native.Nat.{ℕ, _+_}
-use lib.Dec.{eqb, T}
+use lib.Dec.{T}
 use Rattle.lists.specs.Count.{every}
 use Rattle.lists.specs.Same.{same-list}
 use Rattle.lists.specs.Cases.{Case, hold}
