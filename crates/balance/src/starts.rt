@@ -9,7 +9,7 @@ use lookup::types::tuple_count;
 ghost use mathlib.Core.Path.{_≡_};
 ghost use Prim.Native.Nat.{_+_, _*_, _≤_};
 ghost use lib.ListN.{length};
-ghost use Rattle.lookup.specs.Lookups.{tuple-start};
+ghost use Rattle.lookup.specs.Lookups.{lookup-words, tuple-start};
 ghost use Rattle.balance.specs.inner.LookupStarts.{lookup-starts-at};
 
 // Whether the lookup is exclusive, how many tuples it has, and where its tuples, multiplicities, flags and elements begin.
@@ -23,7 +23,7 @@ pub struct LookupStarts {
 }
 
 pub fn lookup_starts(lookups: &[u32], tuples: &[u32], i: usize) -> LookupStarts
-    requires { ⌜ (8 * i + 8 ≤ length (now lookups)) × (i ≤ 1024) × (tuple-start (now lookups) i ≤ length (now tuples)) × (length (now tuples) ≤ 4294967295) ⌝ }
+    requires { ⌜ (lookup-words * i + lookup-words ≤ length (now lookups)) × (i ≤ 1024) × (tuple-start (now lookups) i ≤ length (now tuples)) × (length (now tuples) ≤ 4294967295) ⌝ }
     ensures { λ r. ⌜ r ≡ lookup-starts-at (now (lookups .entry)) (now (tuples .entry)) i ⌝ }
 {
     let first_tuple = tuple_start(lookups, i);

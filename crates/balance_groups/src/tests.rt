@@ -215,7 +215,7 @@ pub fn tables_verdict(
 
 // The tables' parts of a list, in units of so many words, are the whole list.
 fn covers(sizes: &[u32], f: usize, unit: usize, len: usize) -> bool
-    requires { ⌜ (f < table-sizes) × (unit ≤ 8) × (table-count (now sizes) ≤ 16) ⌝ }
+    requires { ⌜ (f < table-sizes) × (unit ≤ 9) × (table-count (now sizes) ≤ 16) ⌝ }
     ensures { λ r. ⌜ r ≡ eqb len (unit * size-start (now (sizes .entry)) f (table-count (now (sizes .entry)))) ⌝ }
 {
     len == unit * size_start(sizes, TABLE_SIZES, f, sizes.len() / TABLE_SIZES)

@@ -3,7 +3,7 @@ ghost use mathlib.Core.Path.{_≡_};
 ghost use Prim.Native.Nat.{_+_, _*_, _<_, _≤_, min};
 ghost use lib.ListN.{length, replicate};
 ghost use Rattle.lists.specs.Count.{total};
-ghost use Rattle.expression.specs.Words.{word, all-below, all-within};
+ghost use Rattle.expression.specs.Words.{word, low-half, high-half, all-below, all-within};
 
 // A word as a number of 64 bits, and as an index.
 pub fn to_u64(x: u32) -> u64
@@ -16,6 +16,19 @@ pub fn to_usize(x: u32) -> usize
     ensures { λ r. ⌜ (r ≡ x) × (r ≤ 4294967295) ⌝ }
 {
     x as usize
+}
+
+// A number of 64 bits as two words.
+pub fn low_half(n: u64) -> u32
+    ensures { λ r. ⌜ r ≡ low-half n ⌝ }
+{
+    (n % 4294967296) as u32
+}
+
+pub fn high_half(n: u64) -> u32
+    ensures { λ r. ⌜ r ≡ high-half n ⌝ }
+{
+    (n / 4294967296) as u32
 }
 
 // Each word is below n.

@@ -16,7 +16,7 @@ use Rattle.field.specs.declared.extension.Ext.{Ext}
 use Rattle.field.specs.Ext.{ext-words}
 use Rattle.field.specs.Element.{Word4, zero4, add4, sum4, element}
 use Rattle.field.specs.laws.Element.{four-sum4}
-use Rattle.lookup.specs.Lookups.{lookup-count, tuple-count, tuple-start}
+use Rattle.lookup.specs.Lookups.{lookup-words, lookup-count, tuple-count, tuple-start}
 use Rattle.logup_column.specs.laws.Powers.{word-zero}
 use Rattle.lists.specs.laws.Joined.{joined-length}
 use Rattle.logup_rows.specs.inner.Sums.{sum-from, fraction-in, row-sum-in, running, row-in, Quotients, RowWritten, RowsWritten}
@@ -46,7 +46,7 @@ pub record FractionsLoop (p : ℕ) (lookups qs : List ℕ) (start : ℕ) (d : Li
   pub cap : 4 * length d < 18446744073709551616
   pub cap-q : 4 * length qs < 18446744073709551616
   pub count : n ≡ lookup-count lookups
-  pub words : length lookups ≡ 8 * n
+  pub words : length lookups ≡ lookup-words * n
   pub room : 4 * (start + tuple-start lookups n) ≤ length qs
   pub within : i ≤ n
   pub at≡ : at ≡ start + tuple-start lookups i
@@ -64,7 +64,7 @@ put-front : {ys : List ℕ} (acc : Ext) (d : List ℕ) → ys ≡ ext-words acc 
 put-front {ys} acc d y = take-at ys (drop 4 d) 4 (ap length y) ∙ y
 
 pub fractions-loop-begins : {p : ℕ} {lookups qs : List ℕ} {start : ℕ} {d : List ℕ} {n : ℕ} {sum : Ext} → 4 * length d < 18446744073709551616 → 4 * length qs < 18446744073709551616
-    → n ≡ lookup-count lookups → length lookups ≡ 8 * lookup-count lookups → 4 * (start + tuple-start lookups (lookup-count lookups)) ≤ length qs → length d ≡ 4 * lookup-count lookups + 4 → 1 < p → ext-words sum ≡ zero4
+    → n ≡ lookup-count lookups → length lookups ≡ lookup-words * lookup-count lookups → 4 * (start + tuple-start lookups (lookup-count lookups)) ≤ length qs → length d ≡ 4 * lookup-count lookups + 4 → 1 < p → ext-words sum ≡ zero4
     → FractionsLoop p lookups qs start d n d sum start 0
 unfolding joined sum4 tuple-start total
 fractions-loop-begins {p} {lookups} {qs} {start} {d} {n} {sum} c cq e lw room ld big z =
@@ -147,7 +147,7 @@ fractions-in-length p lookups qs start n =
 -- j rows
 pub record WriteRowsLoop (p : ℕ) (lookups qs : List ℕ) (size k : ℕ) (before : Ext) (wd : ℕ) (d out : List ℕ) (acc : Ext) (start at j : ℕ) : Type 0 where
   pub quotients : Quotients p qs
-  pub words : length lookups ≡ 8 * lookup-count lookups
+  pub words : length lookups ≡ lookup-words * lookup-count lookups
   pub cap : 4 * length d < 18446744073709551616
   pub cap-q : 4 * length qs < 18446744073709551616
   pub few : k ≤ 1048576
@@ -163,7 +163,7 @@ pub record WriteRowsLoop (p : ℕ) (lookups qs : List ℕ) (size k : ℕ) (befor
   pub word4 : Word4 p (ext-words acc)
   pub acc≡ : ext-words acc ≡ running p lookups qs size (ext-words before) j
 
-pub write-rows-begins : {p : ℕ} {lookups qs : List ℕ} {size k : ℕ} {before : Ext} {wd : ℕ} {d : List ℕ} → Quotients p qs → length lookups ≡ 8 * lookup-count lookups
+pub write-rows-begins : {p : ℕ} {lookups qs : List ℕ} {size k : ℕ} {before : Ext} {wd : ℕ} {d : List ℕ} → Quotients p qs → length lookups ≡ lookup-words * lookup-count lookups
     → 4 * length d < 18446744073709551616 → 4 * length qs < 18446744073709551616 → k ≤ 1048576 → wd ≡ 4 * lookup-count lookups + 4 → size ≡ tuple-start lookups (lookup-count lookups) → length qs ≡ 4 * (k * size)
     → length d ≡ k * (4 * lookup-count lookups + 4) → Word4 p (ext-words before) → WriteRowsLoop p lookups qs size k before wd d d before 0 0 0
 unfolding joined running

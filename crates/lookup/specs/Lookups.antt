@@ -9,7 +9,7 @@ use Rattle.lists.specs.Tab.{tab}
 use Rattle.expression.specs.Words.{word}
 
 pub record Lookups : Type 0 where
-  -- for each lookup: scope, name length, weight, column, exclusive, tuples, multiplicities, flags
+  -- for each lookup: scope, name length, weight, column, exclusive, tuples, multiplicities, flags, and the weight's high half
   pub lookups : List ℕ
   -- the bytes of the bus names, one name after the other
   pub names : List ℕ
@@ -33,7 +33,7 @@ bus-lookups lookups names tuples = lent-lookups lookups names tuples [] [] []
 
 -- the words of a lookup's record, and the place of each
 abbrev pub lookup-words : ℕ
-lookup-words = 8
+lookup-words = 9
 
 abbrev pub scope-word : ℕ
 scope-word = 0
@@ -59,6 +59,9 @@ multiplicity-count-word = 6
 abbrev pub flag-count-word : ℕ
 flag-count-word = 7
 
+abbrev pub weight-high-word : ℕ
+weight-high-word = 8
+
 abbrev pub lookup-count : List ℕ → ℕ
 lookup-count lookups = length lookups / lookup-words
 
@@ -74,8 +77,9 @@ on-bus lookups i = not (eqb (lookup-word lookups i scope-word) 0)
 abbrev pub name-length : List ℕ → ℕ → ℕ
 name-length lookups i = cond (on-bus lookups i) (lookup-word lookups i name-length-word) 0
 
+-- "in two words, the low half and the high half"
 abbrev pub weight : List ℕ → ℕ → ℕ
-weight lookups i = lookup-word lookups i weight-word
+weight lookups i = lookup-word lookups i weight-word + 4294967296 * lookup-word lookups i weight-high-word
 
 abbrev pub column : List ℕ → ℕ → ℕ
 column lookups i = lookup-word lookups i column-word

@@ -6,7 +6,8 @@ use mathlib.Core.Bool.{cond}
 use lib.ListN.{length}
 use Rattle.expression.specs.Words.{word}
 use Rattle.expression.specs.declared.sizes.Limits.{Limits}
-use Rattle.lookup.specs.Lookups.{Lookups, lookup-words, lookup-count, name-length, exclusive, tuple-count, multiplicity-count, flag-count, name-start, tuple-start, multiplicity-start, flag-start, element-start}
+use Rattle.lookup.specs.Lookups.{Lookups, lookup-words, lookup-count, name-length, weight, exclusive, tuple-count, multiplicity-count, flag-count, name-start, tuple-start, multiplicity-start, flag-start, element-start}
+use Rattle.lookup.specs.Tests.{weight-limit}
 
 -- `lookups-within`
 pub record Limited (m : Limits) (lookups tuples : List ℕ) : Type 0 where
@@ -14,6 +15,7 @@ pub record Limited (m : Limits) (lookups tuples : List ℕ) : Type 0 where
   pub few-tuples : length tuples ≤ m .tuples
   pub width : (j : ℕ) → word tuples j ≤ m .«tuple_words»
   pub name : (i : ℕ) → i < lookup-count lookups → name-length lookups i ≤ m .«name_bytes»
+  pub weight : (i : ℕ) → i < lookup-count lookups → weight lookups i ≤ weight-limit lookups i
 
 -- `lookups-fit`: each list is as long as the lookups say
 pub record Fitting (l : Lookups) : Type 0 where

@@ -1,17 +1,24 @@
 -- Refusals 1 to 5 and 9 of a whole table, as tests that hold where there is no such refusal. SPECIFICATION, section 10.
-use Prim.Native.Nat.{ℕ, _%_}
+use Prim.Native.Nat.{ℕ, _*_, _%_}
 use mathlib.Core.Bool.{Bool, cond, not, _&&_, _||_}
 use mathlib.Core.List.{List}
 use lib.Dec.{eqb, leb, ltb}
 use lib.ListN.{length}
 use Rattle.lists.specs.Count.{every}
 use Rattle.expression.specs.Words.{all-below, all-within}
-use Rattle.expression.specs.Node.{node-count}
-use Rattle.expression.specs.Tests.{traces-within, nodes-within, traces-fit, nodes-fit, traces-below, constants-below, nodes-known, degrees-low}
+use Rattle.expression.specs.Tests.{traces-within, nodes-within, traces-fit, nodes-fit, traces-below, constants-below, nodes-known}
 use Rattle.expression.specs.declared.sizes.Shape.{Shape}
 use Rattle.expression.specs.declared.sizes.Limits.{Limits}
-use Rattle.lookup.specs.Lookups.{Lookups, lookup-words, lookup-count, name-length, column, exclusive, tuple-count, multiplicity-count, flag-count, name-start, tuple-start, multiplicity-start, flag-start, element-start}
+use Rattle.lookup.specs.Lookups.{Lookups, lookup-words, lookup-count, on-bus, name-length, weight, column, exclusive, tuple-count, multiplicity-count, flag-count, name-start, tuple-start, multiplicity-start, flag-start, element-start}
 use Rattle.lookup.specs.Table.{Table}
+
+-- the most that a weight may be: on a bus 2³² - 1, of a local "its tuple count × (2³² - 1), or without tuples 2³² - 1"
+unfoldable pub weight-limit : List ℕ → ℕ → ℕ
+weight-limit lookups i = cond (on-bus lookups i || eqb (tuple-count lookups i) 0) 4294967295 (tuple-count lookups i * 4294967295)
+
+-- refusal 1, as far as the words of lookup i show it: the bytes of its name, and its weight
+unfoldable pub lookup-within : Limits → List ℕ → ℕ → Bool
+lookup-within m lookups i = leb (name-length lookups i) (m .«name_bytes») && leb (weight lookups i) (weight-limit lookups i)
 
 -- refusal 1, "a size is over a limit", of the lookups
 unfoldable pub lookups-within : Limits → List ℕ → List ℕ → Bool
@@ -19,7 +26,7 @@ lookups-within m lookups tuples =
     leb (lookup-count lookups) (m .lookups)
     && leb (length tuples) (m .tuples)
     && all-within (m .«tuple_words») tuples
-    && every (λ i. leb (name-length lookups i) (m .«name_bytes»)) (lookup-count lookups)
+    && every (lookup-within m lookups) (lookup-count lookups)
 
 -- refusal 1, "at odds with a list's length", of the lookups
 unfoldable pub lookups-fit : Lookups → Bool

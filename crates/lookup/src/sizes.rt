@@ -25,8 +25,8 @@ pub fn size_start(sizes: &[u32], words: usize, f: usize, t: usize) -> usize
 
 // Where the part of table t begins in a list of which size f counts units of so many words, and where it ends.
 pub fn part_start(sizes: &[u32], words: usize, f: usize, unit: usize, t: usize) -> usize
-    requires { ⌜ (words ≤ 16) × (f < words) × (unit ≤ 8) × (t ≤ 16) ⌝ }
-    ensures { λ r. ⌜ (r ≡ unit * size-start words (now (sizes .entry)) f t) × (r ≤ 549755813760) ⌝ }
+    requires { ⌜ (words ≤ 16) × (f < words) × (unit ≤ 9) × (t ≤ 16) ⌝ }
+    ensures { λ r. ⌜ (r ≡ unit * size-start words (now (sizes .entry)) f t) × (r ≤ 618475290480) ⌝ }
 {
     unit * size_start(sizes, words, f, t)
 }
@@ -34,8 +34,8 @@ pub fn part_start(sizes: &[u32], words: usize, f: usize, unit: usize, t: usize) 
 pub fn part_end(sizes: &[u32], words: usize, f: usize, unit: usize, t: usize) -> usize
     ghost { List ℕ }
     requires { λ s. ⌜ now sizes ≡ s ⌝ }
-    requires { λ s. ⌜ (words ≤ 16) × (f < words) × (unit ≤ 8) × (t ≤ 16) ⌝ }
-    ensures { λ s r. ⌜ (r ≡ unit * size-start words s f t + unit * size words s f t) × (r ≤ 584115552120) ⌝ }
+    requires { λ s. ⌜ (words ≤ 16) × (f < words) × (unit ≤ 9) × (t ≤ 16) ⌝ }
+    ensures { λ s r. ⌜ (r ≡ unit * size-start words s f t + unit * size words s f t) × (r ≤ 657129996135) ⌝ }
 {
     unit * size_start(sizes, words, f, t) + unit * size(sizes, words, f, t)
 }

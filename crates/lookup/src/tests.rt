@@ -10,58 +10,68 @@ use crate::types::exclusive;
 use crate::types::flag_count;
 use crate::types::multiplicity_count;
 use crate::types::name_length;
+use crate::types::on_bus;
 use crate::types::tuple_count;
+use crate::types::weight;
 use expression::sizes::Limits;
 use expression::sizes::Shape;
 use expression::words::all_below;
 use expression::words::all_within;
 use expression::words::to_u64;
-use expression::words::total_of;
 ghost use mathlib.Core.Path.{_≡_};
 ghost use mathlib.Core.Bool.{cond};
 ghost use mathlib.Core.List.{List};
 ghost use Prim.Native.Nat.{ℕ, _+_, _*_, _<_, _≤_, _/_};
-ghost use lib.Dec.{eqb, leb};
 ghost use lib.ListN.{length};
-ghost use Rattle.lists.specs.Count.{total, every};
-ghost use Rattle.expression.specs.Words.{word};
-ghost use Rattle.lookup.specs.Lookups.{lent-lookups, lookup-words, lookup-count, lookup-word, name-length, column, exclusive, tuple-count, name-start, element-start};
-ghost use Rattle.lookup.specs.Tests.{lookups-within, lookups-fit, lengths-agree, nodes-present, lists-agree, in-position, has-lookups, preprocessed-enough, rows-enough};
+ghost use Rattle.lists.specs.Count.{every};
+ghost use Rattle.lookup.specs.Lookups.{lent-lookups, lookup-words, lookup-count, column, exclusive, tuple-count};
+ghost use Rattle.lookup.specs.Tests.{weight-limit, lookup-within, lookups-within, lookups-fit, lengths-agree, nodes-present, lists-agree, in-position, has-lookups, preprocessed-enough, rows-enough};
 
-// No name is longer than `most`.
-pub fn names_within(most: u32, lookups: &[u32]) -> bool
+// The most that lookup i's weight may be.
+fn weight_limit(lookups: &[u32], i: usize) -> u64
+    requires { ⌜ lookup-words * i + lookup-words ≤ length (now lookups) ⌝ }
+    ensures { λ r. ⌜ r ≡ weight-limit (now (lookups .entry)) i ⌝ }
+{
+    let tuples = tuple_count(lookups, i);
+    if on_bus(lookups, i) | (tuples == 0) {
+        return 4294967295;
+    }
+    to_u64(tuples) * 4294967295
+}
+
+// The name and the weight of lookup i are within the limits.
+fn lookup_within(limits: Limits, lookups: &[u32], i: usize) -> bool
+    requires { ⌜ lookup-words * i + lookup-words ≤ length (now lookups) ⌝ }
+    ensures { λ r. ⌜ r ≡ lookup-within limits (now (lookups .entry)) i ⌝ }
+{
+    (name_length(lookups, i) <= limits.name_bytes)
+        & (weight(lookups, i) <= weight_limit(lookups, i))
+}
+
+// So of each lookup.
+pub fn each_within(limits: Limits, lookups: &[u32]) -> bool
     ghost { List ℕ }
     requires { λ l. ⌜ now lookups ≡ l ⌝ }
-    ensures { λ l r. ⌜ r ≡ every (λ i. leb (name-length l i) most) (lookup-count l) ⌝ }
+    ensures { λ l r. ⌜ r ≡ every (lookup-within limits l) (lookup-count l) ⌝ }
 {
     let n = lookups.len() / LOOKUP_WORDS;
     let mut ok = true;
     let mut i = 0;
     while i < n {
-        ok = ok & (name_length(lookups, i) <= most);
+        ok = ok & lookup_within(limits, lookups, i);
         i += 1;
     }
     ok
 }
 
-// The lookups, their tuples, the words of each tuple and the bytes of each name are within the limits.
+// The lookups, their tuples, the words of each tuple, the bytes of each name and each weight are within the limits.
 pub fn lookups_within(limits: Limits, lookups: &[u32], tuples: &[u32]) -> bool
     ensures { λ r. ⌜ r ≡ lookups-within limits (now (lookups .entry)) (now (tuples .entry)) ⌝ }
 {
     (lookups.len() / LOOKUP_WORDS <= limits.lookups)
         & (tuples.len() <= limits.tuples)
         & all_within(limits.tuple_words, tuples)
-        & names_within(limits.name_bytes, lookups)
-}
-
-// The sum of one word of each lookup.
-pub fn lookup_total(lookups: &[u32], f: usize) -> u64
-    ghost { List ℕ }
-    requires { λ l. ⌜ now lookups ≡ l ⌝ }
-    requires { λ l. ⌜ (f < lookup-words) × (lookup-count l ≤ 4294967295) ⌝ }
-    ensures { λ l r. ⌜ (r ≡ total (λ i. lookup-word l i f) (lookup-count l)) × (r ≤ lookup-count l * 4294967295) ⌝ }
-{
-    total_of(lookups, LOOKUP_WORDS, f, lookups.len() / LOOKUP_WORDS) as u64
+        & each_within(limits, lookups)
 }
 
 // Each list has the length that the lookups say.

@@ -1,4 +1,5 @@
-// Lookups and terminals. A lookup is a record of eight words of the flat list.
+// Lookups and terminals. A lookup is a record of nine words of the flat list.
+use expression::words::to_u64;
 use field::extension::Ext;
 ghost use mathlib.Core.Path.{_≡_};
 ghost use Prim.Native.Nat.{_+_, _*_, _<_, _≤_};
@@ -6,7 +7,7 @@ ghost use lib.ListN.{length};
 ghost use Rattle.lookup.specs.Lookups.{lookup-words, lookup-word, on-bus, name-length, weight, column, exclusive, tuple-count, multiplicity-count, flag-count};
 
 // The words of a lookup's record, and the place of each.
-pub const LOOKUP_WORDS: usize = 8;
+pub const LOOKUP_WORDS: usize = 9;
 
 pub const SCOPE_WORD: usize = 0;
 
@@ -23,6 +24,8 @@ pub const TUPLE_COUNT_WORD: usize = 5;
 pub const MULTIPLICITY_COUNT_WORD: usize = 6;
 
 pub const FLAG_COUNT_WORD: usize = 7;
+
+pub const WEIGHT_HIGH_WORD: usize = 8;
 
 // The sum of all fractions of a table. It is wrapped, so that it is never passed where a challenge belongs.
 pub struct LookupTerminal(pub Ext);
@@ -55,11 +58,13 @@ pub fn name_length(lookups: &[u32], i: usize) -> u32
     }
 }
 
-pub fn weight(lookups: &[u32], i: usize) -> u32
+pub fn weight(lookups: &[u32], i: usize) -> u64
     requires { ⌜ lookup-words * i + lookup-words ≤ length (now lookups) ⌝ }
     ensures { λ r. ⌜ r ≡ weight (now (lookups .entry)) i ⌝ }
 {
-    lookup_word(lookups, i, WEIGHT_WORD)
+    let low = to_u64(lookup_word(lookups, i, WEIGHT_WORD));
+    let high = to_u64(lookup_word(lookups, i, WEIGHT_HIGH_WORD));
+    low + 4294967296 * high
 }
 
 pub fn column(lookups: &[u32], i: usize) -> u32

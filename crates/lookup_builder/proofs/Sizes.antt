@@ -11,6 +11,7 @@ use Rattle.lists.specs.Count.{every}
 use Rattle.lists.specs.laws.Tests.{passed}
 use Rattle.expression.specs.Limits.{Sane}
 use Rattle.expression.specs.declared.sizes.Limits.{Limits}
+use Rattle.lookup.specs.Lookups.{lookup-words}
 use Rattle.lookup_builder.specs.Building.{interaction-count, tuple-number, first-tuple}
 use Rattle.lookup_builder.specs.FromInteractions.{building-fits}
 use Rattle.lookup_builder.specs.declared.answer.Kinds.{Kinds}
@@ -50,13 +51,13 @@ module _ (m : Limits) (k : Kinds) (interactions weights tuples : List ℕ) (room
 
   pub fits-rest : {n f : ℕ} {g : Bool} → not b ≡ false → n ≡ interaction-count k → not (eqb (length interactions) (2 * n)) ≡ false → f ≡ first-tuple interactions n
       → g ≡ every (λ j. eqb (tuple-number interactions (k .locals + j)) 1) (k .globals)
-      → (leb (length tuples) (m .tuples) && eqb (length tuples) f && eqb (length weights) (length tuples) && g && leb (8 * n) room) ≡ building-fits m k interactions weights tuples room
+      → (leb (length tuples) (m .tuples) && eqb (length tuples) f && eqb (length weights) (length tuples) && g && leb (lookup-words * n) room) ≡ building-fits m k interactions weights tuples room
   unfolding building-fits
   fits-rest {n} {f} {g} z q y p h = rw (sym e ∙ not-false b z, ← q, not-false (eqb (length interactions) (2 * n)) y, p, h)
 
 -- what the code that follows asks
 pub sized : (m : Limits) (k : Kinds) (interactions weights tuples : List ℕ) (room : ℕ) → Sane m → building-fits m k interactions weights tuples room ≡ true
-    → InteractionsSized k interactions weights × (8 * interaction-count k ≤ room)
+    → InteractionsSized k interactions weights × (lookup-words * interaction-count k ≤ room)
 unfolding building-fits
 sized m k interactions weights tuples room g e =
     let p =
@@ -66,7 +67,7 @@ sized m k interactions weights tuples room g e =
     ∷ eqb (length tuples) (first-tuple interactions (interaction-count k))
     ∷ eqb (length weights) (length tuples)
     ∷ every (λ j. eqb (tuple-number interactions (k .locals + j)) 1) (k .globals)
-    ∷ leb (8 * interaction-count k) room
+    ∷ leb (lookup-words * interaction-count k) room
     ∷ [])
     e in
     let same : length weights ≡ length tuples = eqb-true (length weights) (length tuples) (p .1 .1 .1 .1 .0) in (
@@ -76,5 +77,5 @@ sized m k interactions weights tuples room g e =
         few-weights = omega (arith, leb-true (length tuples) (m .tuples) (p .1 .1 .0), g .tuples);
         weighed = same ∙ eqb-true (length tuples) (first-tuple interactions (interaction-count k)) (p .1 .1 .1 .0);
       },
-      leb-true (8 * interaction-count k) room (p .1 .1 .1 .1 .1 .1 .0),
+      leb-true (lookup-words * interaction-count k) room (p .1 .1 .1 .1 .1 .1 .0),
     )

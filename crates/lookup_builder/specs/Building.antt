@@ -3,10 +3,10 @@
 use mathlib.Core.Bool.{Bool, cond, not}
 use mathlib.Core.Option.{Option, some}
 use mathlib.Core.List.{List, [], _∷_}
-use Prim.Native.Nat.{ℕ, _+_, _*_, min}
+use Prim.Native.Nat.{ℕ, _+_, _*_}
 use lib.Dec.{leb, ltb}
 use Rattle.lists.specs.Count.{total, first, joined}
-use Rattle.expression.specs.Words.{word}
+use Rattle.expression.specs.Words.{word, low-half, high-half}
 use Rattle.expression.specs.Values.{bit}
 use Rattle.expression.specs.declared.refusal.Refusal.{Refusal}
 use Rattle.lookup.specs.Lookups.{tuple-count, tuple-width}
@@ -37,9 +37,9 @@ is-local k i = ltb i (k .locals)
 abbrev pub is-exclusive : Kinds → ℕ → Bool
 is-exclusive k i = leb (k .locals + k .globals) i
 
--- a local's: "the sum of its tuples' weights, at most 2³² - 1"
+-- a local's: "the exact sum of its tuples' weights"
 unfoldable pub weight-sum : List ℕ → List ℕ → ℕ → ℕ
-weight-sum interactions weights i = min (total (λ k. word weights (first-tuple interactions i + k)) (tuple-number interactions i)) 4294967295
+weight-sum interactions weights i = total (λ k. word weights (first-tuple interactions i + k)) (tuple-number interactions i)
 
 -- an exclusive's: "the largest of its tuples'"; a global has one tuple, whose weight is its own
 unfoldable pub weight-top : List ℕ → List ℕ → ℕ → ℕ
@@ -48,17 +48,18 @@ weight-top interactions weights i = greatest (λ k. word weights (first-tuple in
 unfoldable pub built-weight : Kinds → List ℕ → List ℕ → ℕ → ℕ
 built-weight k interactions weights i = cond (is-local k i) (weight-sum interactions weights i) (weight-top interactions weights i)
 
--- the words of lookup i, in column i: scope, name length, weight, column, exclusive, tuples, multiplicities, flags
+-- the words of lookup i, in column i: scope, name length, weight, column, exclusive, tuples, multiplicities, flags, and the weight's high half
 unfoldable pub built-words : Kinds → List ℕ → List ℕ → ℕ → List ℕ
 built-words k interactions weights i =
     bit (not (is-local k i))
     ∷ cond (is-local k i) 0 (name-bytes interactions i)
-    ∷ built-weight k interactions weights i
+    ∷ low-half (built-weight k interactions weights i)
     ∷ i
     ∷ bit (is-exclusive k i)
     ∷ tuple-number interactions i
     ∷ tuple-number interactions i
     ∷ cond (is-exclusive k i) (tuple-number interactions i) 0
+    ∷ high-half (built-weight k interactions weights i)
     ∷ []
 
 unfoldable pub built : Kinds → List ℕ → List ℕ → List ℕ

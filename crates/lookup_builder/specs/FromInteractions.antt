@@ -36,7 +36,7 @@ abbrev pub lent-interactions : List ℕ → List ℕ → List ℕ → List ℕ �
 lent-interactions interactions weights names tuples multiplicities flags elements =
     record { interactions = interactions; weights = weights; names = names; tuples = tuples; multiplicities = multiplicities; flags = flags; elements = elements }
 
--- refusal 1 of the interactions: two words each, a weight for each tuple, one tuple of each global, and room for eight words of each lookup
+-- refusal 1 of the interactions: two words each, a weight for each tuple, one tuple of each global, and room for the words of each lookup
 unfoldable pub building-fits : Limits → Kinds → List ℕ → List ℕ → List ℕ → ℕ → Bool
 building-fits m k interactions weights tuples room =
     leb (interaction-count k) (m .lookups)

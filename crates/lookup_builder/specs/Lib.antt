@@ -1,4 +1,5 @@
 pub mod Building
 pub mod FromInteractions
+pub mod BuiltWeights
 pub mod inner
 pub mod laws

@@ -80,7 +80,7 @@ fn built_verdict(
     requires { λ g. ⌜ Sane limits × InteractionsSized kinds (g .interactions) (g .weights) ⌝ }
     ensures { λ g r. ⌜ refusal r ≡ built-refusal limits p columns (now (nodes .entry)) (kinds .locals) (lookups-built kinds g) ⌝ }
 {
-    let mut words = [0u32; 512];
+    let mut words = [0u32; 576];
     write_lookups(kinds, interactions, weights, &mut words);
     let used = LOOKUP_WORDS * interaction_count(kinds);
     words_verdict(

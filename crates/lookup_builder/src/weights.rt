@@ -2,13 +2,12 @@
 use crate::answer::INTERACTION_WORDS;
 use crate::answer::Kinds;
 use crate::answer::TUPLE_NUMBER_WORD;
-use expression::words::saturate_u32;
 use expression::words::to_u64;
 use expression::words::to_usize;
 use expression::words::total_of;
 use lookup_degree::tuples::larger;
 ghost use mathlib.Core.Path.{_≡_};
-ghost use Prim.Native.Nat.{_+_, _*_, _<_, _≤_, min};
+ghost use Prim.Native.Nat.{_+_, _*_, _<_, _≤_};
 ghost use lib.ListN.{length};
 ghost use Rattle.lists.specs.Count.{total};
 ghost use Rattle.expression.specs.Words.{word};
@@ -54,15 +53,15 @@ fn largest_of(weights: &[u32], start: usize, n: usize) -> u32
 }
 
 // The weight of lookup i: a local's tuples add up, of an exclusive's branches the largest counts.
-pub fn built_weight(kinds: Kinds, interactions: &[u32], weights: &[u32], i: usize) -> u32
+pub fn built_weight(kinds: Kinds, interactions: &[u32], weights: &[u32], i: usize) -> u64
     requires { ⌜ InteractionsSized kinds (now interactions) (now weights) × (i < interaction-count kinds) ⌝ }
     ensures { λ r. ⌜ r ≡ built-weight kinds (now (interactions .entry)) (now (weights .entry)) i ⌝ }
 {
     let start = first_tuple(interactions, i);
     let n = to_usize(interactions[INTERACTION_WORDS * i + TUPLE_NUMBER_WORD]);
     if i < kinds.locals {
-        saturate_u32(sum_of(weights, start, n))
+        sum_of(weights, start, n)
     } else {
-        largest_of(weights, start, n)
+        to_u64(largest_of(weights, start, n))
     }
 }

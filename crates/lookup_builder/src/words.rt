@@ -3,6 +3,8 @@ use crate::answer::INTERACTION_WORDS;
 use crate::answer::Kinds;
 use crate::answer::TUPLE_NUMBER_WORD;
 use crate::weights::built_weight;
+use expression::words::high_half;
+use expression::words::low_half;
 use lookup::types::COLUMN_WORD;
 use lookup::types::EXCLUSIVE_WORD;
 use lookup::types::FLAG_COUNT_WORD;
@@ -11,6 +13,7 @@ use lookup::types::MULTIPLICITY_COUNT_WORD;
 use lookup::types::NAME_LENGTH_WORD;
 use lookup::types::SCOPE_WORD;
 use lookup::types::TUPLE_COUNT_WORD;
+use lookup::types::WEIGHT_HIGH_WORD;
 use lookup::types::WEIGHT_WORD;
 ghost use mathlib.Core.Path.{_≡_};
 ghost use mathlib.Core.Bool.{cond};
@@ -47,16 +50,19 @@ fn write_lookup(kinds: Kinds, interactions: &[u32], weights: &[u32], i: usize, o
     let scope = either(!local, 1, 0);
     let name = either(local, 0, interactions[INTERACTION_WORDS * i]);
     let weight = built_weight(kinds, interactions, weights, i);
+    let low = low_half(weight);
+    let high = high_half(weight);
     let mark = either(exclusive, 1, 0);
     let flags = either(exclusive, tuples, 0);
     out[SCOPE_WORD] = scope;
     out[NAME_LENGTH_WORD] = name;
-    out[WEIGHT_WORD] = weight;
+    out[WEIGHT_WORD] = low;
     out[COLUMN_WORD] = i as u32;
     out[EXCLUSIVE_WORD] = mark;
     out[TUPLE_COUNT_WORD] = tuples;
     out[MULTIPLICITY_COUNT_WORD] = tuples;
     out[FLAG_COUNT_WORD] = flags;
+    out[WEIGHT_HIGH_WORD] = high;
 }
 
 // The words of all lookups, at the front of a lent list.

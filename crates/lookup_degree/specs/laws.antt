@@ -2,3 +2,4 @@ pub mod Degree
 pub mod Formed
 pub mod ConstraintDegree
 pub mod Rising
+pub mod Greatest

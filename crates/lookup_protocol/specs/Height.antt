@@ -15,9 +15,9 @@ use Rattle.expression.specs.declared.choices.Choices.{Choices}
 use Rattle.expression.specs.declared.sizes.Limits.{Limits}
 use Rattle.expression.specs.declared.refusal.Refusal.{Refusal}
 use Rattle.expression.specs.declared.refusal.Refusal.the-variants.{SizeAtOdds, LookupInvalid, HeightSumTooLarge}
-use Rattle.lookup.specs.Lookups.{lookup-words, lookup-count, name-length, weight, tuple-start}
+use Rattle.lookup.specs.Lookups.{lookup-words, lookup-count, weight, tuple-start}
 use Rattle.lookup.specs.Sizes.{size-start, table-part}
-use Rattle.lookup.specs.Tests.{lengths-agree}
+use Rattle.lookup.specs.Tests.{lookup-within, lengths-agree}
 
 -- a table has one size here, the number of its lookups
 abbrev pub count-sizes : ℕ
@@ -40,10 +40,10 @@ table-weight lookups counts heights t = weight-sum (table-lookups lookups counts
 unfoldable pub height-sum : List ℕ → List ℕ → List ℕ → ℕ
 height-sum lookups counts heights = total (table-weight lookups counts heights) (length counts)
 
--- refusal 1, "a size is over a limit", of one table's lookups, as far as their words show it: tuples in all, bytes of a bus name
+-- refusal 1, "a size is over a limit", of one table's lookups, as far as their words show it: tuples in all, bytes of a bus name, weights
 unfoldable pub lookups-small : Limits → List ℕ → Bool
 lookups-small m lookups =
-    leb (tuple-start lookups (lookup-count lookups)) (m .tuples) && every (λ i. leb (name-length lookups i) (m .«name_bytes»)) (lookup-count lookups)
+    leb (tuple-start lookups (lookup-count lookups)) (m .tuples) && every (lookup-within m lookups) (lookup-count lookups)
 
 -- the number of tables, their lookups and their heights are within the limits, and there are as many heights as tables
 unfoldable pub tables-within : Limits → List ℕ → List ℕ → Bool

@@ -1,4 +1,5 @@
 pub mod Terminals
 pub mod Height
+pub mod HeightSum
 pub mod inner
 pub mod laws

@@ -1,3 +1,4 @@
 pub mod Terminals
 pub mod Height
+pub mod HeightSum
 pub mod Cases

@@ -13,13 +13,12 @@ use field::extension::is_zero;
 use field::modulus::prime_of;
 use lookup::sizes::part_start;
 use lookup::sizes::size;
+use lookup::starts::tuple_start;
 use lookup::tests::all_agree;
-use lookup::tests::lookup_total;
-use lookup::tests::names_within;
+use lookup::tests::each_within;
 use lookup::types::LOOKUP_WORDS;
 use lookup::types::LookupTerminal;
-use lookup::types::TUPLE_COUNT_WORD;
-use lookup::types::WEIGHT_WORD;
+use lookup::types::weight;
 ghost use mathlib.Core.Path.{_≡_};
 ghost use mathlib.Core.Bool.{true};
 ghost use mathlib.Core.List.{List, []};
@@ -34,7 +33,7 @@ ghost use Rattle.expression.specs.Words.{word};
 ghost use Rattle.expression.specs.Refusal.{refusal, numbers};
 ghost use Rattle.lookup.specs.Lookups.{lookup-count};
 ghost use Rattle.lookup_protocol.specs.Height.{table-lookups, weight-sum, height-sum, lookups-small, tables-within, tables-fit, height-refusal, height-at};
-ghost use Rattle.lookup_protocol.specs.inner.Requires.{LookupsCounted, HeightLists, height-lists};
+ghost use Rattle.lookup_protocol.specs.inner.Requires.{LookupsCounted, FewWeights, HeightLists, height-lists};
 ghost use Rattle.lookup_protocol.specs.Terminals.{terminal-words, terminal-count, present, terminal, terminal-below, with-terminal, terminal-sum, terminals-refusal, terminals-at};
 
 // The words of a terminal: a mark, 0 where it is absent, and its element.
@@ -162,8 +161,8 @@ fn lookups_small(limits: Limits, lookups: &[u32]) -> bool
     requires { ⌜ lookup-count (now lookups) ≤ 64 ⌝ }
     ensures { λ r. ⌜ r ≡ lookups-small limits (now (lookups .entry)) ⌝ }
 {
-    (lookup_total(lookups, TUPLE_COUNT_WORD) <= limits.tuples as u64)
-        & names_within(limits.name_bytes, lookups)
+    (tuple_start(lookups, lookups.len() / LOOKUP_WORDS) <= limits.tuples)
+        & each_within(limits, lookups)
 }
 
 fn tables_within(limits: Limits, counts: &[u32], heights: &[u32]) -> bool
@@ -216,18 +215,36 @@ fn tables_fit(limits: Limits, lookups: &[u32], counts: &[u32], heights: &[u32]) 
     all_small(limits, lookups, counts)
 }
 
-// What one table adds: at most 64 weights of 32 bits, times a height.
-fn table_weight(lookups: &[u32], height: u32) -> u64
-    requires { ⌜ (lookup-count (now lookups) ≤ 64) × (height ≤ 1048576) ⌝ }
-    ensures { λ r. ⌜ (r ≡ weight-sum (now (lookups .entry)) * height) × (r ≤ 288230376084602880) ⌝ }
+// The weights of one table: at most 2^32 - 1 for each of 64 lookups, and again for each of 64 tuples.
+fn weight_sum(lookups: &[u32]) -> u64
+    ghost { List ℕ }
+    requires { λ l. ⌜ now lookups ≡ l ⌝ }
+    requires { λ l. ⌜ FewWeights l ⌝ }
+    ensures { λ l r. ⌜ (r ≡ weight-sum l) × (r ≤ 549755813760) ⌝ }
 {
-    lookup_total(lookups, WEIGHT_WORD) * to_u64(height)
+    let n = lookups.len() / LOOKUP_WORDS;
+    let mut sum: u64 = 0;
+    let mut i = 0;
+    while i < n {
+        sum = sum + weight(lookups, i);
+        i += 1;
+    }
+    sum
+}
+
+// What one table adds. Sixteen such stay below 2^63.
+fn table_weight(lookups: &[u32], height: u32) -> u64
+    requires { ⌜ FewWeights (now lookups) × (height ≤ 1048576) ⌝ }
+    ensures { λ r. ⌜ (r ≡ weight-sum (now (lookups .entry)) * height) × (r ≤ 576460752169205760) ⌝ }
+{
+    weight_sum(lookups) * to_u64(height)
 }
 
 fn height_sum(lookups: &[u32], counts: &[u32], heights: &[u32]) -> u64
     ghost { HeightLists }
     requires { λ l. ⌜ height-lists (now lookups) (now counts) (now heights) ≡ l ⌝ }
-    requires { λ l. ⌜ LookupsCounted (l .lookups) (l .counts) × (length (l .heights) ≡ length (l .counts)) × ((t : ℕ) → word (l .heights) t ≤ 1048576) ⌝ }
+    requires { λ l. ⌜ LookupsCounted (l .lookups) (l .counts) × ((t : ℕ) → t < length (l .counts) → FewWeights (table-lookups (l .lookups) (l .counts) t)) ⌝ }
+    requires { λ l. ⌜ (length (l .heights) ≡ length (l .counts)) × ((t : ℕ) → word (l .heights) t ≤ 1048576) ⌝ }
     ensures { λ l r. ⌜ r ≡ height-sum (l .lookups) (l .counts) (l .heights) ⌝ }
 {
     let mut sum: u64 = 0;

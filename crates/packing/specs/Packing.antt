@@ -1,5 +1,5 @@
 -- Packing (`pack_same_bus`). SPECIFICATION, section 6.2.
-use mathlib.Core.Bool.{Bool, true, false, cond, not, _&&_, _||_}
+use mathlib.Core.Bool.{Bool, false, cond, not, _&&_, _||_}
 use mathlib.Core.List.{List, [], _∷_, _++_, map}
 use Prim.Native.Nat.{ℕ, suc, _+_}
 use lib.Dec.{leb, ltb}
@@ -73,7 +73,7 @@ renumbered k (l ∷ ls) = numbered k l ∷ renumbered (suc k) ls
 unfoldable pub packed : (ℕ → ℕ) → ℕ → Lookups → List Lookup
 packed deg limit l = renumbered 0 (filled deg limit (in-order l))
 
--- refusal 7: weights only add up, so that a merge was over where its column is
+-- refusal 7: weights only add up, so that a merge was over where its column is. A local is no merge: its weight may be larger.
 unfoldable pub overweight : List Lookup → Bool
 overweight [] = false
-overweight (l ∷ ls) = ltb 4294967295 (l .weight) || overweight ls
+overweight (l ∷ ls) = (not (l .local) && ltb 4294967295 (l .weight)) || overweight ls

@@ -1,35 +1,31 @@
 -- One column: its numbers, and the turns of the loop that fills it.
 use mathlib.Core.Path.{_≡_, refl, sym, ap, ap₂, _∙_}
-use mathlib.Core.Bool.{Bool, true, false, cond, not}
-use mathlib.Core.List.{List, [], _∷_, _++_}
-use Prim.Native.Nat.{ℕ, zero, suc, _+_, _*_, _-_, _<_, _≤_, zero-le, max}
+use mathlib.Core.Bool.{Bool, true, false, cond, not, _||_}
+use mathlib.Core.List.{List, [], _∷_}
+use Prim.Native.Nat.{ℕ, _+_, _*_, _-_, _<_, _≤_, max}
 use native.Mathlib.Numerals.{add-one}
 use native.Mathlib.Omega.{arith}
+use lib.Dec.{eqb}
 use lib.ListN.{length, drop, set, drop-of-length-le}
 use lib.Seq.{drop-cons}
 use borrow.Author.Tests.{not-true, not-false}
-use Rattle.lists.specs.laws.Writing.{eight-set}
-use Rattle.expression.specs.Words.{word}
+use Rattle.lists.specs.laws.Writing.{nine-set}
+use Rattle.expression.specs.Words.{word, low-half, high-half}
 use Rattle.expression.specs.Values.{bit}
-use Rattle.lookup.specs.Lookups.{lookup-count, on-bus, name-length, exclusive, tuple-count, tuple-start, multiplicity-start}
-use Rattle.lookup_degree.specs.Sums.{greatest}
-use Rattle.lookup_degree.specs.inner.At.{denominator-at, numerator-at}
+use Rattle.lookup.specs.Lookups.{lookup-count, on-bus, name-length, weight, exclusive, tuple-count, tuple-start, multiplicity-start}
+use Rattle.lookup.specs.Tests.{weight-limit}
+use Rattle.lookup_degree.specs.laws.Greatest.{greatest-le}
+use Rattle.lookup_degree.specs.inner.At.{denominator-at, numerator-at, FewUpTo}
 use Rattle.packing_columns.specs.inner.Columns.{PlanSource, top-at, opened, opened-at, merge, fits, joins-at, columns-from, columns-of, saturated, column-words}
 use Rattle.packing_columns.specs.inner.ColumnsRequires.{ColumnWithin, DegreesSmall, ColumnTaken}
 use Rattle.packing_columns.specs.declared.columns.OpenColumn.{OpenColumn}
-use Rattle.packing_columns.specs.declared.columns.NextColumn.{NextColumn}
-
-greatest-le : (f : ℕ → ℕ) (b n : ℕ) → ((k : ℕ) → f k ≤ b) → greatest f n ≤ b
-unfolding greatest
-greatest-le f b zero h = zero-le
-greatest-le f b (suc n) h = omega (arith, greatest-le f b n h, h n)
 
 -- the numerator is of no larger degree than a node and all denominators
 numerator-le : (nodes degrees lookups multiplicities : List ℕ) (i : ℕ) → DegreesSmall nodes → numerator-at nodes degrees lookups multiplicities i ≤ 4294967295 + denominator-at degrees lookups i
 unfolding numerator-at
 numerator-le nodes degrees lookups multiplicities i low =
     greatest-le (λ k. word nodes (word multiplicities (multiplicity-start lookups i + k)) + (denominator-at degrees lookups i - word degrees (tuple-start lookups i + k)))
-    (4294967295 + denominator-at degrees lookups i) (tuple-count lookups i) (λ k. omega (arith, low (word multiplicities (multiplicity-start lookups i + k))))
+    (tuple-count lookups i) (4294967295 + denominator-at degrees lookups i) (λ k h. omega (arith, low (word multiplicities (multiplicity-start lookups i + k))))
 
 pub top-is : {d n r : ℕ} (nodes degrees lookups multiplicities : List ℕ) (i : ℕ) → DegreesSmall nodes → (d ≡ denominator-at degrees lookups i) × (d ≤ 274877906880)
     → n ≡ numerator-at nodes degrees lookups multiplicities i → r ≡ max d n → (r ≡ top-at nodes degrees lookups multiplicities i) × (r ≤ 549755813888)
@@ -38,6 +34,15 @@ top-is {d} {n} {r} nodes degrees lookups multiplicities i low ed en er =
     let h : n ≤ 4294967295 + d = rw (en, ed .0) (numerator-le nodes degrees lookups multiplicities i low) in
     let g : d ≤ 274877906880 = ed .1 in
     (er ∙ ap₂ max (ed .0) en, omega (arith, er))
+
+-- a weight is at most that of 64 tuples
+pub weight-le : (lookups : List ℕ) (i : ℕ) → FewUpTo lookups i → weight lookups i ≤ weight-limit lookups i → weight lookups i ≤ 549755813888
+unfolding weight-limit
+weight-le lookups i f h = omega (arith, h, most (on-bus lookups i || eqb (tuple-count lookups i) 0) (omega (arith, f .tuples)))
+  where
+    most : (b : Bool) → tuple-count lookups i ≤ 64 → cond b 4294967295 (tuple-count lookups i * 4294967295) ≤ 549755813888
+    most true g = omega arith
+    most false g = omega arith
 
 -- a column of t lookups, and one more
 within-merge : (t : ℕ) (a b : OpenColumn) → ColumnWithin (t * 549755813888) a → ColumnWithin 549755813888 b → ColumnWithin ((t + 1) * 549755813888) (merge a b)
@@ -152,11 +157,11 @@ merged-small {s} {xs} {k} {t} {o} {a} {n} f w e =
     rw e (omega (arith, w .sum))
 
 -- the words of a column, one by one
-pub column-put : {a b w x t m f : ℕ} {on ex : Bool} (l lookups : List ℕ) (k : ℕ) (o : OpenColumn) → length l ≡ 8 → on ≡ on-bus lookups (o .head) → a ≡ bit on → b ≡ name-length lookups (o .head)
-    → w ≡ saturated (o .weight) → ex ≡ exclusive lookups (o .head) → x ≡ bit ex → t ≡ saturated (o .tuples) → m ≡ saturated (o .multiplicities) → f ≡ saturated (o .flags)
-    → set (set (set (set (set (set (set (set l 0 a) 1 b) 2 w) 3 k) 4 x) 5 t) 6 m) 7 f ≡ column-words lookups k o
+pub column-put : {a b w x t m f v : ℕ} {on ex : Bool} (l lookups : List ℕ) (k : ℕ) (o : OpenColumn) → length l ≡ 9 → on ≡ on-bus lookups (o .head) → a ≡ bit on → b ≡ name-length lookups (o .head)
+    → w ≡ low-half (o .weight) → ex ≡ exclusive lookups (o .head) → x ≡ bit ex → t ≡ saturated (o .tuples) → m ≡ saturated (o .multiplicities) → f ≡ saturated (o .flags)
+    → v ≡ high-half (o .weight) → set (set (set (set (set (set (set (set (set l 0 a) 1 b) 2 w) 3 k) 4 x) 5 t) 6 m) 7 f) 8 v ≡ column-words lookups k o
 unfolding column-words
-column-put {a} {b} {w} {x} {t} {m} {f} {on} {ex} l lookups k o h e₀ ea eb ew e₁ ex′ et em ef =
+column-put {a} {b} {w} {x} {t} {m} {f} {v} {on} {ex} l lookups k o h e₀ ea eb ew e₁ ex′ et em ef ev =
     let pa = ea ∙ ap bit e₀ in
     let px = ex′ ∙ ap bit e₁ in
-    eight-set l a b w k x t m f h ∙ (λ j. pa j ∷ eb j ∷ ew j ∷ k ∷ px j ∷ et j ∷ em j ∷ ef j ∷ [])
+    nine-set l a b w k x t m f v h ∙ (λ j. pa j ∷ eb j ∷ ew j ∷ k ∷ px j ∷ et j ∷ em j ∷ ef j ∷ ev j ∷ [])

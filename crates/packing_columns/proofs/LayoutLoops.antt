@@ -30,7 +30,7 @@ use Rattle.packing_columns.specs.inner.Columns.{plan-source, columns-of,
 use Rattle.packing_columns.specs.inner.ColumnsRequires.{PlanInputs, Planned}
 use Rattle.packing_columns.specs.declared.columns.OpenColumn.{OpenColumn}
 use Rattle.packing_columns.specs.declared.columns.Plan.{Plan}
-use Rattle.packing.specs.PackSameBus.{columns, counts}
+use Rattle.packing.specs.PackSameBus.{columns}
 use Rattle.packing_columns.specs.inner.Layout.{front, list-totals, plan-counts, Layout}
 use Rattle.packing_columns.specs.laws.Planned.{heads-long}
 use Rattle.packing_columns.specs.laws.Laid.{Laid, laid}
@@ -52,6 +52,7 @@ module _ (m : Limits) (nodes : List ℕ) (l : Lookups) (f : Formed m nodes l) wh
       record {
         named = record { few = f .few-lookups; room = omega (arith, f .fitting .names) };
         each = few m nodes l f;
+        weights = f .weights;
         low = λ j. rw (ap (λ (x : List ℕ). word x j) e ∙ word-zeros (degrees 0 nodes (node-count nodes)) (1024 - node-count nodes) j)
             (omega (arith, within-tested (m .degree) (degrees 0 nodes (node-count nodes)) (degrees-low-at m 0 nodes zero-le (f .low)) j, f .degree));
       }
@@ -89,10 +90,10 @@ names-spans lookups tuples is = refl
 front-is : (n k : ℕ) (p d : List ℕ) → length p ≡ n → front n (p ++ drop k d) ≡ p
 front-is n k p d e = let z : n - 0 ≡ n = omega arith in ap (λ (j : ℕ). take j (p ++ drop k d)) z ∙ take-at p (drop k d) n e
 
-words-eight : (lookups : List ℕ) (k : ℕ) (os : List OpenColumn) → length (words-from lookups k os) ≡ 8 * length os
+words-nine : (lookups : List ℕ) (k : ℕ) (os : List OpenColumn) → length (words-from lookups k os) ≡ 9 * length os
 unfolding words-from column-words
-words-eight lookups k [] = refl
-words-eight lookups k (o ∷ os) = omega (arith, words-eight lookups (suc k) os)
+words-nine lookups k [] = refl
+words-nine lookups k (o ∷ os) = omega (arith, words-nine lookups (suc k) os)
 
 at-front : {b : List ℕ} (p q : List ℕ) (n : ℕ) → b ≡ p ++ q → length p ≡ n → n ≤ length b
 at-front p q n e l = omega (arith, ap length e ∙ length-append p q)
@@ -109,19 +110,19 @@ layout-is m nodes l f limit {b} {d} {r} eb ed p =
         few = p .few;
         order-room = at-front (ordered (l .lookups) (l .names)) (drop N (replicate 64 0)) N (p .order) long;
         heads-room = at-front (heads-of os) (drop (r .columns) (replicate 64 0)) (r .columns) (p .heads) (heads-long os ∙ sym (p .columns));
-        words-room = at-front (words-from (l .lookups) 0 os) (drop (8 * r .columns) (replicate 512 0)) (8 * r .columns) (p .words) words-long;
+        words-room = at-front (words-from (l .lookups) 0 os) (drop (9 * r .columns) (replicate 576 0)) (9 * r .columns) (p .words) words-long;
       };
       over = p .over ∙ k .over;
       counted = λ j. record {
-        lookups = (k .count ∙ ap (λ (x : ℕ). 8 * x) (sym (p .columns))) j;
+        lookups = (k .count ∙ ap (λ (x : ℕ). 9 * x) (sym (p .columns))) j;
         names = (ap length (k .names) ∙ parts-long Names (l .lookups) [] (l .names) (names-room l fit) (heads-of os) (k .heads) ∙ names-spans (l .lookups) (l .tuples) (heads-of os) ∙ ap (list-totals Names (l .lookups) (l .tuples)) (sym heads-are)) j;
         tuples = (ap length (k .tuples) ∙ counted Tuples (l .tuples) (tuples-room l fit)) j;
         multiplicities = (ap length (k .multiplicities) ∙ counted Multiplicities (l .multiplicities) (multiplicities-room l fit)) j;
         flags = (ap length (k .flags) ∙ counted Flags (l .flags) (flags-room l fit)) j;
         elements = (ap length (k .elements) ∙ counted Elements (l .elements) (elements-room l fit)) j;
       };
-      words = λ e j. record {
-        lookups = (k .lookups (sym (p .over) ∙ e) ∙ sym words-are) j;
+      words = λ j. record {
+        lookups = (k .lookups ∙ sym words-are) j;
         names = (k .names ∙ ap (list-parts Names (l .lookups) [] (l .names)) (sym heads-are)) j;
         tuples = (k .tuples ∙ ap (list-parts Tuples (l .lookups) (l .tuples) (l .tuples)) (sym order-is)) j;
         multiplicities = (k .multiplicities ∙ ap (list-parts Multiplicities (l .lookups) (l .tuples) (l .multiplicities)) (sym order-is)) j;
@@ -151,11 +152,11 @@ layout-is m nodes l f limit {b} {d} {r} eb ed p =
     heads-are : front (r .columns) (r .heads) ≡ heads-of os
     heads-are = ap (front (r .columns)) (p .heads) ∙ front-is (r .columns) (r .columns) (heads-of os) (replicate 64 0) (heads-long os ∙ sym (p .columns))
 
-    words-long : length (words-from (l .lookups) 0 os) ≡ 8 * r .columns
-    words-long = words-eight (l .lookups) 0 os ∙ ap (λ (x : ℕ). 8 * x) (sym (p .columns))
+    words-long : length (words-from (l .lookups) 0 os) ≡ 9 * r .columns
+    words-long = words-nine (l .lookups) 0 os ∙ ap (λ (x : ℕ). 9 * x) (sym (p .columns))
 
-    words-are : front (8 * r .columns) (r .words) ≡ words-from (l .lookups) 0 os
-    words-are = ap (front (8 * r .columns)) (p .words) ∙ front-is (8 * r .columns) (8 * r .columns) (words-from (l .lookups) 0 os) (replicate 512 0) words-long
+    words-are : front (9 * r .columns) (r .words) ≡ words-from (l .lookups) 0 os
+    words-are = ap (front (9 * r .columns)) (p .words) ∙ front-is (9 * r .columns) (9 * r .columns) (words-from (l .lookups) 0 os) (replicate 576 0) words-long
 
     counted : (list : LookupList) (src : List ℕ) → list-start list (l .lookups) (l .tuples) N ≤ length src
         → length (list-parts list (l .lookups) (l .tuples) src (ordered (l .lookups) (l .names))) ≡ list-totals list (l .lookups) (l .tuples) (front N (r .order))
@@ -167,5 +168,5 @@ layout-is m nodes l f limit {b} {d} {r} eb ed p =
 pub counts-are : {a b c d e : ℕ} (r : Plan) (lookups tuples : List ℕ) → a ≡ list-totals Names lookups tuples (front (r .columns) (r .heads)) → b ≡ list-totals Tuples lookups tuples (front (lookup-count lookups) (r .order))
     → c ≡ list-totals Multiplicities lookups tuples (front (lookup-count lookups) (r .order)) → d ≡ list-totals Flags lookups tuples (front (lookup-count lookups) (r .order))
     → e ≡ list-totals Elements lookups tuples (front (lookup-count lookups) (r .order))
-    → _≡_ {A = Counts} (record { lookups = 8 * r .columns; names = a; tuples = b; multiplicities = c; flags = d; elements = e }) (plan-counts r lookups tuples)
-counts-are r lookups tuples ea eb ec ed ee = λ j. record { lookups = 8 * r .columns; names = ea j; tuples = eb j; multiplicities = ec j; flags = ed j; elements = ee j }
+    → _≡_ {A = Counts} (record { lookups = 9 * r .columns; names = a; tuples = b; multiplicities = c; flags = d; elements = e }) (plan-counts r lookups tuples)
+counts-are r lookups tuples ea eb ec ed ee = λ j. record { lookups = 9 * r .columns; names = ea j; tuples = eb j; multiplicities = ec j; flags = ed j; elements = ee j }

@@ -1,8 +1,8 @@
 -- The turns of the plan: one column more.
 use mathlib.Core.Path.{_≡_, refl, sym, ap, ap₂, _∙_, subst}
-use mathlib.Core.Bool.{Bool, true, false, _||_, or-false, or-assoc}
+use mathlib.Core.Bool.{Bool, true, false, _&&_, _||_, or-false, or-assoc}
 use mathlib.Core.List.{List, [], _∷_, _++_, append-nil, append-assoc, head-eq-of-cons-eq, tail-eq-of-cons-eq}
-use Prim.Native.Nat.{ℕ, zero, suc, _+_, _*_, _-_, _<_, _≤_, zero-le}
+use Prim.Native.Nat.{ℕ, suc, _+_, _*_, _-_, _<_, _≤_, zero-le}
 use native.Mathlib.Numerals.{add-one}
 use native.Mathlib.Omega.{arith}
 use lib.Dec.{ltb}
@@ -10,8 +10,7 @@ use lib.ListN.{length, take, drop, getD, set, replicate, length-append, length-d
 use lib.Seq.{drop-cons, take-suc, take-at}
 use borrow.Rule.Slice.PartMut.{putMid}
 use Rattle.lists.specs.laws.Filled.{Filled, filled-none, filled-one, filled-part}
-use Rattle.expression.specs.Words.{word}
-use Rattle.lookup.specs.Lookups.{lookup-count}
+use Rattle.lookup.specs.Lookups.{lookup-count, on-bus}
 use Rattle.lookup.specs.Buses.{name-at, alone-at}
 use Rattle.lookup_buses.specs.laws.Order.{arranged-length, arranged-below}
 use Rattle.packing_columns.specs.inner.Columns.{PlanSource, columns-of, ordered, column-words, words-from, heads-of, over-of}
@@ -19,7 +18,6 @@ use Rattle.packing_columns.specs.inner.LookupListsRequires.{LookupNumber
 use Rattle.packing_columns.specs.inner.ColumnsRequires.{ColumnTaken, Planned}
 use Rattle.packing_columns.specs.declared.columns.OpenColumn.{OpenColumn}
 use Rattle.packing_columns.specs.declared.columns.NextColumn.{NextColumn}
-use Rattle.packing_columns.specs.declared.columns.Plan.{Plan}
 
 -- a list of which x is the next
 next-one : (L rest : List OpenColumn) (c : ℕ) (x : OpenColumn) → drop c L ≡ x ∷ rest → (take (c + 1) L ≡ take c L ++ (x ∷ [])) × (drop (c + 1) L ≡ rest)
@@ -33,10 +31,13 @@ unfolding heads-of
 heads-snoc [] o = refl
 heads-snoc (x ∷ os) o = ap (λ (l : List ℕ). x .head ∷ l) (heads-snoc os o)
 
-over-snoc : (os : List OpenColumn) (o : OpenColumn) → over-of (os ++ (o ∷ [])) ≡ (over-of os || ltb 4294967295 (o .weight))
+over-snoc : (lookups : List ℕ) (os : List OpenColumn) (o : OpenColumn)
+    → over-of lookups (os ++ (o ∷ [])) ≡ (over-of lookups os || (on-bus lookups (o .head) && ltb 4294967295 (o .weight)))
 unfolding over-of
-over-snoc [] o = or-false (ltb 4294967295 (o .weight))
-over-snoc (x ∷ os) o = ap (λ (b : Bool). ltb 4294967295 (x .weight) || b) (over-snoc os o) ∙ sym (or-assoc (ltb 4294967295 (x .weight)) (over-of os) (ltb 4294967295 (o .weight)))
+over-snoc lookups [] o = or-false (on-bus lookups (o .head) && ltb 4294967295 (o .weight))
+over-snoc lookups (x ∷ os) o =
+    ap (λ (b : Bool). (on-bus lookups (x .head) && ltb 4294967295 (x .weight)) || b) (over-snoc lookups os o)
+    ∙ sym (or-assoc (on-bus lookups (x .head) && ltb 4294967295 (x .weight)) (over-of lookups os) (on-bus lookups (o .head) && ltb 4294967295 (o .weight)))
 
 words-snoc : (lookups : List ℕ) (k : ℕ) (os : List OpenColumn) (o : OpenColumn) → words-from lookups k (os ++ (o ∷ [])) ≡ words-from lookups k os ++ column-words lookups (k + length os) o
 unfolding words-from
@@ -46,9 +47,9 @@ words-snoc lookups k (x ∷ os) o =
     ap (λ (l : List ℕ). column-words lookups k x ++ l) (words-snoc lookups (suc k) os o ∙ ap (λ (n : ℕ). words-from lookups (suc k) os ++ column-words lookups n o) e)
     ∙ sym (append-assoc (column-words lookups k x) (words-from lookups (suc k) os) (column-words lookups (k + suc (length os)) o))
 
-words-eight : (lookups : List ℕ) (k : ℕ) (o : OpenColumn) → length (column-words lookups k o) ≡ 8
+words-nine : (lookups : List ℕ) (k : ℕ) (o : OpenColumn) → length (column-words lookups k o) ≡ 9
 unfolding column-words
-words-eight lookups k o = refl
+words-nine lookups k o = refl
 
 -- the order that is lent on
 pub order-part : {order : List ℕ} (lookups names : List ℕ) → order ≡ ordered lookups names ++ drop (lookup-count lookups) (replicate 64 0)
@@ -74,39 +75,40 @@ pub record Planning (s : PlanSource) (d e heads words : List ℕ) (over : Bool) 
   pub rest : drop c (columns-of s (ordered (s .lookups) (s .names))) ≡ columns-of s (drop k (ordered (s .lookups) (s .names)))
   pub size : length (take c (columns-of s (ordered (s .lookups) (s .names)))) ≡ c
   pub heads-are : Filled d (heads-of (take c (columns-of s (ordered (s .lookups) (s .names))))) c heads
-  pub words-are : Filled e (words-from (s .lookups) 0 (take c (columns-of s (ordered (s .lookups) (s .names))))) (8 * c) words
-  pub over-is : over ≡ over-of (take c (columns-of s (ordered (s .lookups) (s .names))))
+  pub words-are : Filled e (words-from (s .lookups) 0 (take c (columns-of s (ordered (s .lookups) (s .names))))) (9 * c) words
+  pub over-is : over ≡ over-of (s .lookups) (take c (columns-of s (ordered (s .lookups) (s .names))))
   pub below : c ≤ k
   pub within : k ≤ lookup-count (s .lookups)
   pub few : lookup-count (s .lookups) ≤ 64
   pub heads-room : length d ≡ 64
-  pub words-room : length e ≡ 512
+  pub words-room : length e ≡ 576
 
-pub plan-begins : {s : PlanSource} {d e : List ℕ} → lookup-count (s .lookups) ≤ 64 → length d ≡ 64 → length e ≡ 512 → Planning s d e d e false 0 0
+pub plan-begins : {s : PlanSource} {d e : List ℕ} → lookup-count (s .lookups) ≤ 64 → length d ≡ 64 → length e ≡ 576 → Planning s d e d e false 0 0
 unfolding heads-of words-from over-of
 plan-begins h l m =
     record { rest = refl; size = refl; heads-are = filled-none; words-are = filled-none; over-is = refl; below = zero-le; within = zero-le; few = h; heads-room = l; words-room = m }
 
-pub plan-turn : {s : PlanSource} {d e heads words order ys : List ℕ} {over : Bool} {c k h : ℕ} {r : NextColumn} → Planning s d e heads words over c k
+pub plan-turn : {s : PlanSource} {d e heads words order ys : List ℕ} {over on : Bool} {c k h : ℕ} {r : NextColumn} → Planning s d e heads words over c k
     → order ≡ ordered (s .lookups) (s .names) ++ drop (lookup-count (s .lookups)) (replicate 64 0) → ColumnTaken s (take (lookup-count (s .lookups) - 0) (drop 0 order)) k r
-    → h ≡ r .column .head → ys ≡ column-words (s .lookups) c (r .column)
-    → Planning s d e (set heads c h) (putMid (8 * c) (8 * c + 8 - 8 * c) words ys) (over || ltb 4294967295 (r .column .weight)) (c + 1) (r .end)
-plan-turn {s} {d} {e} {heads} {words} {order} {ys} {over} {c} {k} {h} {r} p eo tk eh ey =
+    → h ≡ r .column .head → ys ≡ column-words (s .lookups) c (r .column) → on ≡ on-bus (s .lookups) (r .column .head)
+    → Planning s d e (set heads c h) (putMid (9 * c) (9 * c + 9 - 9 * c) words ys) (over || (on && ltb 4294967295 (r .column .weight))) (c + 1) (r .end)
+plan-turn {s} {d} {e} {heads} {words} {order} {ys} {over} {on} {c} {k} {h} {r} p eo tk eh ey en =
     let xs : List ℕ = ordered (s .lookups) (s .names) in
     let L : List OpenColumn = columns-of s xs in
     let t : ColumnTaken s xs k r = subst (λ (l : List ℕ). ColumnTaken s l k r) (order-part (s .lookups) (s .names) eo) tk in
     let n = next-one L (columns-of s (drop (r .end) xs)) c (r .column) (p .rest ∙ t .is) in
     let long : length xs ≡ lookup-count (s .lookups) = arranged-length (alone-at true (s .lookups)) (name-at (s .lookups) (s .names)) (lookup-count (s .lookups)) in
-    let w : length ys ≡ 8 = ap length ey ∙ words-eight (s .lookups) c (r .column) in
-    let z : 8 * c + 8 ≡ 8 * (c + 1) = omega arith in
+    let w : length ys ≡ 9 = ap length ey ∙ words-nine (s .lookups) c (r .column) in
+    let z : 9 * c + 9 ≡ 9 * (c + 1) = omega arith in
     let b : r .end ≤ lookup-count (s .lookups) = rw (← long) (t .within) in
     record {
       rest = n .1;
       size = ap length (n .0) ∙ length-append (take c L) (r .column ∷ []) ∙ omega (arith, p .size);
       heads-are = filled-one h 0 (p .heads-are) (omega (arith, t .above, b, p .below, p .few, p .heads-room)) (ap heads-of (n .0) ∙ heads-snoc (take c L) (r .column) ∙ ap (λ (x : ℕ). heads-of (take c L) ++ (x ∷ [])) (sym eh));
-      words-are = rw (← z) (filled-part {i = 8 * c} {e = 8 * c + 8} ys (p .words-are) (omega arith) (omega (arith, t .above, b, p .below, p .few, p .words-room)) (omega (arith, w))
+      words-are = rw (← z) (filled-part {i = 9 * c} {e = 9 * c + 9} ys (p .words-are) (omega arith) (omega (arith, t .above, b, p .below, p .few, p .words-room)) (omega (arith, w))
           (ap (words-from (s .lookups) 0) (n .0) ∙ words-snoc (s .lookups) 0 (take c L) (r .column) ∙ ap (λ (x : List ℕ). words-from (s .lookups) 0 (take c L) ++ x) (ap (λ (m : ℕ). column-words (s .lookups) m (r .column)) (omega (arith, p .size)) ∙ sym ey)));
-      over-is = ap (λ (x : Bool). x || ltb 4294967295 (r .column .weight)) (p .over-is) ∙ sym (over-snoc (take c L) (r .column)) ∙ ap over-of (sym (n .0));
+      over-is = ap₂ (λ (x y : Bool). x || (y && ltb 4294967295 (r .column .weight))) (p .over-is) en
+          ∙ sym (over-snoc (s .lookups) (take c L) (r .column)) ∙ ap (over-of (s .lookups)) (sym (n .0));
       below = omega (arith, t .above, p .below);
       within = b;
       few = p .few;
@@ -115,7 +117,7 @@ plan-turn {s} {d} {e} {heads} {words} {order} {ys} {over} {c} {k} {h} {r} p eo t
     }
 
 -- all columns are made
-pub plan-ends : {s : PlanSource} {heads words order : List ℕ} {over : Bool} {c k : ℕ} → Planning s (replicate 64 0) (replicate 512 0) heads words over c k → lookup-count (s .lookups) ≤ k
+pub plan-ends : {s : PlanSource} {heads words order : List ℕ} {over : Bool} {c k : ℕ} → Planning s (replicate 64 0) (replicate 576 0) heads words over c k → lookup-count (s .lookups) ≤ k
     → order ≡ ordered (s .lookups) (s .names) ++ drop (lookup-count (s .lookups)) (replicate 64 0)
     → Planned s (record { order = order; heads = heads; words = words; columns = c; over = over })
 unfolding columns-of
@@ -130,8 +132,8 @@ plan-ends {s} {heads} {words} {order} {over} {c} {k} p h eo =
       columns = sym (p .size) ∙ ap length all;
       few = omega (arith, p .below, p .within);
       heads = p .heads-are .is ∙ ap (λ (x : List OpenColumn). heads-of x ++ drop c (replicate 64 0)) all;
-      words = p .words-are .is ∙ ap (λ (x : List OpenColumn). words-from (s .lookups) 0 x ++ drop (8 * c) (replicate 512 0)) all;
-      over = p .over-is ∙ ap over-of all;
+      words = p .words-are .is ∙ ap (λ (x : List OpenColumn). words-from (s .lookups) 0 x ++ drop (9 * c) (replicate 576 0)) all;
+      over = p .over-is ∙ ap (over-of (s .lookups)) all;
     }
 
 -- the next column begins within the order

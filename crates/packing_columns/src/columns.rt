@@ -1,4 +1,6 @@
 // The columns of packing: greedily filled, one after the other.
+use expression::words::high_half;
+use expression::words::low_half;
 use expression::words::saturate_u32;
 use expression::words::to_u64;
 use expression::words::to_usize;
@@ -11,6 +13,7 @@ use lookup::types::MULTIPLICITY_COUNT_WORD;
 use lookup::types::NAME_LENGTH_WORD;
 use lookup::types::SCOPE_WORD;
 use lookup::types::TUPLE_COUNT_WORD;
+use lookup::types::WEIGHT_HIGH_WORD;
 use lookup::types::WEIGHT_WORD;
 use lookup::types::exclusive;
 use lookup::types::flag_count;
@@ -28,11 +31,12 @@ ghost use mathlib.Core.List.{[]};
 ghost use Prim.Native.Nat.{_+_, _<_, _≤_};
 ghost use lib.ListN.{length};
 ghost use Rattle.expression.specs.Values.{bit};
-ghost use Rattle.lookup.specs.Lookups.{Lookups, bus-lookups, lookup-words, lookup-count};
+ghost use Rattle.lookup.specs.Lookups.{Lookups, bus-lookups, lookup-words, lookup-count, weight};
+ghost use Rattle.lookup.specs.Tests.{weight-limit};
 ghost use Rattle.lookup.specs.Requires.{BusNames};
 ghost use Rattle.lookup_degree.specs.inner.At.{FewUpTo};
 ghost use Rattle.packing_columns.specs.inner.LookupListsRequires.{LookupNumbers};
-ghost use Rattle.packing_columns.specs.inner.Columns.{PlanSource, plan-source, top-at, opened, merge, column-degree, fits, saturated, column-words};
+ghost use Rattle.packing_columns.specs.inner.Columns.{PlanSource, plan-source, top-at, opened, merge, column-degree, fits, column-words};
 ghost use Rattle.packing_columns.specs.inner.ColumnsRequires.{ColumnWithin, DegreesSmall, PlanInputs, ColumnTaken, Planned};
 
 // A column: its first lookup, the degree of its denominators, the larger of that and its numerator's, its weight, and how many
@@ -53,11 +57,11 @@ pub struct NextColumn {
     pub end: usize,
 }
 
-// The order of the lookups, the first lookup of each column, the columns' words, their number, and whether a weight is over 2^32 - 1.
+// The order of the lookups, the first lookup of each column, the columns' words, their number, and whether a bus column's weight is over 2^32 - 1.
 pub struct Plan {
     pub order: [u32; 64],
     pub heads: [u32; 64],
-    pub words: [u32; 512],
+    pub words: [u32; 576],
     pub columns: usize,
     pub over: bool,
 }
@@ -80,7 +84,7 @@ fn opened(
     multiplicities: &[u32],
     i: usize,
 ) -> OpenColumn
-    requires { ⌜ FewUpTo (now lookups) i × DegreesSmall (now nodes) ⌝ }
+    requires { ⌜ FewUpTo (now lookups) i × (weight (now lookups) i ≤ weight-limit (now lookups) i) × DegreesSmall (now nodes) ⌝ }
     ensures { λ r. ⌜ (r ≡ opened (now (nodes .entry)) (now (degrees .entry)) (now (lookups .entry)) (now (multiplicities .entry)) i) × ColumnWithin 549755813888 r ⌝ }
 {
     let sum = denominator_of(degrees, lookups, i);
@@ -89,7 +93,7 @@ fn opened(
         head: i,
         sum: sum,
         top: top,
-        weight: to_u64(weight(lookups, i)),
+        weight: weight(lookups, i),
         tuples: to_u64(tuple_count(lookups, i)),
         multiplicities: to_u64(multiplicity_count(lookups, i)),
         flags: to_u64(flag_count(lookups, i)),
@@ -193,12 +197,13 @@ fn put_column(lookups: &[u32], k: u32, column: OpenColumn, out: &mut [u32])
     let exclusive = mark(exclusive(lookups, head));
     out[SCOPE_WORD] = scope;
     out[NAME_LENGTH_WORD] = name;
-    out[WEIGHT_WORD] = saturate_u32(column.weight);
+    out[WEIGHT_WORD] = low_half(column.weight);
     out[COLUMN_WORD] = k;
     out[EXCLUSIVE_WORD] = exclusive;
     out[TUPLE_COUNT_WORD] = saturate_u32(column.tuples);
     out[MULTIPLICITY_COUNT_WORD] = saturate_u32(column.multiplicities);
     out[FLAG_COUNT_WORD] = saturate_u32(column.flags);
+    out[WEIGHT_HIGH_WORD] = high_half(column.weight);
 }
 
 // The plan of a table. Nothing is written before it is known whether a kept merge is over 2^32 - 1.
@@ -218,7 +223,7 @@ pub fn make_plan(
     let n = lookups.len() / LOOKUP_WORDS;
     let order = order(lookups, names, true);
     let mut heads = [0u32; 64];
-    let mut words = [0u32; 512];
+    let mut words = [0u32; 576];
     let mut over = false;
     let mut columns: usize = 0;
     let mut k = 0;
@@ -238,7 +243,7 @@ pub fn make_plan(
         let at = LOOKUP_WORDS * columns;
         let end = at + LOOKUP_WORDS;
         put_column(lookups, columns as u32, column, &mut words[at..end]);
-        over = over | (4294967295 < column.weight);
+        over = over | (on_bus(lookups, column.head) & (4294967295 < column.weight));
         columns += 1;
         k = next.end;
     }

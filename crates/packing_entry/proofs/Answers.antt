@@ -9,7 +9,6 @@ use lib.Dec.{leb}
 use lib.ListN.{length}
 use borrow.Author.Tests.{not-true, not-false, leb-true}
 use Rattle.lists.specs.Count.{total, first, or-else}
-use Rattle.lists.specs.laws.Count.{or-else-none}
 use Rattle.lists.specs.laws.Tests.{passed}
 use Rattle.field.specs.Known.{prime-of}
 use Rattle.expression.specs.Refusal.{refusal, unless}
@@ -33,7 +32,6 @@ use Rattle.lookup_degree.specs.Formed.{Formed}
 use Rattle.expression.specs.laws.Refusal.{unless-none}
 use Rattle.lookup_buses.specs.Widths.{width-in-lookup, width-in-table, expected, by-bus, lookup-refusal, table-refusal, widths-refusal}
 use Rattle.packing_columns.specs.declared.columns.Plan.{Plan}
-use Rattle.packing.specs.Packing.{overweight}
 use Rattle.packing.specs.Written.{words-of}
 use Rattle.packing.specs.PackSameBus.{single-table, holds, columns, packing-refusal, Outcome, counts, all-written, packing, packing-at}
 use Rattle.packing.specs.laws.Lengths.{NoLonger, packed-no-longer}
@@ -77,18 +75,11 @@ module _ (limit : ℕ) (nodes : List ℕ) (l lent : Lookups) {r : Plan} (y : Lay
   unfolding plan-refusal formed-refusal
   same-refusal v g = g ∙ ap₂ (λ (z : Option Refusal) (x : Bool). or-else z (unless (not x) WeightTooLarge none)) (same-widths l) (y .over)
 
-  not-over : formed-refusal limit nodes l ≡ none → r .over ≡ false
-  unfolding formed-refusal
-  not-over e =
-      let b = or-else-none {a = widths-refusal (single-table l)} {b = unless (not (overweight (columns limit nodes l))) WeightTooLarge none} e in
-      let c = unless-none (not (overweight (columns limit nodes l))) WeightTooLarge none (b .1) in
-      y .over ∙ not-true (overweight (columns limit nodes l)) (c .0)
-
-  pub roomy : Fitting l → holds lent l ≡ true → formed-refusal limit nodes l ≡ none → OutputsHold r l lent
+  pub roomy : Fitting l → holds lent l ≡ true → OutputsHold r l lent
   unfolding columns
-  roomy fit h e =
+  roomy fit h =
       let W : Lookups = words-of (columns limit nodes l) in
-      let q : W ≡ plan-words r l = y .words (not-over e) in
+      let q : W ≡ plan-words r l = y .words in
       let k = hold-lengths lent l W (packed-no-longer (node-degrees 0 nodes) limit l fit) h in
       record {
         numbered = y .numbered;
@@ -106,7 +97,7 @@ module _ (limit : ℕ) (nodes : List ℕ) (l lent : Lookups) {r : Plan} (y : Lay
       → (Packed c ≡ formed-outcome limit nodes l lent .answer) × (out ≡ formed-outcome limit nodes l lent .lists)
   unfolding formed-outcome
   packed-is {c} {out} e g o =
-      rw g (ap Packed (e ∙ sym (y .counted)), o ∙ ap (λ (x : Lookups). all-written x lent) (sym (y .words (not-over g))))
+      rw g (ap Packed (e ∙ sym (y .counted)), o ∙ ap (λ (x : Lookups). all-written x lent) (sym (y .words)))
 
   pub refused-is : {f : Refusal} (v : Verdict) → refusal v ≡ formed-refusal limit nodes l → v ≡ verdict.Refused f
       → (Refused f ≡ formed-outcome limit nodes l lent .answer) × (lent ≡ formed-outcome limit nodes l lent .lists)

@@ -47,7 +47,7 @@ fn print_trace(trace: &[u32], height: usize) {
 fn main() {
     let main = [3u32];
     let nodes = [1u32, 0, 0, 0, 1, 0];
-    let lookups = [1u32, 3, 1, 0, 0, 1, 1, 0];
+    let lookups = [1u32, 3, 1, 0, 0, 1, 1, 0, 0];
     let names = [109u8, 101, 109];
     let tuples = [1u32];
     let multiplicities = [1u32];

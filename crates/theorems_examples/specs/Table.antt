@@ -29,7 +29,7 @@ one-node = 1 ∷ 0 ∷ 0 ∷ []
 abbrev pub lookup-of : ℕ → ℕ → ℕ → ℕ → ℕ → Lookups
 lookup-of exclusive n flags count-node flag-node =
     record {
-      lookups = 1 ∷ 1 ∷ 1 ∷ 0 ∷ exclusive ∷ n ∷ n ∷ flags ∷ [];
+      lookups = 1 ∷ 1 ∷ 1 ∷ 0 ∷ exclusive ∷ n ∷ n ∷ flags ∷ 0 ∷ [];
       names = 98 ∷ [];
       tuples = replicate n 1;
       multiplicities = replicate n count-node;
@@ -82,7 +82,7 @@ generated-2 t alpha room = outcome-words (generation-at (choices-of 2 1) 1 t (li
 abbrev pub five-singles : Lookups
 five-singles =
     record {
-      lookups = joined (λ i. 1 ∷ 1 ∷ 1 ∷ i ∷ 0 ∷ 1 ∷ 1 ∷ 0 ∷ []) 0 5;
+      lookups = joined (λ i. 1 ∷ 1 ∷ 1 ∷ i ∷ 0 ∷ 1 ∷ 1 ∷ 0 ∷ 0 ∷ []) 0 5;
       names = replicate 5 98;
       tuples = replicate 5 1;
       multiplicities = replicate 5 0;
@@ -100,7 +100,7 @@ refusal-words r = answer-number r ∷ answer-details r
 
 -- one lookup of this weight
 abbrev pub weighing : ℕ → List ℕ
-weighing weight = 1 ∷ 0 ∷ weight ∷ 0 ∷ 0 ∷ 0 ∷ 0 ∷ 0 ∷ []
+weighing weight = 1 ∷ 0 ∷ weight ∷ 0 ∷ 0 ∷ 0 ∷ 0 ∷ 0 ∷ 0 ∷ []
 
 -- in a table of this height
 abbrev pub bound-of : ℕ → ℕ → List ℕ

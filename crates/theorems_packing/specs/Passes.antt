@@ -8,7 +8,7 @@ use Rattle.expression.specs.Tests.{degrees-low}
 use Rattle.expression.specs.declared.sizes.Limits.{Limits}
 use Rattle.lookup.specs.Table.{Table}
 use Rattle.lookup.specs.Tests.{sizes, words-below, known, lists-agree, in-position, rows-enough}
-use Rattle.theorems_packing.specs.Packed.{packed-table}
+use Rattle.theorems_packing.specs.Packed.{packed-table, NotOverweight}
 
 -- a table has none of refusals 1 to 5 that all entry points share
 pub record Tested (m : Limits) (p : ℕ) (t : Table) : Type 0 where
@@ -18,8 +18,8 @@ pub record Tested (m : Limits) (p : ℕ) (t : Table) : Type 0 where
   pub degrees-pass : degrees-low m (t .nodes) ≡ true
   pub lists-pass : lists-agree (node-count (t .nodes)) (t .lookups) ≡ true
 
--- For every limit, and whatever 6 and 7 say: the packed table has none of refusals 1 to 5, those of generation and constraints for its
--- columns included, and 9 only where the table has it.
+-- For every limit, and whatever 6 says, where packing has no 7: the packed table has none of refusals 1 to 5, those of generation and
+-- constraints for its columns included, and 9 only where the table has it.
 pub record PassesPacked (m : Limits) (p limit : ℕ) (t : Table) : Type 0 where
   pub tested : Tested m p (packed-table limit t)
   pub positions : in-position (packed-table limit t .lookups .lookups) ≡ true
@@ -27,4 +27,4 @@ pub record PassesPacked (m : Limits) (p limit : ℕ) (t : Table) : Type 0 where
       → rows-enough (t .traces .shape) (packed-table limit t .lookups .lookups) ≡ true
 
 abbrev pub PackedPasses : Type 0
-PackedPasses = (m : Limits) (p limit : ℕ) (t : Table) → Tested m p t → PassesPacked m p limit t
+PackedPasses = (m : Limits) (p limit : ℕ) (t : Table) → Tested m p t → NotOverweight limit t → PassesPacked m p limit t

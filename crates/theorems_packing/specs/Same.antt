@@ -8,7 +8,7 @@ use Rattle.lists.specs.Same.{same-list}
 use Rattle.lookup.specs.Lookups.{Lookup}
 use Rattle.lookup.specs.Table.{Table}
 use Rattle.lookup_buses.specs.Order.{keep}
-use Rattle.theorems_packing.specs.Packed.{packed-table}
+use Rattle.theorems_packing.specs.Packed.{packed-table, NotOverweight}
 use Rattle.balance.specs.Groups.{Member, members-of, local}
 use Rattle.balance.specs.Entries.{member-entries, entries}
 use Rattle.lookup_degree.specs.Sums.{sum-of}
@@ -37,10 +37,11 @@ AllSame p [] (u ∷ us) = ⊥
 AllSame p (t ∷ ts) [] = ⊥
 AllSame p (t ∷ ts) (u ∷ us) = Same p t u × AllSame p ts us
 
--- a table, and the table that packing makes of it
+-- a table, and the table that packing makes of it, where it has no refusal 7
 pub record IsPacked (t u : Table) : Type 0 where
   pub limit : ℕ
   pub packed : u ≡ packed-table limit t
+  pub not-over : NotOverweight limit t
 
 abbrev pub AllPacked : List Table → List Table → Type 0
 AllPacked [] [] = Unit {0}

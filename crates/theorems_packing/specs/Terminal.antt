@@ -16,7 +16,7 @@ use Rattle.lookup.specs.Table.{Table, values-of}
 use Rattle.logup.specs.Rule.{lookups-under}
 use Rattle.logup.specs.Rows.{fraction-at}
 use Rattle.logup.specs.Generation.{Generation, generation-at, accepts}
-use Rattle.theorems_packing.specs.Packed.{packed-table}
+use Rattle.theorems_packing.specs.Packed.{packed-table, NotOverweight}
 use Rattle.theorems_packing.specs.Passes.{Tested}
 use Rattle.theorems_packing.specs.Same.{on-the-bus}
 
@@ -41,11 +41,11 @@ pairs-from c n (x ∷ xs) = cond (x .local) (c .own n ∷ pairs-from c (suc n) x
 unfoldable pub challenges-of : SharedPairs → Table → List ℕ
 challenges-of c t = flatMap (λ (q : Pair (List ℕ)). q .alpha ++ q .beta) (pairs-from c 0 (lookups-of (t .lookups)))
 
--- Where generation accepts a table it accepts the packed table too, at the same pairs and with the same buffer, and the answers are the
+-- Where generation accepts a table, and packing has no refusal 7, generation accepts the packed table too, at the same pairs and with the same buffer, and the answers are the
 -- same: the same terminal, or none for both.
 abbrev pub SameTerminal : Generation → Type 0
 SameTerminal generation =
-    (limit : ℕ) (t : Table) (c : SharedPairs) (buffer : List ℕ)
+    (limit : ℕ) (t : Table) (c : SharedPairs) (buffer : List ℕ) → NotOverweight limit t
     → T (accepts (generation t (challenges-of c t) buffer .answer))
     → generation (packed-table limit t) (challenges-of c (packed-table limit t)) buffer .answer
     ≡ generation t (challenges-of c t) buffer .answer

@@ -1,5 +1,5 @@
 -- What the code adds for lookup m is what the definition lists.
-use mathlib.Core.Path.{_≡_, refl, sym, ap, ap₂, _∙_}
+use mathlib.Core.Path.{_≡_, refl, sym, ap, _∙_}
 use mathlib.Core.Bool.{Bool, cond}
 use mathlib.Core.List.{List}
 use Prim.Native.Nat.{ℕ, _+_, _*_, _-_, _<_, _≤_}
@@ -11,7 +11,7 @@ use Rattle.expression.specs.Values.{row-values}
 use Rattle.expression.specs.Requires.{Evaluable}
 use Rattle.expression.specs.declared.sizes.Shape.{Shape}
 use Rattle.expression.specs.laws.Values.{row-values-below}
-use Rattle.lookup.specs.Lookups.{Lookups, lookup-count, tuple-count, flag-count, tuple-start, tuple-width, tuple-nodes, multiplicity-node, flag-node, lookup-at}
+use Rattle.lookup.specs.Lookups.{Lookups, lookup-words, lookup-count, tuple-count, flag-count, tuple-start, tuple-width, tuple-nodes, multiplicity-node, flag-node, lookup-at}
 use Rattle.lookup.specs.Requires.{Placed}
 use Rattle.lookup.specs.laws.Tested.{placed, element-start-le}
 use Rattle.lookup.specs.Table.{values-of}
@@ -97,5 +97,5 @@ module _ (p : ℕ) (l : TableLists) (w : TablesTested p l) (m : ℕ) (h : m < lo
   pub few-rows : {t : ℕ} {s : Shape} → t ≡ T → s ≡ shape-at (l .sizes) t → s .height ≤ 1048576
   few-rows {t} e q = rw (ap (λ (x : Shape). x .height) (q ∙ ap (shape-at (l .sizes)) e)) (w .rowed m h .rows)
 
-  pub start-in : (8 * m + 8 ≤ length (G .lookups)) × (m ≤ 1024) × (tuple-start (G .lookups) m ≤ length (G .tuples)) × (length (G .tuples) ≤ 4294967295)
+  pub start-in : (lookup-words * m + lookup-words ≤ length (G .lookups)) × (m ≤ 1024) × (tuple-start (G .lookups) m ≤ length (G .tuples)) × (length (G .tuples) ≤ 4294967295)
   start-in = (own .words, omega (arith, w .few), omega (arith, own .tuples), omega (arith, w .few-tuples))

@@ -22,7 +22,7 @@ use Rattle.expression.specs.Degree.{node-degree, degrees}
 use Rattle.expression.specs.Tests.{traces-within, nodes-within, traces-fit, nodes-fit, traces-below, constants-below, nodes-known, degrees-low}
 use Rattle.expression.specs.declared.refusal.Refusal.the-variants.{SizeAtOdds, WordTooLarge, RowsMissing, WorkspaceFull, NetNotZero}
 use Rattle.lookup.specs.Lookups.{name-start, tuple-start, multiplicity-start, flag-start, element-start, tuple-width, tuple-nodes, lookup-at, lookups-of}
-use Rattle.lookup.specs.Tests.{lookups-within, lookups-fit, sizes, words-below, known, lengths-agree, nodes-present, lists-agree, has-lookups, preprocessed-enough}
+use Rattle.lookup.specs.Tests.{weight-limit, lookup-within, lookups-within, lookups-fit, sizes, words-below, known, lengths-agree, nodes-present, lists-agree, has-lookups, preprocessed-enough}
 use Rattle.balance_slots.specs.Decimal.{digits, in-order, text-less}
 use Rattle.balance_slots.specs.Slots.{add-nonzero, add, slots}
 use Rattle.balance_slots.specs.Workspace.{full, workspace-of}
@@ -41,10 +41,10 @@ columns = 1 ∷ 0 ∷ 0 ∷ 1 ∷ 1 ∷ 0 ∷ []
 
 -- the words of a local lookup of one tuple, and of one on a bus whose name has one byte
 abbrev pub local-words : List ℕ
-local-words = 0 ∷ 0 ∷ 1 ∷ 0 ∷ 0 ∷ 1 ∷ 1 ∷ 0 ∷ []
+local-words = 0 ∷ 0 ∷ 1 ∷ 0 ∷ 0 ∷ 1 ∷ 1 ∷ 0 ∷ 0 ∷ []
 
 abbrev pub bus-words : List ℕ
-bus-words = 1 ∷ 1 ∷ 1 ∷ 0 ∷ 0 ∷ 1 ∷ 1 ∷ 0 ∷ []
+bus-words = 1 ∷ 1 ∷ 1 ∷ 0 ∷ 0 ∷ 1 ∷ 1 ∷ 0 ∷ 0 ∷ []
 
 -- one table of `height` rows, with a local lookup of the tuple (node 0)
 abbrev pub one-local : ℕ → List ℕ → TableLists
@@ -101,7 +101,7 @@ exclusive rows =
       public-values = [];
       nodes = columns;
       lookups =
-          record { lookups = 0 ∷ 0 ∷ 1 ∷ 0 ∷ 1 ∷ 1 ∷ 1 ∷ 1 ∷ []; names = []; tuples = 1 ∷ []; multiplicities = 1 ∷ []; flags = 1 ∷ []; elements = 0 ∷ [] };
+          record { lookups = 0 ∷ 0 ∷ 1 ∷ 0 ∷ 1 ∷ 1 ∷ 1 ∷ 1 ∷ 0 ∷ []; names = []; tuples = 1 ∷ []; multiplicities = 1 ∷ []; flags = 1 ∷ []; elements = 0 ∷ [] };
     }
 
 -- height 4, and a preprocessed trace of 3 rows
@@ -173,7 +173,7 @@ pub cases :
     × (run-at 1 3 balanced-1 ≡ record { refusal = some SizeAtOdds; workspace = replicate 10 7 })
 unfolding addM subM negM mulM total every joined fold tab flatMap all-below all-within cabinet decode node row-of window node-value values row-values node-degree
     degrees traces-within nodes-within traces-fit nodes-fit traces-below constants-below nodes-known degrees-low name-start tuple-start
-    multiplicity-start flag-start element-start tuple-width tuple-nodes lookup-at lookups-of lookups-within lookups-fit sizes words-below known
+    multiplicity-start flag-start element-start tuple-width tuple-nodes lookup-at lookups-of weight-limit lookup-within lookups-within lookups-fit sizes words-below known
     lengths-agree nodes-present lists-agree has-lookups preprocessed-enough same-list digits in-order add-nonzero add slots full workspace-of
     unbalanced names-first group-refusal keep size-start table-part shape-at lookups-at table-at tables-of lists-fit members same-bus appears
     local-group bus-group bus-groups groups count-of entry-of row-entries member-entries entries all listed covered tables-refusal visit balance

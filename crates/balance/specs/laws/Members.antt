@@ -151,11 +151,11 @@ module _ (l : TableLists) (f : Fitted l) where
       omega (arith, e)
 
   -- a word of a lookup
-  pub entry-of-table : (t i k : ℕ) → i < size (l .sizes) lookup-count-size t → k < 8 → lookup-word (G .lookups) (size-start (l .sizes) lookup-count-size t + i) k ≡ lookup-word (T t .lookups) i k
+  pub entry-of-table : (t i k : ℕ) → i < size (l .sizes) lookup-count-size t → k < lookup-words → lookup-word (G .lookups) (size-start (l .sizes) lookup-count-size t + i) k ≡ lookup-word (T t .lookups) i k
   unfolding lookups-at
   entry-of-table t i k h g =
-      let e : 8 * (size-start (l .sizes) lookup-count-size t + i) + k ≡ lookup-words * size-start (l .sizes) lookup-count-size t + (8 * i + k) = omega arith in
-      ap (word (G .lookups)) e ∙ sym (part-at (l .sizes) lookup-count-size lookup-words t (8 * i + k) (G .lookups) (omega arith))
+      let e : lookup-words * (size-start (l .sizes) lookup-count-size t + i) + k ≡ lookup-words * size-start (l .sizes) lookup-count-size t + (lookup-words * i + k) = omega arith in
+      ap (word (G .lookups)) e ∙ sym (part-at (l .sizes) lookup-count-size lookup-words t (lookup-words * i + k) (G .lookups) (omega arith))
 
   name-of-table : (t i : ℕ) → i < size (l .sizes) lookup-count-size t → name-length (G .lookups) (size-start (l .sizes) lookup-count-size t + i) ≡ name-length (T t .lookups) i
   name-of-table t i h = ap₂ (λ (x y : ℕ). cond (not (eqb x 0)) y 0) (entry-of-table t i 0 h (omega arith)) (entry-of-table t i 1 h (omega arith))
@@ -270,7 +270,8 @@ module _ (l : TableLists) (f : Fitted l) where
     unfolding lookup-at
     lookup-of-table =
         let a : not (on-bus (G .lookups) M) ≡ not (on-bus (T t .lookups) i) = ap (λ (x : ℕ). not (not (eqb x 0))) (entry-of-table t i 0 g (omega arith)) in
-        let b : weight (G .lookups) M ≡ weight (T t .lookups) i = entry-of-table t i 2 g (omega arith) in
+        let b : weight (G .lookups) M ≡ weight (T t .lookups) i =
+        ap₂ (λ (low high : ℕ). low + 4294967296 * high) (entry-of-table t i 2 g (omega arith)) (entry-of-table t i 8 g (omega arith)) in
         let c : column (G .lookups) M ≡ column (T t .lookups) i = entry-of-table t i 3 g (omega arith) in
         let x : exclusive (G .lookups) M ≡ exclusive (T t .lookups) i = ap (λ (x : ℕ). not (eqb x 0)) (entry-of-table t i 4 g (omega arith)) in
         let n : take (name-length (G .lookups) M) (drop (name-start (G .lookups) M) (G .names)) ≡ take (name-length (T t .lookups) i) (drop (name-start (T t .lookups) i) (T t .names)) = name-is in
@@ -296,7 +297,7 @@ module _ (l : TableLists) (f : Fitted l) where
       (λ t q. own-size 9 t (G .names) (name-length (T t .lookups)) q (f .lists-covered .names) (f .each t q .names)) N (omega arith)
 
   -- a word f of each lookup, and the size g of each table that is its sum
-  whole-sums : (k g : ℕ) → k < 8 → ((t : ℕ) → t < N → size (l .sizes) g t ≡ total (λ i. lookup-word (T t .lookups) i k) (size (l .sizes) lookup-count-size t))
+  whole-sums : (k g : ℕ) → k < lookup-words → ((t : ℕ) → t < N → size (l .sizes) g t ≡ total (λ i. lookup-word (T t .lookups) i k) (size (l .sizes) lookup-count-size t))
       → total (λ i. lookup-word (G .lookups) i k) (size-start (l .sizes) lookup-count-size N) ≡ size-start (l .sizes) g N
   unfolding sized-start
   whole-sums k g h e =

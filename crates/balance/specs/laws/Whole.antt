@@ -220,7 +220,7 @@ module _ (m : Limits) (p : ℕ) (l : TableLists) (g : Sane m) (o : KnownPrime p)
   unfolding sized-start
   find k h = located (size (l .sizes) lookup-count-size) N k (omega (arith, whole-count l fitted))
 
-  entry-at : (k f : ℕ) (h : k < lookup-count (G .lookups)) → f < 8 → lookup-word (G .lookups) k f ≡ lookup-word (lookups-at l (find k h .table) .lookups) (find k h .inner) f
+  entry-at : (k f : ℕ) (h : k < lookup-count (G .lookups)) → f < lookup-words → lookup-word (G .lookups) k f ≡ lookup-word (lookups-at l (find k h .table) .lookups) (find k h .inner) f
   unfolding sized-start
   entry-at k f h b = ap (λ (x : ℕ). lookup-word (G .lookups) x f) (find k h .is) ∙ entry-of-table l fitted (find k h .table) (find k h .inner) f (find k h .short) b
 

@@ -14,7 +14,7 @@ use Rattle.expression.specs.Choices.{known}
 use Rattle.expression.specs.Refusal.{answer-number, answer-details}
 use Rattle.expression.specs.declared.choices.Choices.{Choices}
 use Rattle.expression.specs.declared.refusal.Refusal.the-variants.{SizeAtOdds}
-use Rattle.lookup.specs.Lookups.{Lookups}
+use Rattle.lookup.specs.Lookups.{Lookups, lookup-words}
 use Rattle.lookup.specs.declared.refusals.Columns.{Columns}
 use Rattle.packing.specs.Written.{written}
 use Rattle.packing.specs.PackSameBus.{Outcome, counts, all-written, packing-at}
@@ -38,7 +38,7 @@ same-part d r {i} {e} h g s l = omega (arith, part-length d i e h g, part-length
 pub still : {b m n : ℕ} → b ≤ n → m ≡ n → b ≤ m
 still h e = omega arith
 
-pub used-fits : {m n : ℕ} → m ≤ n → n ≤ 64 → Fits w64 (8 * m)
+pub used-fits : {m n : ℕ} → m ≤ n → n ≤ 64 → Fits w64 (lookup-words * m)
 used-fits h g = omega arith
 
 pub front-short : (l : List ℕ) {n k : ℕ} → n ≤ k → length (take (n - 0) (drop 0 l)) ≤ k

@@ -39,16 +39,17 @@ ends {f} {k} {n} {i} {d} w h = let e : i ≡ n = omega (arith, w .within) in w .
 pub next-times : (a b m : ℕ) → a < b → a * m + m ≤ b * m
 next-times a b m h = rw suc-mul at (mul-le-mul-right m h)
 
--- eight stores into eight words
-pub eight-set : (l : List ℕ) (a b c d e f g h : ℕ) → length l ≡ 8
-    → set (set (set (set (set (set (set (set l 0 a) 1 b) 2 c) 3 d) 4 e) 5 f) 6 g) 7 h ≡ a ∷ b ∷ c ∷ d ∷ e ∷ f ∷ g ∷ h ∷ []
-eight-set [] a b c d e f g h z = absurd (omega arith)
-eight-set (_ ∷ []) a b c d e f g h z = absurd (omega arith)
-eight-set (_ ∷ _ ∷ []) a b c d e f g h z = absurd (omega arith)
-eight-set (_ ∷ _ ∷ _ ∷ []) a b c d e f g h z = absurd (omega arith)
-eight-set (_ ∷ _ ∷ _ ∷ _ ∷ []) a b c d e f g h z = absurd (omega arith)
-eight-set (_ ∷ _ ∷ _ ∷ _ ∷ _ ∷ []) a b c d e f g h z = absurd (omega arith)
-eight-set (_ ∷ _ ∷ _ ∷ _ ∷ _ ∷ _ ∷ []) a b c d e f g h z = absurd (omega arith)
-eight-set (_ ∷ _ ∷ _ ∷ _ ∷ _ ∷ _ ∷ _ ∷ []) a b c d e f g h z = absurd (omega arith)
-eight-set (_ ∷ _ ∷ _ ∷ _ ∷ _ ∷ _ ∷ _ ∷ _ ∷ []) a b c d e f g h z = refl
-eight-set (_ ∷ _ ∷ _ ∷ _ ∷ _ ∷ _ ∷ _ ∷ _ ∷ _ ∷ l) a b c d e f g h z = absurd (omega arith)
+-- nine stores into nine words
+pub nine-set : (l : List ℕ) (a b c d e f g h i : ℕ) → length l ≡ 9
+    → set (set (set (set (set (set (set (set (set l 0 a) 1 b) 2 c) 3 d) 4 e) 5 f) 6 g) 7 h) 8 i ≡ a ∷ b ∷ c ∷ d ∷ e ∷ f ∷ g ∷ h ∷ i ∷ []
+nine-set [] a b c d e f g h i z = absurd (omega arith)
+nine-set (_ ∷ []) a b c d e f g h i z = absurd (omega arith)
+nine-set (_ ∷ _ ∷ []) a b c d e f g h i z = absurd (omega arith)
+nine-set (_ ∷ _ ∷ _ ∷ []) a b c d e f g h i z = absurd (omega arith)
+nine-set (_ ∷ _ ∷ _ ∷ _ ∷ []) a b c d e f g h i z = absurd (omega arith)
+nine-set (_ ∷ _ ∷ _ ∷ _ ∷ _ ∷ []) a b c d e f g h i z = absurd (omega arith)
+nine-set (_ ∷ _ ∷ _ ∷ _ ∷ _ ∷ _ ∷ []) a b c d e f g h i z = absurd (omega arith)
+nine-set (_ ∷ _ ∷ _ ∷ _ ∷ _ ∷ _ ∷ _ ∷ []) a b c d e f g h i z = absurd (omega arith)
+nine-set (_ ∷ _ ∷ _ ∷ _ ∷ _ ∷ _ ∷ _ ∷ _ ∷ []) a b c d e f g h i z = absurd (omega arith)
+nine-set (_ ∷ _ ∷ _ ∷ _ ∷ _ ∷ _ ∷ _ ∷ _ ∷ _ ∷ []) a b c d e f g h i z = refl
+nine-set (_ ∷ _ ∷ _ ∷ _ ∷ _ ∷ _ ∷ _ ∷ _ ∷ _ ∷ _ ∷ l) a b c d e f g h i z = absurd (omega arith)

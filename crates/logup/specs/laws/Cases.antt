@@ -1,7 +1,6 @@
 -- The worked cases c1, c2 and c4 to c7 of SPECIFICATION, section 12.1, one row alone, the examples of generation's and the constraints'
 -- refusals, a part of the reader, a ledger, and calls in field 2 and at unknown choices, as one table with one theorem.
 use Prim.Native.Nat.{ℕ, _+_, _*_}
-use mathlib.Core.Bool.{Bool, true, _&&_}
 use mathlib.Core.Option.{Option, none, some, Option·getD}
 use mathlib.Core.List.{List, [], _∷_, _++_}
 use lib.Dec.{T}
@@ -27,7 +26,7 @@ use Rattle.expression.specs.Tests.{traces-within, nodes-within, traces-fit, nod
 use Rattle.expression.specs.declared.refusal.Refusal.{Refusal}
 use Rattle.lookup.specs.Lookups.{lent-lookups, name-start, tuple-start, multiplicity-start, flag-start, element-start, tuple-width, multiplicity-node, flag-node, tuple-nodes}
 use Rattle.lookup.specs.Table.{Table}
-use Rattle.lookup.specs.Tests.{lookups-within, lookups-fit, sizes, words-below, known, lengths-agree, nodes-present, lists-agree, in-position, has-lookups, preprocessed-enough, rows-enough}
+use Rattle.lookup.specs.Tests.{weight-limit, lookup-within, lookups-within, lookups-fit, sizes, words-below, known, lengths-agree, nodes-present, lists-agree, in-position, has-lookups, preprocessed-enough, rows-enough}
 use Rattle.logup.specs.Tuple.{tuple, combine, combine-under, denominator, quotient4}
 use Rattle.logup.specs.Rule.{reversed, elements-under}
 use Rattle.logup.specs.Column.{branches, multiplicity, flag, chosen, denom, used-denom, additive-fraction, additive-fault, exclusive-fraction, exclusive-fault, fraction, fault}
@@ -62,7 +61,7 @@ table nodes columns tuples marked rows pre-width pre-height =
       nodes = nodes;
       lookups =
           record {
-            lookups = joined (λ i. 1 ∷ 1 ∷ 1 ∷ word columns i ∷ marked ∷ tuples ∷ tuples ∷ tuples * marked ∷ []) 0 (length columns);
+            lookups = joined (λ i. 1 ∷ 1 ∷ 1 ∷ word columns i ∷ marked ∷ tuples ∷ tuples ∷ tuples * marked ∷ 0 ∷ []) 0 (length columns);
             names = replicate (length columns) 109;
             tuples = replicate (length columns * tuples) 1;
             multiplicities = replicate (length columns * tuples) 1;
@@ -97,7 +96,7 @@ pair x =
       traces = no-lookup .traces;
       nodes = 0 ∷ 3 ∷ 0 ∷ 0 ∷ 7 ∷ 0 ∷ 0 ∷ x ∷ 0 ∷ 0 ∷ 1 ∷ 0 ∷ [];
       lookups =
-          lent-lookups (1 ∷ 1 ∷ 1 ∷ 0 ∷ 0 ∷ 2 ∷ 2 ∷ 0 ∷ []) (109 ∷ []) (2 ∷ 1 ∷ []) (3 ∷ 3 ∷ []) [] (0 ∷ 1 ∷ 2 ∷ []);
+          lent-lookups (1 ∷ 1 ∷ 1 ∷ 0 ∷ 0 ∷ 2 ∷ 2 ∷ 0 ∷ 0 ∷ []) (109 ∷ []) (2 ∷ 1 ∷ []) (3 ∷ 3 ∷ []) [] (0 ∷ 1 ∷ 2 ∷ []);
     }
 
 abbrev pub generated : Table → List ℕ → List ℕ → List ℕ
@@ -311,7 +310,7 @@ pub cases-hold : T (hold cases)
 unfolding powM addM negM subM mulM inverse1 add4 sub4 mul4 scale4 power4 sum4 product4 conjugate conjugate2 norm2 norm inverse4 is-zero element fold tab total every
     some-of first joined cabinet all-below all-within node decode row-of window node-value values row-values node-degree degrees traces-within
     nodes-within traces-fit nodes-fit traces-below constants-below nodes-known degrees-low name-start tuple-start multiplicity-start flag-start
-    element-start tuple-width multiplicity-node flag-node tuple-nodes lookups-within lookups-fit sizes words-below known lengths-agree nodes-present
+    element-start tuple-width multiplicity-node flag-node tuple-nodes weight-limit lookup-within lookups-within lookups-fit sizes words-below known lengths-agree nodes-present
     lists-agree in-position has-lookups preprocessed-enough rows-enough tuple combine denominator quotient4 branches multiplicity flag chosen denom
     used-denom additive-fraction additive-fault exclusive-fraction exclusive-fault fraction fault fault-refusal place fraction-at row-sum
     accumulator row-words fault-at row-fault trace first-fault used entry-refusal rows-outcome entry-outcome generation others additive-numerator

@@ -23,6 +23,6 @@ pub part-is : {a e : ℕ} (words : ℕ) (sizes l : List ℕ) (f unit t : ℕ) �
 unfolding table-part
 part-is {a} {e} words sizes l f unit t ea ee = let z : e - a ≡ unit * size words sizes f t = omega arith in ap₂ (λ (n m : ℕ). take n (drop m l)) z ea
 
--- the parts of 16 tables of 32-bit sizes, in units of at most 8 words
-pub units-small : {unit t n : ℕ} → unit ≤ 8 → t ≤ 16 → n ≤ t * 4294967295 → unit * n ≤ 549755813760
-units-small {unit} {t} {n} h g e = mul-le-mul {n₂ = 8} {m₂ = 68719476720} h (omega arith)
+-- the parts of 16 tables of 32-bit sizes, in units of at most 9 words
+pub units-small : {unit t n : ℕ} → unit ≤ 9 → t ≤ 16 → n ≤ t * 4294967295 → unit * n ≤ 618475290480
+units-small {unit} {t} {n} h g e = mul-le-mul {n₂ = 9} {m₂ = 68719476720} h (omega arith)

@@ -2,7 +2,7 @@
 use mathlib.Core.Path.{_≡_, refl}
 use mathlib.Core.Bool.{true, cond}
 use mathlib.Core.List.{List, [], _∷_}
-use Prim.Native.Nat.{ℕ, zero, suc, _+_, _*_, _/_, _%_, _<_, _≤_}
+use Prim.Native.Nat.{ℕ, zero, suc, _+_, _%_, _<_, _≤_}
 use native.Mathlib.Omega.{arith}
 use lib.Dec.{eqb, leb, ltb}
 use lib.ListN.{length}
@@ -17,14 +17,21 @@ use Rattle.expression.specs.Node.{node-count}
 use Rattle.expression.specs.Tests.{traces-within, nodes-within, traces-fit, nodes-fit}
 use Rattle.expression.specs.laws.Tested.{few-tested}
 use Rattle.expression.specs.declared.sizes.Limits.{Limits}
-use Rattle.lookup.specs.Lookups.{Lookups, lookup-words, lookup-count, name-length, column, exclusive, tuple-count, multiplicity-count, flag-count, name-start, tuple-start, multiplicity-start, flag-start, element-start, tuple-width}
+use Rattle.lookup.specs.Lookups.{Lookups, lookup-words, lookup-count, name-length, weight, column, exclusive, tuple-count, multiplicity-count, flag-count, name-start, tuple-start, multiplicity-start, flag-start, element-start, tuple-width}
 use Rattle.lookup.specs.Table.{Table}
-use Rattle.lookup.specs.Tests.{lookups-within, lookups-fit, sizes, lengths-agree, nodes-present, lists-agree, in-position}
+use Rattle.lookup.specs.Tests.{weight-limit, lookup-within, lookups-within, lookups-fit, sizes, lengths-agree, nodes-present, lists-agree, in-position}
 use Rattle.lookup.specs.Requires.{Limited, Fitting, Agreeing, Placed}
 
 below-at : (n : ℕ) (l : List ℕ) → all-below n l ≡ true → (i : ℕ) → i < length l → word l i < n
 unfolding all-below
 below-at n l e i h = ltb-true (word l i) n (every-true (λ i. ltb (word l i) n) (length l) i e h)
+
+within : (m : Limits) (lookups : List ℕ) (i : ℕ) → lookup-within m lookups i ≡ true
+    → (name-length lookups i ≤ m .«name_bytes») × (weight lookups i ≤ weight-limit lookups i)
+unfolding lookup-within
+within m lookups i h =
+    let k = passed (leb (name-length lookups i) (m .«name_bytes»)) (leb (weight lookups i) (weight-limit lookups i) ∷ []) h in
+    (leb-true _ _ (k .0), leb-true _ _ (k .1 .0))
 
 pub limited : (m : Limits) (lookups tuples : List ℕ) → lookups-within m lookups tuples ≡ true → Limited m lookups tuples
 unfolding lookups-within
@@ -33,14 +40,15 @@ limited m lookups tuples h =
     passed (leb (lookup-count lookups) (m .lookups))
     (leb (length tuples) (m .tuples)
     ∷ all-within (m .«tuple_words») tuples
-    ∷ every (λ i. leb (name-length lookups i) (m .«name_bytes»)) (lookup-count lookups)
+    ∷ every (lookup-within m lookups) (lookup-count lookups)
     ∷ [])
     h in
     record {
       few-lookups = leb-true _ _ (k .0);
       few-tuples = leb-true _ _ (k .1 .0);
       width = within-tested (m .«tuple_words») tuples (k .1 .1 .0);
-      name = λ i l. leb-true _ _ (every-true (λ i. leb (name-length lookups i) (m .«name_bytes»)) (lookup-count lookups) i (k .1 .1 .1 .0) l);
+      name = λ i l. within m lookups i (every-true (lookup-within m lookups) (lookup-count lookups) i (k .1 .1 .1 .0) l) .0;
+      weight = λ i l. within m lookups i (every-true (lookup-within m lookups) (lookup-count lookups) i (k .1 .1 .1 .0) l) .1;
     }
 
 pub fitting : (l : Lookups) → lookups-fit l ≡ true → Fitting l

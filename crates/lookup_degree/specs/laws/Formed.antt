@@ -1,13 +1,11 @@
 -- What passed refusals say of a table, and of one of its lookups.
-use mathlib.Core.Path.{_≡_, sym, ap, _∙_}
-use mathlib.Core.Bool.{Bool, true, false, _&&_, cond}
-use mathlib.Core.Option.{none, some}
+use mathlib.Core.Path.{_≡_}
+use mathlib.Core.Bool.{Bool, true, false, cond}
+use mathlib.Core.Option.{none}
 use mathlib.Core.List.{List, [], _∷_}
-use Prim.Native.Nat.{ℕ, zero, suc, _+_, _<_, _≤_, zero-le}
+use Prim.Native.Nat.{ℕ, zero, suc, _<_, _≤_, zero-le}
 use native.Mathlib.Omega.{arith}
-use lib.ListN.{length}
 use Rattle.lists.specs.Count.{total}
-use Rattle.lists.specs.laws.Count.{total-le}
 use Rattle.lists.specs.laws.Tests.{passed}
 use Rattle.expression.specs.Limits.{Sane}
 use Rattle.expression.specs.Node.{node-count}
@@ -16,11 +14,11 @@ use Rattle.expression.specs.laws.Tested.{few-tested}
 use Rattle.expression.specs.laws.Refusal.{unless-none}
 use Rattle.expression.specs.declared.sizes.Limits.{Limits}
 use Rattle.expression.specs.declared.refusal.Refusal.the-variants.{SizeAtOdds, WordTooLarge, NodeInvalid, DegreeTooHigh, LookupInvalid}
-use Rattle.lookup.specs.Lookups.{Lookups, lookup-count, exclusive, tuple-count, flag-count, tuple-start, multiplicity-start, flag-start}
+use Rattle.lookup.specs.Lookups.{Lookups, lookup-count, exclusive, tuple-count, flag-count, tuple-start, flag-start}
 use Rattle.lookup.specs.Tests.{lookups-within, lookups-fit, lists-agree}
 use Rattle.lookup.specs.Refusals.{columns-within, form-sizes, nodes-refusal, lists-refusal, form-refusal, shape-of}
-use Rattle.lookup.specs.Requires.{Fitting, Agreeing}
-use Rattle.lookup.specs.laws.Tested.{fitting, agreeing, lookups-few, placed, multiplicity-start-is}
+use Rattle.lookup.specs.Requires.{Agreeing}
+use Rattle.lookup.specs.laws.Tested.{limited, fitting, agreeing, lookups-few, placed, multiplicity-start-is}
 use Rattle.lookup.specs.declared.refusals.Columns.{Columns}
 use Rattle.lookup_degree.specs.inner.At.{FewUpTo}
 use Rattle.lookup_degree.specs.Formed.{Formed}
@@ -41,6 +39,7 @@ formed m p c nodes l g e =
       few-tuples = w .1;
       fitting = fitting l (k .1 .1 .1 .1 .0);
       agreeing = agreeing (node-count nodes) l (q .0);
+      weights = limited m (l .lookups) (l .tuples) (k .1 .1 .0) .weight;
       degree = g .degree;
       low = h .0;
     }

@@ -1,6 +1,7 @@
 -- Worked cases c8 to c10 of SPECIFICATION, section 12.1, its examples of refusals 6 and 7, and the choices of a call: one table, one theorem, by
 -- computation.
 use mathlib.Core.Path.{_≡_, refl}
+use mathlib.Core.Bool.{false}
 use mathlib.Core.List.{List, [], _∷_, _++_, flatMap, zipWith}
 use Prim.Native.Nat.{ℕ}
 use lib.ListN.{replicate}
@@ -19,7 +20,7 @@ use Rattle.expression.specs.declared.refusal.Refusal.the-variants.{SizeAtOdds, 
 use Rattle.lookup.specs.Lookups.{Lookups, name-start, tuple-start, multiplicity-start, flag-start, element-start, tuple-width, multiplicity-node, flag-node, tuple-nodes, lookup-at, lookups-of}
 use Rattle.lookup.specs.Refusals.{columns-within, form-sizes, nodes-refusal, lists-refusal, form-refusal, shape-of}
 use Rattle.lookup.specs.declared.refusals.Columns.{Columns}
-use Rattle.lookup.specs.Tests.{lookups-within, lookups-fit, lengths-agree, nodes-present, lists-agree}
+use Rattle.lookup.specs.Tests.{weight-limit, lookup-within, lookups-within, lookups-fit, lengths-agree, nodes-present, lists-agree}
 use Rattle.lookup.specs.Buses.{name-at, alone-at, same-bus}
 use Rattle.lookup_degree.specs.Sums.{sum-of, largest-of, greatest}
 use Rattle.lookup_degree.specs.Degree.{tuple-degree, denominator-degree, numerator-degree, additive-degree, exclusive-degree, lookup-degree}
@@ -69,12 +70,12 @@ singles record-words n =
 
 -- c8: one lookup of two tuples; c9: one of four exclusive branches
 abbrev two : Lookups
-two = additive (1 ∷ 1 ∷ 1 ∷ 0 ∷ 0 ∷ 2 ∷ 2 ∷ 0 ∷ []) 2
+two = additive (1 ∷ 1 ∷ 1 ∷ 0 ∷ 0 ∷ 2 ∷ 2 ∷ 0 ∷ 0 ∷ []) 2
 
 abbrev four : Lookups
 four =
     record {
-      lookups = 1 ∷ 1 ∷ 1 ∷ 0 ∷ 1 ∷ 4 ∷ 4 ∷ 4 ∷ [];
+      lookups = 1 ∷ 1 ∷ 1 ∷ 0 ∷ 1 ∷ 4 ∷ 4 ∷ 4 ∷ 0 ∷ [];
       names = 98 ∷ [];
       tuples = replicate 4 1;
       multiplicities = replicate 4 0;
@@ -86,18 +87,18 @@ four =
 abbrev five : Lookups
 five =
     singles
-    (1 ∷ 1 ∷ 1 ∷ 0 ∷ 0 ∷ 1 ∷ 1 ∷ 0 ∷ 1 ∷ 1 ∷ 1 ∷ 1 ∷ 0 ∷ 1 ∷ 1 ∷ 0 ∷ 1 ∷ 1 ∷ 1 ∷ 2 ∷ 0 ∷ 1 ∷ 1 ∷ 0 ∷ 1 ∷ 1 ∷ 1 ∷ 3 ∷ 0 ∷ 1 ∷ 1 ∷ 0 ∷ 1 ∷ 1 ∷ 1 ∷ 4 ∷ 0 ∷ 1 ∷ 1 ∷ 0 ∷ [])
+    (1 ∷ 1 ∷ 1 ∷ 0 ∷ 0 ∷ 1 ∷ 1 ∷ 0 ∷ 0 ∷ 1 ∷ 1 ∷ 1 ∷ 1 ∷ 0 ∷ 1 ∷ 1 ∷ 0 ∷ 0 ∷ 1 ∷ 1 ∷ 1 ∷ 2 ∷ 0 ∷ 1 ∷ 1 ∷ 0 ∷ 0 ∷ 1 ∷ 1 ∷ 1 ∷ 3 ∷ 0 ∷ 1 ∷ 1 ∷ 0 ∷ 0 ∷ 1 ∷ 1 ∷ 1 ∷ 4 ∷ 0 ∷ 1 ∷ 1 ∷ 0 ∷ 0 ∷ [])
     5
 
 -- its columns at limit 3: two of weight 2 with two tuples, one of weight 1 with one
 abbrev two-two-one : List ℕ
-two-two-one = 1 ∷ 1 ∷ 2 ∷ 0 ∷ 0 ∷ 2 ∷ 2 ∷ 0 ∷ 1 ∷ 1 ∷ 2 ∷ 1 ∷ 0 ∷ 2 ∷ 2 ∷ 0 ∷ 1 ∷ 1 ∷ 1 ∷ 2 ∷ 0 ∷ 1 ∷ 1 ∷ 0 ∷ []
+two-two-one = 1 ∷ 1 ∷ 2 ∷ 0 ∷ 0 ∷ 2 ∷ 2 ∷ 0 ∷ 0 ∷ 1 ∷ 1 ∷ 2 ∷ 1 ∷ 0 ∷ 2 ∷ 2 ∷ 0 ∷ 0 ∷ 1 ∷ 1 ∷ 1 ∷ 2 ∷ 0 ∷ 1 ∷ 1 ∷ 0 ∷ 0 ∷ []
 
 -- three lookups, on the buses "b", "a" and "b"
 abbrev b-a-b : Lookups
 b-a-b =
     record {
-      lookups = 1 ∷ 1 ∷ 1 ∷ 0 ∷ 0 ∷ 1 ∷ 1 ∷ 0 ∷ 1 ∷ 1 ∷ 1 ∷ 1 ∷ 0 ∷ 1 ∷ 1 ∷ 0 ∷ 1 ∷ 1 ∷ 1 ∷ 2 ∷ 0 ∷ 1 ∷ 1 ∷ 0 ∷ [];
+      lookups = 1 ∷ 1 ∷ 1 ∷ 0 ∷ 0 ∷ 1 ∷ 1 ∷ 0 ∷ 0 ∷ 1 ∷ 1 ∷ 1 ∷ 1 ∷ 0 ∷ 1 ∷ 1 ∷ 0 ∷ 0 ∷ 1 ∷ 1 ∷ 1 ∷ 2 ∷ 0 ∷ 1 ∷ 1 ∷ 0 ∷ 0 ∷ [];
       names = 98 ∷ 97 ∷ 98 ∷ [];
       tuples = replicate 3 1;
       multiplicities = replicate 3 0;
@@ -109,7 +110,7 @@ b-a-b =
 abbrev mem : Lookups
 mem =
     record {
-      lookups = 1 ∷ 3 ∷ 1 ∷ 0 ∷ 0 ∷ 1 ∷ 1 ∷ 0 ∷ 1 ∷ 3 ∷ 1 ∷ 1 ∷ 0 ∷ 1 ∷ 1 ∷ 0 ∷ [];
+      lookups = 1 ∷ 3 ∷ 1 ∷ 0 ∷ 0 ∷ 1 ∷ 1 ∷ 0 ∷ 0 ∷ 1 ∷ 3 ∷ 1 ∷ 1 ∷ 0 ∷ 1 ∷ 1 ∷ 0 ∷ 0 ∷ [];
       names = 109 ∷ 101 ∷ 109 ∷ 109 ∷ 101 ∷ 109 ∷ [];
       tuples = 2 ∷ 3 ∷ [];
       multiplicities = 0 ∷ 0 ∷ [];
@@ -121,7 +122,7 @@ mem =
 abbrev mem-tables : ℕ → List ℕ → BusTables
 mem-tables multiplicities tuples =
     record {
-      lookups = 1 ∷ 3 ∷ 1 ∷ 0 ∷ 0 ∷ 1 ∷ 1 ∷ 0 ∷ 1 ∷ 3 ∷ 1 ∷ 0 ∷ 0 ∷ 1 ∷ multiplicities ∷ 0 ∷ [];
+      lookups = 1 ∷ 3 ∷ 1 ∷ 0 ∷ 0 ∷ 1 ∷ 1 ∷ 0 ∷ 0 ∷ 1 ∷ 3 ∷ 1 ∷ 0 ∷ 0 ∷ 1 ∷ multiplicities ∷ 0 ∷ 0 ∷ [];
       names = 109 ∷ 101 ∷ 109 ∷ 109 ∷ 101 ∷ 109 ∷ [];
       tuples = tuples;
       sizes = 1 ∷ 3 ∷ 1 ∷ 1 ∷ 3 ∷ 1 ∷ [];
@@ -129,13 +130,25 @@ mem-tables multiplicities tuples =
 
 -- refusal 7: weights 4294967295 and 1
 abbrev heavy : Lookups
-heavy = singles (1 ∷ 1 ∷ 4294967295 ∷ 0 ∷ 0 ∷ 1 ∷ 1 ∷ 0 ∷ 1 ∷ 1 ∷ 1 ∷ 1 ∷ 0 ∷ 1 ∷ 1 ∷ 0 ∷ []) 2
+heavy = singles (1 ∷ 1 ∷ 4294967295 ∷ 0 ∷ 0 ∷ 1 ∷ 1 ∷ 0 ∷ 0 ∷ 1 ∷ 1 ∷ 1 ∷ 1 ∷ 0 ∷ 1 ∷ 1 ∷ 0 ∷ 0 ∷ []) 2
+
+-- a local of n tuples; its weight is low + 2³² × high
+abbrev local-of : ℕ → ℕ → ℕ → Lookups
+local-of n low high =
+    record {
+      lookups = 0 ∷ 0 ∷ low ∷ 0 ∷ 0 ∷ n ∷ n ∷ 0 ∷ high ∷ [];
+      names = [];
+      tuples = replicate n 1;
+      multiplicities = replicate n 0;
+      flags = [];
+      elements = replicate n 0;
+    }
 
 -- two exclusive lookups on one bus, of one branch each
 abbrev branches : Lookups
 branches =
     record {
-      lookups = 1 ∷ 1 ∷ 1 ∷ 0 ∷ 1 ∷ 1 ∷ 1 ∷ 1 ∷ 1 ∷ 1 ∷ 1 ∷ 1 ∷ 1 ∷ 1 ∷ 1 ∷ 1 ∷ [];
+      lookups = 1 ∷ 1 ∷ 1 ∷ 0 ∷ 1 ∷ 1 ∷ 1 ∷ 1 ∷ 0 ∷ 1 ∷ 1 ∷ 1 ∷ 1 ∷ 1 ∷ 1 ∷ 1 ∷ 1 ∷ 0 ∷ [];
       names = 98 ∷ 98 ∷ [];
       tuples = 1 ∷ 1 ∷ [];
       multiplicities = 0 ∷ 0 ∷ [];
@@ -146,12 +159,12 @@ branches =
 -- lent lists with room for five lookups, all 9
 abbrev room : Lookups
 room =
-    record { lookups = replicate 40 9; names = replicate 5 9; tuples = replicate 5 9; multiplicities = replicate 5 9; flags = []; elements = replicate 5 9 }
+    record { lookups = replicate 45 9; names = replicate 5 9; tuples = replicate 5 9; multiplicities = replicate 5 9; flags = []; elements = replicate 5 9 }
 
 -- lent lists with room for its columns at limit 3, and no more
 abbrev snug : Lookups
 snug =
-    record { lookups = replicate 24 9; names = replicate 3 9; tuples = replicate 5 9; multiplicities = replicate 5 9; flags = []; elements = replicate 5 9 }
+    record { lookups = replicate 27 9; names = replicate 3 9; tuples = replicate 5 9; multiplicities = replicate 5 9; flags = []; elements = replicate 5 9 }
 
 pub cases :
     -- c8: two additive tuples, all of degree 1: degree 3
@@ -161,7 +174,7 @@ pub cases :
     -- c10: five one-tuple additive lookups of degree 1 on one bus, limit 3: columns of 2, 2, 1; what lies past them is untouched
     × (packed-with 3 five room .lists
     ≡ record {
-      lookups = two-two-one ++ replicate 16 9;
+      lookups = two-two-one ++ replicate 18 9;
       names = 98 ∷ 98 ∷ 98 ∷ 9 ∷ 9 ∷ [];
       tuples = replicate 5 1;
       multiplicities = replicate 5 0;
@@ -171,11 +184,11 @@ pub cases :
     -- limit 0: five
     × (packed-with 0 five room .lists ≡ five)
     × (packed-with 0 five room .answer
-    ≡ Packed (record { lookups = 40; names = 5; tuples = 5; multiplicities = 5; flags = 0; elements = 5 }))
+    ≡ Packed (record { lookups = 45; names = 5; tuples = 5; multiplicities = 5; flags = 0; elements = 5 }))
     -- "a bus by its first additive lookup": "b" before "a", whatever their names
     × (packed-with 3 b-a-b b-a-b .lists
     ≡ record {
-      lookups = 1 ∷ 1 ∷ 2 ∷ 0 ∷ 0 ∷ 2 ∷ 2 ∷ 0 ∷ 1 ∷ 1 ∷ 1 ∷ 1 ∷ 0 ∷ 1 ∷ 1 ∷ 0 ∷ 1 ∷ 1 ∷ 1 ∷ 2 ∷ 0 ∷ 1 ∷ 1 ∷ 0 ∷ [];
+      lookups = 1 ∷ 1 ∷ 2 ∷ 0 ∷ 0 ∷ 2 ∷ 2 ∷ 0 ∷ 0 ∷ 1 ∷ 1 ∷ 1 ∷ 1 ∷ 0 ∷ 1 ∷ 1 ∷ 0 ∷ 0 ∷ 1 ∷ 1 ∷ 1 ∷ 2 ∷ 0 ∷ 1 ∷ 1 ∷ 0 ∷ 0 ∷ [];
       names = 98 ∷ 97 ∷ 98 ∷ [];
       tuples = replicate 3 1;
       multiplicities = replicate 3 0;
@@ -196,15 +209,29 @@ pub cases :
     × (widths-at (in-field 1) (mem-tables 0 (2 ∷ 3 ∷ [])) ≡ widths.Refused LookupInvalid)
     -- 7: weights 4294967295 and 1; a merge that is not kept is none
     × (packed-with 3 heavy room ≡ record { answer = Refused WeightTooLarge; lists = room })
+    -- the column that it would have is over the limit of a bus weight: no other entry point would take it
+    × (lookups-within cabinet (words-of (columns 3 one-node heavy) .lookups) (words-of (columns 3 one-node heavy) .tuples) ≡ false)
     × (packed-with 2 heavy room .answer
-    ≡ Packed (record { lookups = 16; names = 2; tuples = 2; multiplicities = 2; flags = 0; elements = 2 }))
+    ≡ Packed (record { lookups = 18; names = 2; tuples = 2; multiplicities = 2; flags = 0; elements = 2 }))
+    -- a local's weight may be 2³² - 1 for each tuple, and without tuples 2³² - 1: it stays whole, and is no 7; one more is 1
+    × (packed-with 3 (local-of 2 4294967294 1) (local-of 2 9 9) .lists ≡ local-of 2 4294967294 1)
+    × (packed-with 3 (local-of 2 4294967295 1) room ≡ record { answer = Refused SizeAtOdds; lists = room })
+    × (packed-with 3 (local-of 0 4294967295 0) room .answer
+    ≡ Packed (record { lookups = 9; names = 0; tuples = 0; multiplicities = 0; flags = 0; elements = 0 }))
+    × (packed-with 3 (local-of 0 0 1) room ≡ record { answer = Refused SizeAtOdds; lists = room })
+    × (degree-of (local-of 2 4294967294 1) ≡ degree.Degree 3)
+    × (degree-of (local-of 2 4294967295 1) ≡ degree.Refused SizeAtOdds)
+    -- on a bus 2³² is 1, whatever the number of tuples
+    × (degree-of (additive (1 ∷ 1 ∷ 0 ∷ 0 ∷ 0 ∷ 2 ∷ 2 ∷ 0 ∷ 1 ∷ []) 2) ≡ degree.Refused SizeAtOdds)
+    × (widths-at (in-field 1) (record { lookups = 0 ∷ 0 ∷ 0 ∷ 0 ∷ 0 ∷ 0 ∷ 0 ∷ 0 ∷ 1 ∷ []; names = []; tuples = []; sizes = 1 ∷ 0 ∷ 0 ∷ [] })
+    ≡ widths.Refused SizeAtOdds)
     -- 2 reads the prime of the field: the first is a word of field 2, of degree 0
     × (degree-at (in-field 1) one-column (constant 2013265921) two 0 0 ≡ degree.Refused WordTooLarge)
     × (degree-at (in-field 2) one-column (constant 2013265921) two 0 0 ≡ degree.Degree 1)
     × (degree-at (in-field 2) one-column (constant 2130706433) two 0 0 ≡ degree.Refused WordTooLarge)
     × (packing-at (in-field 1) 1 one-column (constant 2013265921) five room ≡ record { answer = Refused WordTooLarge; lists = room })
     × (packing-at (in-field 2) 1 one-column (constant 2013265921) five room .answer
-    ≡ Packed (record { lookups = 8; names = 1; tuples = 5; multiplicities = 5; flags = 0; elements = 5 }))
+    ≡ Packed (record { lookups = 9; names = 1; tuples = 5; multiplicities = 5; flags = 0; elements = 5 }))
     × (packing-at (in-field 2) 1 one-column (constant 2130706433) five room ≡ record { answer = Refused WordTooLarge; lists = room })
     -- no prime in the widths
     × (widths-at (in-field 2) (mem-tables 1 (2 ∷ 3 ∷ [])) ≡ widths.Refused (WidthsDiffer 0 2 3))
@@ -217,10 +244,10 @@ pub cases :
     × (widths-at (choices-of 1 3) (mem-tables 1 (2 ∷ 2 ∷ [])) ≡ widths.Refused SizeAtOdds)
 unfolding known-field prime-of known limits-of total every first tab flatMap zipWith all-below all-within cabinet decode node node-degree degrees
     nodes-within nodes-fit constants-below nodes-known degrees-low name-start tuple-start multiplicity-start flag-start element-start tuple-width
-    multiplicity-node flag-node tuple-nodes lookup-at lookups-of lookups-within lookups-fit lengths-agree nodes-present lists-agree sum-of largest-of
+    multiplicity-node flag-node tuple-nodes lookup-at lookups-of weight-limit lookup-within lookups-within lookups-fit lengths-agree nodes-present lists-agree sum-of largest-of
     greatest tuple-degree denominator-degree numerator-degree additive-degree exclusive-degree lookup-degree columns-within form-sizes nodes-refusal
     lists-refusal form-refusal shape-of degree-refusal degree-answer degree-at keep position by-place numbers same-list name-at alone-at same-bus
     place arranged width-in-lookup width-in-table expected by-bus lookup-refusal table-refusal widths-refusal widest-in-lookup widest-in-table widest
     size-start table-part table-at tables-of lists-fit table-fits all-fit widths-answer widths-at in-order fill filled renumbered packed overweight
     lookup-words words-of holds columns packing-refusal packing packing-at
-cases = (refl, refl, refl, refl, refl, refl, refl, refl, refl, refl, refl, refl, refl, refl, refl, refl, refl, refl, refl, refl, refl, refl, refl, refl, refl, refl, refl, refl, refl)
+cases = (refl, refl, refl, refl, refl, refl, refl, refl, refl, refl, refl, refl, refl, refl, refl, refl, refl, refl, refl, refl, refl, refl, refl, refl, refl, refl, refl, refl, refl, refl, refl, refl, refl, refl, refl, refl, refl, refl)

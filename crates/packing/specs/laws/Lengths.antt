@@ -33,9 +33,9 @@ unfolding flatMap sum-of
 flat-length f [] = refl
 flat-length f (x ∷ xs) = length-append (f x) (flatMap f xs) ∙ ap (λ (n : ℕ). length (f x) + n) (flat-length f xs)
 
-eight : (x : Lookup) → length (lookup-words x) ≡ 8
+nine : (x : Lookup) → length (lookup-words x) ≡ 9
 unfolding lookup-words
-eight x = refl
+nine x = refl
 
 -- a sum over all columns that a merge does not raise
 module _ (g : Lookup → ℕ) (adds : (a b : Lookup) → g (merged a b) ≤ g a + g b) (deg : ℕ → ℕ) (limit : ℕ) where
@@ -76,10 +76,10 @@ unfolding total
 total-parts f c zero = refl
 total-parts f c (suc n) = omega (arith, total-parts f c n, total-split f (total c n) (c n))
 
-eights : (n : ℕ) → total (λ i. 8) n ≡ 8 * n
+nines : (n : ℕ) → total (λ i. 9) n ≡ 9 * n
 unfolding total
-eights zero = refl
-eights (suc n) = omega (arith, eights n)
+nines zero = refl
+nines (suc n) = omega (arith, nines n)
 
 -- sums over a table's lookups
 module _ (l : Lookups) (fit : Fitting l) where
@@ -90,10 +90,10 @@ module _ (l : Lookups) (fit : Fitting l) where
   unfolding lookups-of
   by-number g = sum-tab g (lookup-at l) N
 
-  words-sum : sum-of (λ (x : Lookup). length (lookup-words x)) (lookups-of l) ≡ 8 * N
+  words-sum : sum-of (λ (x : Lookup). length (lookup-words x)) (lookups-of l) ≡ 9 * N
   words-sum =
       by-number (λ (x : Lookup). length (lookup-words x))
-      ∙ total-cong (λ i. length (lookup-words (lookup-at l i))) (λ i. 8) N (λ i h. eight (lookup-at l i)) ∙ eights N
+      ∙ total-cong (λ i. length (lookup-words (lookup-at l i))) (λ i. 9) N (λ i h. nine (lookup-at l i)) ∙ nines N
 
   names-sum : sum-of (λ (x : Lookup). length (x .name)) (lookups-of l) ≤ length (l .names)
   unfolding lookup-at name-start
@@ -150,7 +150,7 @@ packed-no-longer deg limit l fit =
       lookups = omega (
         arith,
         flat-length lookup-words cs,
-        packed-most (λ (x : Lookup). length (lookup-words x)) words-most (λ (k : ℕ) (x : Lookup). eight (numbered k x) ∙ sym (eight x)) deg limit l,
+        packed-most (λ (x : Lookup). length (lookup-words x)) words-most (λ (k : ℕ) (x : Lookup). nine (numbered k x) ∙ sym (nine x)) deg limit l,
         words-sum l fit,
         fit .lookups,
       );
@@ -179,7 +179,7 @@ packed-no-longer deg limit l fit =
     cs = packed deg limit l
 
     words-most : (a b : Lookup) → length (lookup-words (merged a b)) ≤ length (lookup-words a) + length (lookup-words b)
-    words-most a b = rw (eight (merged a b), eight a, eight b) (omega arith)
+    words-most a b = rw (nine (merged a b), nine a, nine b) (omega arith)
 
     as-many : (ls : List Lookup)
         → sum-of (λ (x : Lookup). length (map (λ (t : List ℕ). length t) (x .tuples))) ls ≡ sum-of (λ (x : Lookup). length (x .tuples)) ls

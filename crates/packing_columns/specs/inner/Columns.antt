@@ -3,6 +3,7 @@ use mathlib.Core.Bool.{Bool, true, false, cond, _&&_, _||_}
 use mathlib.Core.List.{List, [], _∷_, _++_}
 use Prim.Native.Nat.{ℕ, suc, _+_, max, min}
 use lib.Dec.{leb, ltb}
+use Rattle.expression.specs.Words.{low-half, high-half}
 use Rattle.expression.specs.Values.{bit}
 use Rattle.lookup.specs.Lookups.{lookup-count, on-bus, name-length, weight, exclusive, tuple-count, multiplicity-count, flag-count}
 use Rattle.lookup.specs.Buses.{name-at, alone-at, same-bus}
@@ -86,7 +87,16 @@ saturated n = min n 4294967295
 -- the words of column o, the k-th
 unfoldable pub column-words : List ℕ → ℕ → OpenColumn → List ℕ
 column-words lookups k o =
-    bit (on-bus lookups (o .head)) ∷ name-length lookups (o .head) ∷ saturated (o .weight) ∷ k ∷ bit (exclusive lookups (o .head)) ∷ saturated (o .tuples) ∷ saturated (o .multiplicities) ∷ saturated (o .flags) ∷ []
+    bit (on-bus lookups (o .head))
+    ∷ name-length lookups (o .head)
+    ∷ low-half (o .weight)
+    ∷ k
+    ∷ bit (exclusive lookups (o .head))
+    ∷ saturated (o .tuples)
+    ∷ saturated (o .multiplicities)
+    ∷ saturated (o .flags)
+    ∷ high-half (o .weight)
+    ∷ []
 
 unfoldable pub words-from : List ℕ → ℕ → List OpenColumn → List ℕ
 words-from lookups k [] = []
@@ -97,7 +107,7 @@ unfoldable pub heads-of : List OpenColumn → List ℕ
 heads-of [] = []
 heads-of (o ∷ os) = o .head ∷ heads-of os
 
--- a column's weight is over 2^32 - 1
-unfoldable pub over-of : List OpenColumn → Bool
-over-of [] = false
-over-of (o ∷ os) = ltb 4294967295 (o .weight) || over-of os
+-- the weight of a bus column is over 2^32 - 1
+unfoldable pub over-of : List ℕ → List OpenColumn → Bool
+over-of lookups [] = false
+over-of lookups (o ∷ os) = (on-bus lookups (o .head) && ltb 4294967295 (o .weight)) || over-of lookups os

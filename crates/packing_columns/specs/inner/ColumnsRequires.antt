@@ -4,7 +4,8 @@ use mathlib.Core.List.{List, _∷_, _++_}
 use Prim.Native.Nat.{ℕ, _+_, _*_, _<_, _≤_}
 use lib.ListN.{length, drop, replicate}
 use Rattle.expression.specs.Words.{word}
-use Rattle.lookup.specs.Lookups.{lookup-words, lookup-count}
+use Rattle.lookup.specs.Lookups.{lookup-words, lookup-count, weight}
+use Rattle.lookup.specs.Tests.{weight-limit}
 use Rattle.lookup.specs.Requires.{BusNames}
 use Rattle.lookup_degree.specs.inner.At.{FewUpTo}
 use Rattle.packing_columns.specs.inner.Columns.{PlanSource, columns-of, ordered, words-from, heads-of, over-of}
@@ -29,6 +30,7 @@ DegreesSmall nodes = (j : ℕ) → word nodes j ≤ 4294967295
 pub record PlanInputs (nodes lookups names : List ℕ) : Type 0 where
   pub named : BusNames lookups names
   pub each : (i : ℕ) → i < lookup-count lookups → FewUpTo lookups i
+  pub weights : (i : ℕ) → i < lookup-count lookups → weight lookups i ≤ weight-limit lookups i
   pub low : DegreesSmall nodes
 
 -- the column that begins at place k of the order
@@ -45,5 +47,5 @@ pub record Planned (s : PlanSource) (r : Plan) : Type 0 where
   pub columns : r .columns ≡ length (columns-of s (ordered (s .lookups) (s .names)))
   pub few : r .columns ≤ lookup-count (s .lookups)
   pub heads : r .heads ≡ heads-of (columns-of s (ordered (s .lookups) (s .names))) ++ drop (r .columns) (replicate 64 0)
-  pub words : r .words ≡ words-from (s .lookups) 0 (columns-of s (ordered (s .lookups) (s .names))) ++ drop (lookup-words * r .columns) (replicate 512 0)
-  pub over : r .over ≡ over-of (columns-of s (ordered (s .lookups) (s .names)))
+  pub words : r .words ≡ words-from (s .lookups) 0 (columns-of s (ordered (s .lookups) (s .names))) ++ drop (lookup-words * r .columns) (replicate 576 0)
+  pub over : r .over ≡ over-of (s .lookups) (columns-of s (ordered (s .lookups) (s .names)))

@@ -1,6 +1,6 @@
 -- The packed table as the code lays it out: from the plan and the table's own lists.
 use mathlib.Core.Path.{_≡_}
-use mathlib.Core.Bool.{Bool, false, not, _&&_}
+use mathlib.Core.Bool.{Bool, not, _&&_}
 use mathlib.Core.Option.{Option, none}
 use mathlib.Core.List.{List, []}
 use Prim.Native.Nat.{ℕ, _*_, _-_, _≤_}
@@ -93,7 +93,7 @@ pub record Layout (limit : ℕ) (nodes : List ℕ) (l : Lookups) (r : Plan) : Ty
   pub numbered : PlanNumbers r (l .lookups)
   pub over : r .over ≡ overweight (columns limit nodes l)
   pub counted : counts (words-of (columns limit nodes l)) ≡ plan-counts r (l .lookups) (l .tuples)
-  pub words : r .over ≡ false → words-of (columns limit nodes l) ≡ plan-words r l
+  pub words : words-of (columns limit nodes l) ≡ plan-words r l
 
 -- one table's lists, of which each is as long as its lookups say
 pub record ListsExact (lookups names tuples : List ℕ) : Type 0 where

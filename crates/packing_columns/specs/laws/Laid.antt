@@ -1,6 +1,6 @@
 -- The words of the packed table from the plan: the lookups' words from its columns, the other lists as the lookups' parts in order.
 use mathlib.Core.Path.{_≡_, refl, sym, ap, ap₂, _∙_}
-use mathlib.Core.Bool.{Bool, true, false, cond, _||_}
+use mathlib.Core.Bool.{Bool, true, false, cond, not, _&&_, _||_}
 use mathlib.Core.List.{List, [], _∷_, _++_, append-assoc, append-nil, map, map-append, flatMap, List·Memᴰ, List·Memᴰ·head, List·Memᴰ·tail}
 use Prim.Native.Nat.{ℕ, zero, suc, _+_, _*_, _-_, _<_, _≤_, zero-le}
 use native.Mathlib.Nat.{zero-add}
@@ -148,9 +148,9 @@ name-part lookups names tuples i = part-of-total (name-length lookups) i names
 -- the plan's columns are `os`
 pub record Laid (limit : ℕ) (nodes : List ℕ) (l : Lookups) (os : List OpenColumn) : Type 0 where
   pub heads : (t : ℕ) → t < length (heads-of os) → word (heads-of os) t < lookup-count (l .lookups)
-  pub over : over-of os ≡ overweight (columns limit nodes l)
-  pub count : length (words-of (columns limit nodes l) .lookups) ≡ 8 * length os
-  pub lookups : over-of os ≡ false → words-of (columns limit nodes l) .lookups ≡ words-from (l .lookups) 0 os
+  pub over : over-of (l .lookups) os ≡ overweight (columns limit nodes l)
+  pub count : length (words-of (columns limit nodes l) .lookups) ≡ 9 * length os
+  pub lookups : words-of (columns limit nodes l) .lookups ≡ words-from (l .lookups) 0 os
   pub names : words-of (columns limit nodes l) .names ≡ list-parts Names (l .lookups) [] (l .names) (heads-of os)
   pub tuples : words-of (columns limit nodes l) .tuples ≡ list-parts Tuples (l .lookups) (l .tuples) (l .tuples) (ordered (l .lookups) (l .names))
   pub multiplicities : words-of (columns limit nodes l) .multiplicities ≡ list-parts Multiplicities (l .lookups) (l .tuples) (l .multiplicities) (ordered (l .lookups) (l .names))
@@ -160,7 +160,7 @@ pub record Laid (limit : ℕ) (nodes : List ℕ) (l : Lookups) (os : List OpenCo
 overweight-renumbered : (k : ℕ) (ls : List Lookup) → overweight (renumbered k ls) ≡ overweight ls
 unfolding overweight renumbered
 overweight-renumbered k [] = refl
-overweight-renumbered k (l ∷ ls) = ap (λ (b : Bool). ltb 4294967295 (l .weight) || b) (overweight-renumbered (suc k) ls)
+overweight-renumbered k (l ∷ ls) = ap (λ (b : Bool). (not (l .local) && ltb 4294967295 (l .weight)) || b) (overweight-renumbered (suc k) ls)
 
 module _ (m : Limits) (nodes : List ℕ) (l : Lookups) (f : Formed m nodes l) (limit : ℕ) where
   abbrev O : List ℕ
@@ -216,8 +216,8 @@ module _ (m : Limits) (nodes : List ℕ) (l : Lookups) (f : Formed m nodes l) (l
         heads = heads-match (word b) (l .lookups) (l .names) os cs ms;
         over = over-matches (word b) (l .lookups) (l .names) os cs ms ∙ sym (overweight-renumbered 0 cs) ∙ ap overweight same;
         count = ap (λ (x : List Lookup). length (flatMap lookup-words x)) (sym same) ∙ count-matches (word b) (l .lookups) (l .names) 0 os cs ms;
-        lookups = λ e. ap (flatMap lookup-words) (sym same)
-            ∙ words-match (word b) (l .lookups) (l .names) 0 os cs ms e
+        lookups = ap (flatMap lookup-words) (sym same)
+            ∙ words-match (word b) (l .lookups) (l .names) 0 os cs ms
             (kept-sum (word b) (λ (c : Lookup). length (c .tuples)) (λ (x y : Lookup). length-append (x .tuples) (y .tuples)) few-tuples)
             (kept-sum (word b) (λ (c : Lookup). length (c .multiplicities)) (λ (x y : Lookup). length-append (x .multiplicities) (y .multiplicities)) few-multiplicities)
             (kept-sum (word b) (λ (c : Lookup). length (c .flags)) (λ (x y : Lookup). length-append (x .flags) (y .flags)) few-flags);

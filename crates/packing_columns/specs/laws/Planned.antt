@@ -6,11 +6,10 @@ use Prim.Native.Nat.{ℕ, zero, suc, _+_, _*_, _<_, _≤_, max, min}
 use native.Mathlib.Omega.{arith}
 use lib.Dec.{leb, ltb}
 use lib.ListN.{length, length-append, length-take, length-drop}
-use borrow.Author.Tests.{ltb-false}
 use Rattle.lists.specs.Same.{same-list}
 use Rattle.lists.specs.laws.Count.{or-right-false}
 use Rattle.lists.specs.laws.Tab.{tab-length}
-use Rattle.expression.specs.Words.{word}
+use Rattle.expression.specs.Words.{word, low-half, high-half}
 use Rattle.expression.specs.Values.{bit}
 use Rattle.lookup.specs.Lookups.{Lookups, Lookup, lookup-count, on-bus, exclusive, name-length, tuple-count, multiplicity-count, lookup-at}
 use Rattle.lookup.specs.Requires.{Fitting, Agreeing}
@@ -153,12 +152,12 @@ module _ (n : ℕ) (l : Lookups) (nodes degrees : List ℕ) (fit : Fitting l) (a
 
 -- what columns that match say
 module _ (deg : ℕ → ℕ) (lookups names : List ℕ) where
-  pub over-matches : (os : List OpenColumn) (cs : List Lookup) → Matched deg lookups names os cs → over-of os ≡ overweight cs
+  pub over-matches : (os : List OpenColumn) (cs : List Lookup) → Matched deg lookups names os cs → over-of lookups os ≡ overweight cs
   unfolding over-of overweight
   over-matches [] [] m = refl
   over-matches [] (c ∷ cs) m = absurd m
   over-matches (o ∷ os) [] m = absurd m
-  over-matches (o ∷ os) (c ∷ cs) m = ap₂ (λ (w : ℕ) (b : Bool). ltb 4294967295 w || b) (m .0 .weight-is) (over-matches os cs (m .1))
+  over-matches (o ∷ os) (c ∷ cs) m = λ j. (m .0 .is-on j && ltb 4294967295 (m .0 .weight-is j)) || over-matches os cs (m .1) j
 
   pub names-match : (f : ℕ → List ℕ) → ((i : ℕ) → i < lookup-count lookups → f i ≡ name-at lookups names i) → (os : List OpenColumn) (cs : List Lookup) → Matched deg lookups names os cs
       → flatMap (λ (c : Lookup). c .name) cs ≡ flatMap f (heads-of os)
@@ -168,7 +167,7 @@ module _ (deg : ℕ → ℕ) (lookups names : List ℕ) where
   names-match f h (o ∷ os) [] m = absurd m
   names-match f h (o ∷ os) (c ∷ cs) m = ap₂ (λ (x y : List ℕ). x ++ y) (sym (m .0 .name-is) ∙ sym (h (o .head) (m .0 .here))) (names-match f h os cs (m .1))
 
-  pub count-matches : (k : ℕ) (os : List OpenColumn) (cs : List Lookup) → Matched deg lookups names os cs → length (flatMap lookup-words (renumbered k cs)) ≡ 8 * length os
+  pub count-matches : (k : ℕ) (os : List OpenColumn) (cs : List Lookup) → Matched deg lookups names os cs → length (flatMap lookup-words (renumbered k cs)) ≡ 9 * length os
   unfolding flatMap renumbered lookup-words
   count-matches k [] [] m = refl
   count-matches k [] (c ∷ cs) m = absurd m
@@ -178,30 +177,25 @@ module _ (deg : ℕ → ℕ) (lookups names : List ℕ) where
   held-is : (a b : ℕ) → a ≡ b → b ≤ 4294967295 → b ≡ min a 4294967295
   held-is a b e h = omega arith
 
-  or-both : (a b : Bool) → (a || b) ≡ false → (a ≡ false) × (b ≡ false)
-  or-both true b e = (e, cc)
-  or-both false b e = (refl, e)
-
-  -- no weight and no list is longer than a word says
-  pub words-match : (k : ℕ) (os : List OpenColumn) (cs : List Lookup) → Matched deg lookups names os cs → over-of os ≡ false → sum-of (λ (c : Lookup). length (c .tuples)) cs ≤ 4294967295
+  -- no list is longer than a word says
+  pub words-match : (k : ℕ) (os : List OpenColumn) (cs : List Lookup) → Matched deg lookups names os cs → sum-of (λ (c : Lookup). length (c .tuples)) cs ≤ 4294967295
       → sum-of (λ (c : Lookup). length (c .multiplicities)) cs ≤ 4294967295 → sum-of (λ (c : Lookup). length (c .flags)) cs ≤ 4294967295
       → flatMap lookup-words (renumbered k cs) ≡ words-from lookups k os
-  unfolding flatMap renumbered words-from over-of sum-of lookup-words column-words
-  words-match k [] [] m w t u f = refl
-  words-match k [] (c ∷ cs) m w t u f = absurd m
-  words-match k (o ∷ os) [] m w t u f = absurd m
-  words-match k (o ∷ os) (c ∷ cs) m w t u f =
+  unfolding flatMap renumbered words-from sum-of lookup-words column-words
+  words-match k [] [] m t u f = refl
+  words-match k [] (c ∷ cs) m t u f = absurd m
+  words-match k (o ∷ os) [] m t u f = absurd m
+  words-match k (o ∷ os) (c ∷ cs) m t u f =
       let s = m .0 in
-      let v = or-both (ltb 4294967295 (o .weight)) (over-of os) w in
       let a = ap bit (s .is-on) in
       let x = ap bit (s .is-exclusive) in
-      let we = held-is (o .weight) (c .weight) (s .weight-is) (let h : o .weight ≤ 4294967295 = ltb-false 4294967295 (o .weight) (v .0) in omega (arith, s .weight-is)) in
+      let w = sym (s .weight-is) in
       let te = held-is (o .tuples) (length (c .tuples)) (s .tuples-are) (omega arith) in
       let me = held-is (o .multiplicities) (length (c .multiplicities)) (s .multiplicities-are) (omega arith) in
       let fe = held-is (o .flags) (length (c .flags)) (s .flags-are) (omega arith) in
       let ne = sym (s .long) in
-      let rest = words-match (suc k) os cs (m .1) (v .1) (omega arith) (omega arith) (omega arith) in
-      λ j. sym a j ∷ ne j ∷ we j ∷ k ∷ sym x j ∷ te j ∷ me j ∷ fe j ∷ rest j
+      let rest = words-match (suc k) os cs (m .1) (omega arith) (omega arith) (omega arith) in
+      λ j. sym a j ∷ ne j ∷ low-half (w j) ∷ k ∷ sym x j ∷ te j ∷ me j ∷ fe j ∷ high-half (w j) ∷ rest j
 
   pub heads-match : (os : List OpenColumn) (cs : List Lookup) → Matched deg lookups names os cs → (t : ℕ) → t < length (heads-of os) → word (heads-of os) t < lookup-count lookups
   unfolding heads-of

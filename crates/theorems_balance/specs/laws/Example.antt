@@ -35,7 +35,7 @@ use Rattle.expression.specs.Degree.{node-degree, degrees}
 use Rattle.expression.specs.Tests.{traces-within, nodes-within, traces-fit, nodes-fit, traces-below, constants-below, nodes-known, degrees-low}
 use Rattle.lookup.specs.Lookups.{name-start, tuple-start, multiplicity-start, flag-start, element-start, tuple-width, tuple-nodes, lookup-at, lookups-of}
 use Rattle.lookup.specs.Sizes.{size-start, table-part}
-use Rattle.lookup.specs.Tests.{lookups-within, lookups-fit, sizes, words-below, known, lengths-agree, nodes-present, lists-agree, has-lookups, preprocessed-enough}
+use Rattle.lookup.specs.Tests.{weight-limit, lookup-within, lookups-within, lookups-fit, sizes, words-below, known, lengths-agree, nodes-present, lists-agree, has-lookups, preprocessed-enough}
 use Rattle.lookup_buses.specs.Order.{keep}
 use Rattle.logup.specs.Tuple.{combine, denominator, quotient4}
 use Rattle.logup.specs.Ledger.{Entry, post, listed as listed-in, met}
@@ -104,7 +104,7 @@ computed : Computed 1 2013265920 0 × Computed 1 2 3 × Computed 2 2130706432 0 
 unfolding powM known-field prime-of w-of addM negM subM mulM inverse1 add4 sub4 mul4 scale4 power4 sum4 conjugate conjugate2 norm2 norm inverse4
     is-zero total every joined fold tab flatMap all-below all-within Choices.known limits-of cabinet decode node row-of window node-value values
     row-values node-degree degrees traces-within nodes-within traces-fit nodes-fit traces-below constants-below nodes-known degrees-low name-start
-    tuple-start multiplicity-start flag-start element-start tuple-width tuple-nodes lookup-at lookups-of lookups-within lookups-fit sizes words-below
+    tuple-start multiplicity-start flag-start element-start tuple-width tuple-nodes lookup-at lookups-of weight-limit lookup-within lookups-within lookups-fit sizes words-below
     known lengths-agree nodes-present lists-agree has-lookups preprocessed-enough combine denominator quotient4 same-list post listed-in met
     add-nonzero add slots net-of keep size-start table-part shape-at lookups-at table-at tables-of lists-fit members same-bus appears local-group
     bus-group bus-groups groups count-of entry-of row-entries member-entries entries all listed covered tables-refusal sum-words

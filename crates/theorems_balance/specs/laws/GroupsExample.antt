@@ -26,7 +26,7 @@ use Rattle.expression.specs.Tests.{traces-within, nodes-within, traces-fit, nod
 use Rattle.expression.specs.declared.refusal.Refusal.the-variants.{NetNotZero}
 use Rattle.lookup.specs.Lookups.{name-start, tuple-start, multiplicity-start, flag-start, element-start, tuple-width, tuple-nodes, lookup-at, lookups-of}
 use Rattle.lookup.specs.Sizes.{size-start, table-part}
-use Rattle.lookup.specs.Tests.{lookups-within, lookups-fit, sizes, words-below, known, lengths-agree, nodes-present, lists-agree, has-lookups, preprocessed-enough}
+use Rattle.lookup.specs.Tests.{weight-limit, lookup-within, lookups-within, lookups-fit, sizes, words-below, known, lengths-agree, nodes-present, lists-agree, has-lookups, preprocessed-enough}
 use Rattle.lookup_buses.specs.Order.{keep}
 use Rattle.balance_slots.specs.Decimal.{digits, in-order}
 use Rattle.balance_slots.specs.Slots.{add-nonzero, add, slots}
@@ -62,7 +62,7 @@ record Computed (field : ℕ) : Type 0 where
 computed : Computed 1 × Computed 2
 unfolding known-field prime-of addM mulM total every joined fold tab flatMap all-below all-within Choices.known limits-of cabinet decode node row-of
     window node-value values row-values node-degree degrees traces-within nodes-within traces-fit nodes-fit traces-below constants-below nodes-known
-    degrees-low name-start tuple-start multiplicity-start flag-start element-start tuple-width tuple-nodes lookup-at lookups-of lookups-within
+    degrees-low name-start tuple-start multiplicity-start flag-start element-start tuple-width tuple-nodes lookup-at lookups-of weight-limit lookup-within lookups-within
     lookups-fit sizes words-below known lengths-agree nodes-present lists-agree has-lookups preprocessed-enough same-list digits in-order add-nonzero
     add slots full workspace-of unbalanced names-first group-refusal keep size-start table-part shape-at lookups-at table-at tables-of lists-fit
     members same-bus appears local-group bus-group bus-groups groups count-of entry-of row-entries member-entries entries all listed covered

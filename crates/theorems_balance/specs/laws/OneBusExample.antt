@@ -20,7 +20,7 @@ use Rattle.expression.specs.Degree.{node-degree, degrees}
 use Rattle.expression.specs.Tests.{traces-within, nodes-within, traces-fit, nodes-fit, traces-below, constants-below, nodes-known, degrees-low}
 use Rattle.lookup.specs.Lookups.{name-start, tuple-start, multiplicity-start, flag-start, element-start, tuple-width, multiplicity-node, flag-node, tuple-nodes, lookup-at}
 use Rattle.lookup.specs.Table.{Table}
-use Rattle.lookup.specs.Tests.{lookups-within, lookups-fit, sizes, words-below, known, lengths-agree, nodes-present, lists-agree, in-position, has-lookups, preprocessed-enough, rows-enough}
+use Rattle.lookup.specs.Tests.{weight-limit, lookup-within, lookups-within, lookups-fit, sizes, words-below, known, lengths-agree, nodes-present, lists-agree, in-position, has-lookups, preprocessed-enough, rows-enough}
 use Rattle.logup.specs.Tuple.{tuple}
 use Rattle.logup.specs.Ledger.{has-ledger, count, lookup-entries, row-entries, entries, post, ledger}
 use Rattle.balance_slots.specs.Nets.{net-of}
@@ -44,7 +44,7 @@ twice =
       nodes = columns;
       lookups =
           record {
-            lookups = 1 ∷ 1 ∷ 1 ∷ 0 ∷ 0 ∷ 1 ∷ 1 ∷ 0 ∷ 1 ∷ 1 ∷ 1 ∷ 1 ∷ 0 ∷ 1 ∷ 1 ∷ 0 ∷ [];
+            lookups = 1 ∷ 1 ∷ 1 ∷ 0 ∷ 0 ∷ 1 ∷ 1 ∷ 0 ∷ 0 ∷ 1 ∷ 1 ∷ 1 ∷ 1 ∷ 0 ∷ 1 ∷ 1 ∷ 0 ∷ 0 ∷ [];
             names = 98 ∷ 98 ∷ [];
             tuples = 1 ∷ 1 ∷ [];
             multiplicities = 1 ∷ 1 ∷ [];
@@ -74,7 +74,7 @@ record Computed (field : ℕ) : Type 0 where
 computed : Computed 1 × Computed 2
 unfolding prime-of addM mulM total every joined fold cabinet all-below all-within node decode row-of window node-value values row-values node-degree
     degrees traces-within nodes-within traces-fit nodes-fit traces-below constants-below nodes-known degrees-low name-start tuple-start
-    multiplicity-start flag-start element-start tuple-width multiplicity-node flag-node tuple-nodes lookups-within lookups-fit sizes words-below
+    multiplicity-start flag-start element-start tuple-width multiplicity-node flag-node tuple-nodes weight-limit lookup-within lookups-within lookups-fit sizes words-below
     known lengths-agree nodes-present lists-agree in-position has-lookups preprocessed-enough rows-enough has-ledger tuple count lookup-entries
     row-entries entries same-list post ledger
 computed = (record { has = tt; ledger-two = refl }, record { has = tt; ledger-two = refl })

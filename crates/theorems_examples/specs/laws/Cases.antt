@@ -32,7 +32,7 @@ use Rattle.logup.specs.Rule.{elements-under}
 use Rattle.logup.specs.Tuple.{tuple, combine, denominator, quotient4}
 use Rattle.lookup.specs.Refusals.{columns-within, form-sizes, nodes-refusal, lists-refusal, form-refusal, shape-of}
 use Rattle.lookup.specs.Lookups.{name-start, tuple-start, multiplicity-start, flag-start, element-start, tuple-width, multiplicity-node, flag-node, tuple-nodes, lookup-at, lookups-of}
-use Rattle.lookup.specs.Tests.{lookups-within, lookups-fit, sizes, words-below, known, lengths-agree, nodes-present, lists-agree, in-position, has-lookups, preprocessed-enough, rows-enough}
+use Rattle.lookup.specs.Tests.{weight-limit, lookup-within, lookups-within, lookups-fit, sizes, words-below, known, lengths-agree, nodes-present, lists-agree, in-position, has-lookups, preprocessed-enough, rows-enough}
 use Rattle.lookup.specs.Buses.{name-at, alone-at, same-bus}
 use Rattle.packing.specs.PackSameBus.{holds, columns, packing-refusal, packing}
 use Rattle.packing.specs.Packing.{in-order, fill, filled, renumbered, packed, overweight}
@@ -50,7 +50,7 @@ pub cases-hold : T (hold cases)
 unfolding powM addM negM subM mulM inverse1 add4 sub4 mul4 scale4 power4 sum4 product4 conjugate conjugate2 norm2 norm inverse4 is-zero element fold tab total every
     some-of first joined cabinet all-below all-within node decode row-of window node-value values row-values node-degree degrees traces-within
     nodes-within traces-fit nodes-fit traces-below constants-below nodes-known degrees-low name-start tuple-start multiplicity-start flag-start
-    element-start tuple-width multiplicity-node flag-node tuple-nodes lookups-within lookups-fit sizes words-below known lengths-agree nodes-present
+    element-start tuple-width multiplicity-node flag-node tuple-nodes weight-limit lookup-within lookups-within lookups-fit sizes words-below known lengths-agree nodes-present
     lists-agree in-position has-lookups preprocessed-enough rows-enough tuple combine denominator quotient4 branches multiplicity flag chosen denom
     used-denom additive-fraction additive-fault exclusive-fraction exclusive-fault fraction fault fault-refusal place fraction-at row-sum
     accumulator row-words fault-at row-fault trace first-fault used entry-refusal rows-outcome entry-outcome generation others additive-numerator
@@ -70,7 +70,7 @@ unfolding powM known-field prime-of w-of addM negM subM mulM inverse1 add4 sub4 
     is-zero element fold tab total every some-of first joined Choices.known known-rule limits-of cabinet all-below all-within node decode row-of
     window node-value values row-values node-degree degrees traces-within nodes-within traces-fit nodes-fit traces-below constants-below nodes-known
     degrees-low name-start tuple-start multiplicity-start flag-start element-start tuple-width multiplicity-node flag-node tuple-nodes
-    lookups-within lookups-fit sizes words-below known lengths-agree nodes-present lists-agree in-position has-lookups preprocessed-enough
+    weight-limit lookup-within lookups-within lookups-fit sizes words-below known lengths-agree nodes-present lists-agree in-position has-lookups preprocessed-enough
     rows-enough tuple combine denominator quotient4 branches multiplicity flag chosen denom used-denom additive-fraction additive-fault
     exclusive-fraction exclusive-fault fraction fault fault-refusal place fraction-at row-sum accumulator row-words fault-at row-fault trace
     first-fault used entry-refusal rows-outcome entry-outcome generation generation-at same-list size-start table-part prefix-by prefixes-fit

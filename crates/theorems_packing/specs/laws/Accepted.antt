@@ -115,7 +115,7 @@ module _ (m : Limits) (p : ℕ) where
   -- a packed table has what the table has
   packed-entered : {t u : Table} → IsPacked t u → Entered m p t → Entered m p u
   packed-entered {t} {u} k e =
-      subst (Entered m p) (sym (k .packed)) (record { tested = packed-passes m p (k .limit) t (e .tested) .tested; rows = rowed })
+      subst (Entered m p) (sym (k .packed)) (record { tested = packed-passes m p (k .limit) t (e .tested) (k .not-over) .tested; rows = rowed })
     where
       rowed : covered (packed-table (k .limit) t) ≡ true
       rowed = unfold covered in unfold has-lookups in go (ltb 0 (lookup-count (packed-table (k .limit) t .lookups .lookups))) refl

@@ -15,7 +15,7 @@ use Rattle.lists.specs.laws.Tab.{tab-none, tab-cons, tab-cong}
 use Rattle.lists.specs.laws.Sums.{total-head}
 use Rattle.lists.specs.laws.Count.{true-of}
 use Rattle.field.specs.Known.{prime-of}
-use Rattle.expression.specs.Words.{word}
+use Rattle.expression.specs.Words.{word, low-half, high-half}
 use Rattle.expression.specs.Choices.{known, limits-of}
 use Rattle.expression.specs.Values.{bit}
 use Rattle.lookup.specs.Lookups.{Lookups, Lookup, lookup-count, lookup-word, on-bus, name-length, exclusive, tuple-count, multiplicity-count, flag-count, name-start, tuple-start, multiplicity-start, flag-start, element-start, tuple-width, tuple-nodes, lookup-at, lookups-of}
@@ -104,8 +104,8 @@ module _ (c : Lookup) (un : Unnamed c) (l : Lookups) where
   entry-later : (k f : ℕ) → lookup-word (lookup-words c ++ l .lookups) (suc k) f ≡ lookup-word (l .lookups) k f
   unfolding lookup-words
   entry-later k f =
-      let z : 8 * suc k + f ≡ 8 + (8 * k + f) = omega arith in
-      ap (λ (n : ℕ). word (lookup-words c ++ l .lookups) n) z ∙ getD-append-add (lookup-words c) (l .lookups) (8 * k + f) 0
+      let z : 9 * suc k + f ≡ 9 + (9 * k + f) = omega arith in
+      ap (λ (n : ℕ). word (lookup-words c ++ l .lookups) n) z ∙ getD-append-add (lookup-words c) (l .lookups) (9 * k + f) 0
 
   name-later : (k : ℕ) → name-length (lookup-words c ++ l .lookups) (suc k) ≡ name-length (l .lookups) k
   name-later k = ap₂ (λ (s n : ℕ). cond (not (eqb s 0)) n 0) (entry-later k 0) (entry-later k 1)
@@ -160,7 +160,7 @@ module _ (c : Lookup) (un : Unnamed c) (l : Lookups) where
   unfolding lookup-at
   later k =
       let on = entry-later k 0 in
-      let we = entry-later k 2 in
+      let we = ap₂ (λ (low high : ℕ). low + 4294967296 * high) (entry-later k 2) (entry-later k 8) in
       let co = entry-later k 3 in
       let ex = entry-later k 4 in
       let na = part-later (c .name) (l .names) _ _ _ _ (name-later k) (names-start k) in
@@ -191,6 +191,7 @@ module _ (c : Lookup) (un : Unnamed c) (l : Lookups) where
   now =
       let lo = mark-back (c .local) in
       let ex = flag-back (c .exclusive) in
+      let we : low-half (c .weight) + 4294967296 * high-half (c .weight) ≡ c .weight = omega arith in
       let na = ap (λ (n : ℕ). take n (c .name ++ l .names)) name-first ∙ take-at (c .name) (l .names) (length (c .name)) refl in
       let mu = take-at (c .multiplicities) (l .multiplicities) (length (c .multiplicities)) refl in
       let fl = take-at (c .flags) (l .flags) (length (c .flags)) refl in
@@ -200,7 +201,7 @@ module _ (c : Lookup) (un : Unnamed c) (l : Lookups) where
       λ j. record {
         local = lo j;
         name = na j;
-        weight = c .weight;
+        weight = we j;
         column = c .column;
         exclusive = ex j;
         tuples = tu j;
@@ -209,7 +210,7 @@ module _ (c : Lookup) (un : Unnamed c) (l : Lookups) where
       }
 
 -- the lookups that the words of a list of lookups say are that list
-words-long : (cs : List Lookup) → length (words-of cs .lookups) ≡ 8 * length cs
+words-long : (cs : List Lookup) → length (words-of cs .lookups) ≡ 9 * length cs
 unfolding words-of flatMap lookup-words
 words-long [] = refl
 words-long (c ∷ cs) = omega (arith, words-long cs)
@@ -232,12 +233,12 @@ read-back cs u = ap (λ (n : ℕ). tab (lookup-at (words-of cs)) 0 n) (count-bac
 abbrev pub nothing : Lookup
 nothing = record { local = true; name = []; weight = 0; column = 0; exclusive = false; tuples = []; multiplicities = []; flags = [] }
 
-pub word-back : (cs : List Lookup) → Each Unnamed cs → (i f : ℕ) → i < length cs → f < 8
+pub word-back : (cs : List Lookup) → Each Unnamed cs → (i f : ℕ) → i < length cs → f < 9
     → lookup-word (words-of cs .lookups) i f ≡ word (lookup-words (getD cs i nothing)) f
 unfolding words-of flatMap
 word-back [] u i f h k = absurd (omega arith)
 word-back (c ∷ cs) u zero f h k =
-    let z : 8 * 0 + f ≡ f = omega arith in
+    let z : 9 * 0 + f ≡ f = omega arith in
     ap (word (lookup-words c ++ words-of cs .lookups)) z
     ∙ List·getD-append (lookup-words c) (words-of cs .lookups) 0 f (unfold lookup-words in k)
 word-back (c ∷ cs) u (suc i) f h k = entry-later c (u .0) (words-of cs) i f ∙ word-back cs (u .1) i f (omega arith) k
@@ -288,7 +289,7 @@ pub words-fit : (cs : List Lookup) → Each Unnamed cs → Fitting (words-of cs)
 words-fit cs u =
     let n : length cs ≡ lookup-count (words-of cs .lookups) = sym (count-back cs) in
     record {
-      lookups = words-long cs ∙ ap (λ (k : ℕ). 8 * k) n;
+      lookups = words-long cs ∙ ap (λ (k : ℕ). 9 * k) n;
       names = names-fit cs u ∙ ap (name-start (words-of cs .lookups)) n;
       tuples = tuples-fit cs u ∙ ap (tuple-start (words-of cs .lookups)) n;
       multiplicities = multiplicities-fit cs u ∙ ap (multiplicity-start (words-of cs .lookups)) n;

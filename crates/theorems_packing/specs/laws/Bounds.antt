@@ -25,6 +25,7 @@ use Rattle.lookup.specs.laws.Tested.{fitting, tuple-placed}
 use Rattle.lookup_degree.specs.Sums.{sum-of, greatest}
 use Rattle.lookup_degree.specs.Degree.{node-degrees}
 use Rattle.lookup_degree.specs.laws.Degree.{sum-tab}
+use Rattle.lookup_degree.specs.laws.Greatest.{greatest-le}
 use Rattle.lookup_buses.specs.Order.{numbers}
 use Rattle.lookup_buses.specs.Widths.{Tables, width-in-lookup, width-in-table, expected, tuple-refusal, by-bus, lookup-refusal, table-refusal, widths-refusal, widest-in-lookup, widest-in-table, widest}
 use Rattle.lookup_buses.specs.laws.Order.{sum-append, tab-map, arranged-sum, arranged-length, arranged-below}
@@ -36,7 +37,7 @@ use Rattle.packing.specs.laws.Columns.{on-one, packed-sum}
 use Rattle.theorems_packing.specs.Packed.{packed-table}
 use Rattle.theorems_packing.specs.Bounds.{SameWeightSum, packed-tables, SameHeightSum, bus-tables, SameWidths}
 use Rattle.theorems_packing.specs.laws.Each.{packed-sum-each}
-use Rattle.theorems_packing.specs.laws.Counting.{total-some, first-some, sum-word, greatest-le, le-greatest}
+use Rattle.theorems_packing.specs.laws.Counting.{total-some, first-some, sum-word, le-greatest}
 use Rattle.theorems_packing.specs.laws.Back.{columns-unnamed, columns-back, words-fit}
 use Rattle.theorems_packing.specs.laws.Entries.{local-both}
 

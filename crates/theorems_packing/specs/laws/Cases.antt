@@ -35,7 +35,7 @@ use Rattle.lookup.specs.Table.{Table, values-of}
 use Rattle.lookup.specs.Sizes.{size-start, table-part}
 use Rattle.lookup.specs.Refusals.{columns-within, form-sizes, form-refusal, shape-of}
 use Rattle.lookup.specs.Buses.{name-at, alone-at, same-bus}
-use Rattle.lookup.specs.Tests.{lookups-within, lookups-fit, sizes, words-below, known, lengths-agree, nodes-present, lists-agree, in-position, has-lookups, preprocessed-enough, rows-enough}
+use Rattle.lookup.specs.Tests.{weight-limit, lookup-within, lookups-within, lookups-fit, sizes, words-below, known, lengths-agree, nodes-present, lists-agree, in-position, has-lookups, preprocessed-enough, rows-enough}
 use Rattle.lookup.specs.laws.Tested.{sizes-passed, fitting, agreeing}
 use Rattle.lookup.specs.declared.refusals.Columns.{Columns}
 use Rattle.lookup_degree.specs.Sums.{sum-of, largest-of, greatest}
@@ -65,7 +65,7 @@ use Rattle.balance.specs.Groups as groups
 use Rattle.balance.specs.Groups.{members, appears, local-group, bus-group, bus-groups}
 use Rattle.balance.specs.Entries.{count-of, entry-of, row-entries, member-entries, entries}
 use Rattle.balance.specs.Balance.{visit, balance, check, check-at}
-use Rattle.theorems_packing.specs.Packed.{packed-table}
+use Rattle.theorems_packing.specs.Packed.{packed-table, NotOverweight}
 use Rattle.theorems_packing.specs.Passes.{Tested, PassesPacked}
 use Rattle.theorems_packing.specs.Bounds.{packed-tables, bus-tables}
 use Rattle.theorems_packing.specs.Lists.{lists-of}
@@ -84,10 +84,10 @@ abbrev counted : List ℕ → Lookups
 counted ms =
     record {
       lookups =
-          1 ∷ 1 ∷ 1 ∷ 0 ∷ 0 ∷ 1 ∷ 1 ∷ 0
-          ∷ 0 ∷ 0 ∷ 2 ∷ 1 ∷ 0 ∷ 2 ∷ 2 ∷ 0
-          ∷ 1 ∷ 1 ∷ 2 ∷ 2 ∷ 1 ∷ 2 ∷ 2 ∷ 2
-          ∷ 1 ∷ 1 ∷ 1 ∷ 3 ∷ 0 ∷ 1 ∷ 1 ∷ 0 ∷ [];
+          1 ∷ 1 ∷ 1 ∷ 0 ∷ 0 ∷ 1 ∷ 1 ∷ 0 ∷ 0
+          ∷ 0 ∷ 0 ∷ 2 ∷ 1 ∷ 0 ∷ 2 ∷ 2 ∷ 0 ∷ 0
+          ∷ 1 ∷ 1 ∷ 2 ∷ 2 ∷ 1 ∷ 2 ∷ 2 ∷ 2 ∷ 0
+          ∷ 1 ∷ 1 ∷ 1 ∷ 3 ∷ 0 ∷ 1 ∷ 1 ∷ 0 ∷ 0 ∷ [];
       names = 98 ∷ 98 ∷ 98 ∷ [];
       tuples = 1 ∷ 1 ∷ 1 ∷ 1 ∷ 1 ∷ 1 ∷ [];
       multiplicities = ms;
@@ -104,9 +104,9 @@ abbrev packed-lookups : Lookups
 packed-lookups =
     record {
       lookups =
-          0 ∷ 0 ∷ 2 ∷ 0 ∷ 0 ∷ 2 ∷ 2 ∷ 0
-          ∷ 1 ∷ 1 ∷ 2 ∷ 1 ∷ 1 ∷ 2 ∷ 2 ∷ 2
-          ∷ 1 ∷ 1 ∷ 2 ∷ 2 ∷ 0 ∷ 2 ∷ 2 ∷ 0 ∷ [];
+          0 ∷ 0 ∷ 2 ∷ 0 ∷ 0 ∷ 2 ∷ 2 ∷ 0 ∷ 0
+          ∷ 1 ∷ 1 ∷ 2 ∷ 1 ∷ 1 ∷ 2 ∷ 2 ∷ 2 ∷ 0
+          ∷ 1 ∷ 1 ∷ 2 ∷ 2 ∷ 0 ∷ 2 ∷ 2 ∷ 0 ∷ 0 ∷ [];
       names = 98 ∷ 98 ∷ [];
       tuples = 1 ∷ 1 ∷ 1 ∷ 1 ∷ 1 ∷ 1 ∷ [];
       multiplicities = 1 ∷ 2 ∷ 3 ∷ 3 ∷ 1 ∷ 1 ∷ [];
@@ -119,8 +119,8 @@ abbrev wide : Lookups
 wide =
     record {
       lookups =
-          1 ∷ 1 ∷ 1 ∷ 0 ∷ 0 ∷ 1 ∷ 1 ∷ 0
-          ∷ 1 ∷ 1 ∷ 1 ∷ 1 ∷ 0 ∷ 1 ∷ 1 ∷ 0 ∷ [];
+          1 ∷ 1 ∷ 1 ∷ 0 ∷ 0 ∷ 1 ∷ 1 ∷ 0 ∷ 0
+          ∷ 1 ∷ 1 ∷ 1 ∷ 1 ∷ 0 ∷ 1 ∷ 1 ∷ 0 ∷ 0 ∷ [];
       names = 98 ∷ 98 ∷ [];
       tuples = 2 ∷ 2 ∷ [];
       multiplicities = 1 ∷ 1 ∷ [];
@@ -223,7 +223,9 @@ module _ (field : ℕ) where
   record Computed (terminal-word bus-word : ℕ) : Type 0 where
     is-known : T (Choices.known (choices-of field 1))
     tested : Tested m p table
+    not-over : NotOverweight 3 table
     once-tested : Tested m p once
+    once-not-over : NotOverweight 3 once
     packs : packed-table 3 table .lookups ≡ packed-lookups
     may-pack : packing-refusal m p 3 main-only nodes lookups lookups ≡ none
     tables-are : (balance-lists.tables-of before ≡ table ∷ []) × (balance-lists.tables-of after ≡ table-of packed-lookups ∷ [])
@@ -237,6 +239,7 @@ module _ (field : ℕ) where
     generated : generation-at (choices-of field 1) 1 once (challenges-of shared once) buffer .answer ≡ terminal (lift terminal-word)
     bus-total : bus-sum 1 p w once (challenges-of shared once) (98 ∷ []) ≡ lift bus-word
     wide-tested : Tested m p wide-table
+    wide-not-over : NotOverweight 3 wide-table
     wide-packs : lookup-count (packed-table 3 wide-table .lookups .lookups) ≡ 1
     wide-generated : generation-at (choices-of field 1) 2 wide-table (challenges-of shared wide-table) buffer .answer ≡ terminal (lift (negM p 3))
     wide-total : bus-sum 2 p w wide-table (challenges-of shared wide-table) (98 ∷ []) ≡ lift (negM p 3)
@@ -282,7 +285,7 @@ module _ (field : ℕ) where
         written =
             known-writes-packed (choices-of field 1) (c .is-known) 3 main-only table lookups (c .may-pack)
             ∙ ap (λ (l : Lookups). record { answer = Packed (counts l); lists = all-written l lookups }) (c .packs);
-        passes = packed-passes m p 3 table (c .tested);
+        passes = packed-passes m p 3 table (c .tested) (c .not-over);
         ledger-same = same-ledger m p 3 table (c .tested);
         entries-same = same-entries m p 3 table (c .tested);
         height-sum-same =
@@ -295,25 +298,25 @@ module _ (field : ℕ) where
             (same .refusal .0 (c .widths .0), same .widest-same ∙ c .widths .1);
         accepted-after =
             known-accepted (choices-of field 1) (c .is-known) before after
-            (rw (c .tables-are .0, c .tables-are .1) (record { limit = 3; packed = ap table-of (sym (c .packs)) }, tt)) (c .fits) (c .tests)
+            (rw (c .tables-are .0, c .tables-are .1) (record { limit = 3; packed = ap table-of (sym (c .packs)); not-over = c .not-over }, tt)) (c .fits) (c .tests)
             .accepted workspace .0 (c .accepted);
         accepted-lent =
             known-lists-accepted (choices-of field 1) (c .is-known) before (packed-table 3 table ∷ [])
-            (rw (c .tables-are .0) (record { limit = 3; packed = refl }, tt)) (c .tests)
+            (rw (c .tables-are .0) (record { limit = 3; packed = refl; not-over = c .not-over }, tt)) (c .tests)
             .accepted workspace .0 (c .accepted);
         balanced = λ room.
             same-accepted p room (omega (arith, modulus-of field .big)) (table ∷ []) (packed-table 3 table ∷ [])
             (all-same p (table ∷ []) (packed-table 3 table ∷ [])
             (record { fitting = fitting lookups fit; agreeing = agreeing 6 lookups (c .tested .lists-pass) }, tt)
-            (record { limit = 3; packed = refl }, tt));
+            (record { limit = 3; packed = refl; not-over = c .not-over }, tt));
         terminal-same =
-            known-same-terminal (choices-of field 1) 1 (c .is-known) (unfold known-rule in tt) 3 once shared buffer
+            known-same-terminal (choices-of field 1) 1 (c .is-known) (unfold known-rule in tt) 3 once shared buffer (c .once-not-over)
             (subst (λ (a : Answer). T (accepts a)) (sym (c .generated)) tt)
             ∙ c .generated;
         bus-sum-same = same-bus-sum 1 m p w 3 once shared (98 ∷ []) (c .once-tested) ∙ c .bus-total;
         one-column = c .wide-packs;
         terminal-same-2 =
-            known-same-terminal (choices-of field 1) 2 (c .is-known) (unfold known-rule in tt) 3 wide-table shared buffer
+            known-same-terminal (choices-of field 1) 2 (c .is-known) (unfold known-rule in tt) 3 wide-table shared buffer (c .wide-not-over)
             (subst (λ (a : Answer). T (accepts a)) (sym (c .wide-generated)) tt)
             ∙ c .wide-generated;
         bus-sum-same-2 = same-bus-sum 2 m p w 3 wide-table shared (98 ∷ []) (c .wide-tested) ∙ c .wide-total;
@@ -331,7 +334,7 @@ unfolding flatMap zipWith powM same-list total every some-of first joined fold t
     conjugate conjugate2 norm2 norm inverse4 is-zero element known-field prime-of w-of all-below all-within Choices.known known-rule limits-of cabinet
     decode node row-of window node-value values row-values node-degree degrees traces-within nodes-within traces-fit nodes-fit traces-below
     constants-below nodes-known degrees-low name-start tuple-start multiplicity-start flag-start element-start tuple-width multiplicity-node flag-node
-    tuple-nodes lookup-at lookups-of size-start table-part columns-within form-sizes form-refusal shape-of name-at alone-at same-bus lookups-within
+    tuple-nodes lookup-at lookups-of size-start table-part columns-within form-sizes form-refusal shape-of name-at alone-at same-bus weight-limit lookup-within lookups-within
     lookups-fit sizes words-below known lengths-agree nodes-present lists-agree in-position has-lookups preprocessed-enough rows-enough sum-of
     largest-of greatest tuple-degree denominator-degree numerator-degree additive-degree lookup-degree keep position by-place numbers place arranged
     width-in-lookup width-in-table expected by-bus lookup-refusal table-refusal widths-refusal widest-in-lookup widest-in-table widest table-lookups
@@ -346,7 +349,9 @@ computed = (
   record {
     is-known = tt;
     tested = record { sizes-pass = refl; words-pass = refl; nodes-pass = refl; degrees-pass = refl; lists-pass = refl };
+    not-over = refl;
     once-tested = record { sizes-pass = refl; words-pass = refl; nodes-pass = refl; degrees-pass = refl; lists-pass = refl };
+    once-not-over = refl;
     packs = refl;
     may-pack = refl;
     tables-are = (refl, refl);
@@ -359,6 +364,7 @@ computed = (
     generated = refl;
     bus-total = refl;
     wide-tested = record { sizes-pass = refl; words-pass = refl; nodes-pass = refl; degrees-pass = refl; lists-pass = refl };
+    wide-not-over = refl;
     wide-packs = refl;
     wide-generated = refl;
     wide-total = refl;
@@ -366,7 +372,9 @@ computed = (
   record {
     is-known = tt;
     tested = record { sizes-pass = refl; words-pass = refl; nodes-pass = refl; degrees-pass = refl; lists-pass = refl };
+    not-over = refl;
     once-tested = record { sizes-pass = refl; words-pass = refl; nodes-pass = refl; degrees-pass = refl; lists-pass = refl };
+    once-not-over = refl;
     packs = refl;
     may-pack = refl;
     tables-are = (refl, refl);
@@ -379,6 +387,7 @@ computed = (
     generated = refl;
     bus-total = refl;
     wide-tested = record { sizes-pass = refl; words-pass = refl; nodes-pass = refl; degrees-pass = refl; lists-pass = refl };
+    wide-not-over = refl;
     wide-packs = refl;
     wide-generated = refl;
     wide-total = refl;

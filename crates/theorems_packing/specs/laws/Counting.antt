@@ -44,11 +44,6 @@ sum-word g [] = unfold total in refl
 sum-word g (x ∷ xs) = ap (λ (n : ℕ). g x + n) (sum-word g xs) ∙ sym (total-head (λ k. g (word (x ∷ xs) k)) (length xs))
 
 -- the largest of n numbers
-pub greatest-le : (f : ℕ → ℕ) (n b : ℕ) → ((i : ℕ) → i < n → f i ≤ b) → greatest f n ≤ b
-unfolding greatest
-greatest-le f zero b h = omega arith
-greatest-le f (suc n) b h = let x = greatest-le f n b (λ i l. h i (omega arith)) in let y = h n (omega arith) in omega arith
-
 pub le-greatest : (f : ℕ → ℕ) (n i : ℕ) → i < n → f i ≤ greatest f n
 unfolding greatest
 le-greatest f zero i h = absurd (omega arith)

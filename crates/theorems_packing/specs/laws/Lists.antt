@@ -59,7 +59,7 @@ module _ (x rest : List ℕ) (long : length x ≡ 14) where
 -- a table whose nodes and lookups are whole records
 pub record Whole (t : Table) : Type 0 where
   pub nodes : 3 * (length (t .nodes) / 3) ≡ length (t .nodes)
-  pub lookups : 8 * (length (t .lookups .lookups) / 8) ≡ length (t .lookups .lookups)
+  pub lookups : 9 * (length (t .lookups .lookups) / 9) ≡ length (t .lookups .lookups)
 
 sizes-long : (t : Table) → length (sizes-of t) ≡ 14
 unfolding sizes-of
@@ -74,7 +74,7 @@ record Sized (t : Table) : Type 0 where
   preprocessed-long : 1 * word (sizes-of t) 5 ≡ length (t .traces .preprocessed)
   public-values-long : 1 * word (sizes-of t) 6 ≡ length (t .traces .public-values)
   nodes-long : 3 * word (sizes-of t) 7 ≡ length (t .nodes)
-  lookups-long : 8 * word (sizes-of t) 8 ≡ length (t .lookups .lookups)
+  lookups-long : 9 * word (sizes-of t) 8 ≡ length (t .lookups .lookups)
   names-long : 1 * word (sizes-of t) 9 ≡ length (t .lookups .names)
   tuples-long : 1 * word (sizes-of t) 10 ≡ length (t .lookups .tuples)
   multiplicities-long : 1 * word (sizes-of t) 11 ≡ length (t .lookups .multiplicities)
@@ -112,7 +112,7 @@ module _ (t : Table) (q : Whole t) (ts : List Table) where
       let pr = L 5 1 (t .traces .preprocessed) (flatMap (λ (t : Table). t .traces .preprocessed) ts) (omega arith) (k .preprocessed-long) in
       let pu = L 6 1 (t .traces .public-values) (flatMap (λ (t : Table). t .traces .public-values) ts) (omega arith) (k .public-values-long) in
       let no = L 7 3 (t .nodes) (flatMap (λ (t : Table). t .nodes) ts) (omega arith) (k .nodes-long) in
-      let lo = L 8 8 (t .lookups .lookups) (flatMap (λ (t : Table). t .lookups .lookups) ts) (omega arith) (k .lookups-long) in
+      let lo = L 8 9 (t .lookups .lookups) (flatMap (λ (t : Table). t .lookups .lookups) ts) (omega arith) (k .lookups-long) in
       let na = L 9 1 (t .lookups .names) (flatMap (λ (t : Table). t .lookups .names) ts) (omega arith) (k .names-long) in
       let tu = L 10 1 (t .lookups .tuples) (flatMap (λ (t : Table). t .lookups .tuples) ts) (omega arith) (k .tuples-long) in
       let mu = L 11 1 (t .lookups .multiplicities) (flatMap (λ (t : Table). t .lookups .multiplicities) ts) (omega arith) (k .multiplicities-long) in
@@ -136,7 +136,7 @@ module _ (t : Table) (q : Whole t) (ts : List Table) where
       let pr = L 5 1 (t .traces .preprocessed) (flatMap (λ (t : Table). t .traces .preprocessed) ts) (omega arith) (k .preprocessed-long) in
       let pu = L 6 1 (t .traces .public-values) (flatMap (λ (t : Table). t .traces .public-values) ts) (omega arith) (k .public-values-long) in
       let no = L 7 3 (t .nodes) (flatMap (λ (t : Table). t .nodes) ts) (omega arith) (k .nodes-long) in
-      let lo = L 8 8 (t .lookups .lookups) (flatMap (λ (t : Table). t .lookups .lookups) ts) (omega arith) (k .lookups-long) in
+      let lo = L 8 9 (t .lookups .lookups) (flatMap (λ (t : Table). t .lookups .lookups) ts) (omega arith) (k .lookups-long) in
       let na = L 9 1 (t .lookups .names) (flatMap (λ (t : Table). t .lookups .names) ts) (omega arith) (k .names-long) in
       let tu = L 10 1 (t .lookups .tuples) (flatMap (λ (t : Table). t .lookups .tuples) ts) (omega arith) (k .tuples-long) in
       let mu = L 11 1 (t .lookups .multiplicities) (flatMap (λ (t : Table). t .lookups .multiplicities) ts) (omega arith) (k .multiplicities-long) in
@@ -199,7 +199,7 @@ lists-of-fit m ts few w =
     let c5 = ap₂ _&&_ c4 (fits 5 1 (λ (t : Table). t .traces .preprocessed) (omega arith) (λ t q. sized t q .preprocessed-long)) in
     let c6 = ap₂ _&&_ c5 (fits 6 1 (λ (t : Table). t .traces .public-values) (omega arith) (λ t q. sized t q .public-values-long)) in
     let c7 = ap₂ _&&_ c6 (fits 7 3 (λ (t : Table). t .nodes) (omega arith) (λ t q. sized t q .nodes-long)) in
-    let c8 = ap₂ _&&_ c7 (fits 8 8 (λ (t : Table). t .lookups .lookups) (omega arith) (λ t q. sized t q .lookups-long)) in
+    let c8 = ap₂ _&&_ c7 (fits 8 9 (λ (t : Table). t .lookups .lookups) (omega arith) (λ t q. sized t q .lookups-long)) in
     let c9 = ap₂ _&&_ c8 (fits 9 1 (λ (t : Table). t .lookups .names) (omega arith) (λ t q. sized t q .names-long)) in
     let c10 = ap₂ _&&_ c9 (fits 10 1 (λ (t : Table). t .lookups .tuples) (omega arith) (λ t q. sized t q .tuples-long)) in
     let c11 = ap₂ _&&_ c10 (fits 11 1 (λ (t : Table). t .lookups .multiplicities) (omega arith) (λ t q. sized t q .multiplicities-long)) in
@@ -231,7 +231,7 @@ few-tables m l e =
     ∷ covers (l .sizes) 5 1 (l .preprocessed)
     ∷ covers (l .sizes) 6 1 (l .public-values)
     ∷ covers (l .sizes) 7 3 (l .nodes)
-    ∷ covers (l .sizes) 8 8 (l .lookups .lookups)
+    ∷ covers (l .sizes) 8 9 (l .lookups .lookups)
     ∷ covers (l .sizes) 9 1 (l .lookups .names)
     ∷ covers (l .sizes) 10 1 (l .lookups .tuples)
     ∷ covers (l .sizes) 11 1 (l .lookups .multiplicities)

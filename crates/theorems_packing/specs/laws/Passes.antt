@@ -2,24 +2,27 @@
 use mathlib.Core.Path.{_≡_, refl, sym, ap, ap₂, _∙_, subst}
 use mathlib.Core.Bool.{Bool, true, false, cond, not, _&&_, _||_}
 use mathlib.Core.List.{List, [], _∷_, _++_, map, flatMap}
-use Prim.Native.Nat.{ℕ, zero, suc, _+_, _%_, _<_, _≤_}
+use Prim.Native.Nat.{ℕ, zero, suc, _+_, _*_, _%_, _<_, _≤_}
 use native.Mathlib.Nat.{zero-add}
 use native.Mathlib.Omega.{arith}
-use lib.Dec.{eqb, leb, ltb}
+use lib.Dec.{T, eqb, leb, ltb}
 use lib.ListN.{length, take, drop, getD, length-append, length-map, length-take, length-drop}
 use lib.Seq.{getD-take, getD-drop}
 use borrow.Author.Tests.{eq-eqb, le-leb, lt-ltb, ltb-true, ltb-false, le-ltb}
+use Rattle.lists.specs.laws.Count.{or-left-false, or-right-false, not-of-false}
+use Rattle.lists.specs.Tab.{tab}
 use Rattle.lists.specs.laws.Tab.{tab-length}
 use Rattle.lists.specs.laws.Sums.{total-cong}
 use Rattle.lists.specs.laws.Tests.{Passed, passed, every-true, every-of}
-use Rattle.expression.specs.Words.{word, all-below, all-within}
+use Rattle.expression.specs.Words.{word, low-half, high-half, all-below, all-within}
+use Rattle.expression.specs.Values.{bit}
 use Rattle.expression.specs.Node.{node-count}
 use Rattle.expression.specs.Tests.{traces-within, nodes-within, traces-fit, nodes-fit}
 use Rattle.expression.specs.declared.sizes.Shape.{Shape}
 use Rattle.expression.specs.declared.sizes.Limits.{Limits}
-use Rattle.lookup.specs.Lookups.{Lookups, Lookup, lookup-count, lookup-word, on-bus, name-length, column, exclusive, tuple-count, multiplicity-count, flag-count, name-start, tuple-start, multiplicity-start, flag-start, element-start, tuple-width, tuple-nodes, lookup-at, lookups-of}
+use Rattle.lookup.specs.Lookups.{Lookups, Lookup, lookup-count, lookup-word, on-bus, name-length, weight, column, exclusive, tuple-count, multiplicity-count, flag-count, name-start, tuple-start, multiplicity-start, flag-start, element-start, tuple-width, tuple-nodes, lookup-at, lookups-of}
 use Rattle.lookup.specs.Table.{Table}
-use Rattle.lookup.specs.Tests.{lookups-within, lookups-fit, sizes, words-below, known, lengths-agree, nodes-present, lists-agree, in-position, has-lookups, preprocessed-enough, rows-enough}
+use Rattle.lookup.specs.Tests.{weight-limit, lookup-within, lookups-within, lookups-fit, sizes, words-below, known, lengths-agree, nodes-present, lists-agree, in-position, has-lookups, preprocessed-enough, rows-enough}
 use Rattle.lookup.specs.Requires.{Limited, Fitting, Agreeing}
 use Rattle.lookup.specs.laws.Tested.{limited, fitting, agreeing}
 use Rattle.lookup_degree.specs.Sums.{sum-of}
@@ -27,7 +30,7 @@ use Rattle.lookup_degree.specs.Degree.{node-degrees}
 use Rattle.lookup_degree.specs.laws.Degree.{sum-tab}
 use Rattle.lookup_buses.specs.Order.{arranged}
 use Rattle.lookup_buses.specs.laws.Order.{arranged-length}
-use Rattle.packing.specs.Packing.{passes, on-one-bus, in-order, merged, joins, fill, filled, numbered, renumbered, packed}
+use Rattle.packing.specs.Packing.{passes, on-one-bus, in-order, merged, joins, fill, filled, numbered, renumbered, packed, overweight}
 use Rattle.packing.specs.Written.{lookup-words, words-of}
 use Rattle.packing.specs.PackSameBus.{columns}
 use Rattle.packing.specs.laws.Keeps.{packing-keeps}
@@ -36,9 +39,13 @@ use Rattle.theorems_packing.specs.Passes.{PackedPasses}
 use Rattle.theorems_packing.specs.inner.Entries.{Aligned}
 use Rattle.theorems_packing.specs.laws.Each.{Each, each-append, each-of, each-at, each-tab, each-and, each-map, each-flat, packed-each}
 use Rattle.theorems_packing.specs.laws.Back.{Unnamed, nothing, count-back, word-back, words-fit}
-use Rattle.theorems_packing.specs.laws.Entries.{additive-both, merged-sound, numbered-sound, at-sound}
+use Rattle.theorems_packing.specs.laws.Entries.{additive-both, local-both, merged-sound, numbered-sound, at-sound}
 
--- what the tests ask of a lookup: n nodes
+-- the most that the weight of a local of so many tuples may be
+abbrev local-limit : ℕ → ℕ
+local-limit tuples = cond (eqb tuples 0) 4294967295 (tuples * 4294967295)
+
+-- what the tests ask of a lookup, beside a bus lookup's weight: n nodes
 record Valid (m : Limits) (n : ℕ) (x : Lookup) : Type 0 where
   aligned : Aligned x
   unflagged : x .exclusive ≡ false → x .flags ≡ []
@@ -47,6 +54,7 @@ record Valid (m : Limits) (n : ℕ) (x : Lookup) : Type 0 where
   multiplicities : Each (λ (a : ℕ). a < n) (x .multiplicities)
   flags : Each (λ (a : ℕ). a < n) (x .flags)
   elements : Each (λ (t : List ℕ). Each (λ (a : ℕ). a < n) t) (x .tuples)
+  weight : x .local ≡ true → x .weight ≤ local-limit (length (x .tuples))
 
 part-each : (n : ℕ) (l : List ℕ) (c s : ℕ) → ((k : ℕ) → k < length l → word l k < n) → Each (λ (a : ℕ). a < n) (take c (drop s l))
 part-each n l c s h = each-of (λ (a : ℕ). a < n) 0 (take c (drop s l)) (λ i k.
@@ -68,8 +76,18 @@ module _ (m : Limits) (nodes : List ℕ) (l : Lookups) (w : Limited m (l .lookup
         flags = part-each (node-count nodes) (l .flags) (flag-count (l .lookups) i) (flag-start (l .lookups) i) (a .flag);
         elements =
             each-tab (λ (t : List ℕ). Each (λ (a : ℕ). a < node-count nodes) t) (tuple-nodes l i) (tuple-count (l .lookups) i) (λ k q. inside k);
+        weight = λ e. subst (λ (n : ℕ). weight (l .lookups) i ≤ n) (weighed e) (w .weight i h);
       }
     where
+      weighed : not (on-bus (l .lookups) i) ≡ true → weight-limit (l .lookups) i ≡ local-limit (length (tab (tuple-nodes l i) 0 (tuple-count (l .lookups) i)))
+      weighed e =
+          unfold weight-limit in go (on-bus (l .lookups) i) e ∙ ap local-limit (sym (tab-length (tuple-nodes l i) 0 (tuple-count (l .lookups) i)))
+        where
+          go : (b : Bool) → not b ≡ true
+              → cond (b || eqb (tuple-count (l .lookups) i) 0) 4294967295 (tuple-count (l .lookups) i * 4294967295) ≡ local-limit (tuple-count (l .lookups) i)
+          go true e = absurd (not-of-false refl (subst T (sym e) tt))
+          go false e = refl
+
       empty : {n : ℕ} (xs : List ℕ) → n ≡ 0 → take n xs ≡ []
       empty xs e = ap (λ (n : ℕ). take n xs) e
 
@@ -93,6 +111,7 @@ merged-valid m n a b o s t =
       multiplicities = each-append (λ (a : ℕ). a < n) (a .multiplicities) (b .multiplicities) (s .multiplicities) (t .multiplicities);
       flags = each-append (λ (a : ℕ). a < n) (a .flags) (b .flags) (s .flags) (t .flags);
       elements = each-append (λ (t : List ℕ). Each (λ (a : ℕ). a < n) t) (a .tuples) (b .tuples) (s .elements) (t .elements);
+      weight = λ q. absurd (not-of-false (local-both a b o .0) (subst T (sym q) tt));
     }
 
 numbered-valid : (m : Limits) (n k : ℕ) (x : Lookup) → Valid m n x → Valid m n (numbered k x)
@@ -105,7 +124,20 @@ numbered-valid m n k x s =
       multiplicities = s .multiplicities;
       flags = s .flags;
       elements = s .elements;
+      weight = s .weight;
     }
+
+-- no bus column's weight is over 2³² - 1 where packing has no refusal 7
+light : (cs : List Lookup) → overweight cs ≡ false → Each (λ (x : Lookup). x .local ≡ false → x .weight ≤ 4294967295) cs
+unfolding overweight
+light [] e = tt
+light (c ∷ cs) e =
+    let here : Bool = not (c .local) && ltb 4294967295 (c .weight) in
+    (λ q. go (c .local) q (or-left-false here (overweight cs) e), light cs (or-right-false here (overweight cs) e))
+  where
+    go : (b : Bool) → b ≡ false → (not b && ltb 4294967295 (c .weight)) ≡ false → c .weight ≤ 4294967295
+    go true q h = absurd (not-of-false q tt)
+    go false q h = ltb-false 4294967295 (c .weight) h
 
 -- there are no more columns than lookups, and the same number of tuples
 fill-short : (deg : ℕ → ℕ) (limit : ℕ) (c : Lookup) (ls : List Lookup) → length (fill deg limit c ls) ≤ suc (length ls)
@@ -209,7 +241,7 @@ within-of n l e = every-of (λ i. leb (word l i) n) (length l) (λ i h. le-leb (
 fits-of : (l : Lookups) → Fitting l → lookups-fit l ≡ true
 unfolding lookups-fit
 fits-of l f =
-    let a = eq-eqb (length (l .lookups) % 8) 0 (omega (arith, f .lookups)) in
+    let a = eq-eqb (length (l .lookups) % 9) 0 (omega (arith, f .lookups)) in
     let b = ap₂ _&&_ a (eq-eqb _ _ (f .names)) in
     let c = ap₂ _&&_ b (eq-eqb _ _ (f .tuples)) in
     let d = ap₂ _&&_ c (eq-eqb _ _ (f .multiplicities)) in
@@ -224,19 +256,21 @@ module _ (m : Limits) (n : ℕ) (cs : List Lookup) (v : Each (Valid m n) cs) whe
   abbrev W : Lookups
   W = words-of cs
 
-  at-word : (i f : ℕ) → i < lookup-count (W .lookups) → f < 8 → lookup-word (W .lookups) i f ≡ word (lookup-words (getD cs i nothing)) f
+  at-word : (i f : ℕ) → i < lookup-count (W .lookups) → f < 9 → lookup-word (W .lookups) i f ≡ word (lookup-words (getD cs i nothing)) f
   at-word i f h k = word-back cs unnamed i f (omega (arith, count-back cs)) k
 
   at : (i : ℕ) → i < lookup-count (W .lookups) → Valid m n (getD cs i nothing)
   at i h = each-at (Valid m n) nothing cs v i (omega (arith, count-back cs))
 
-  within : length cs ≤ m .lookups → length (W .tuples) ≤ m .tuples → lookups-within m (W .lookups) (W .tuples) ≡ true
+  within : overweight cs ≡ false → length cs ≤ m .lookups → length (W .tuples) ≤ m .tuples → lookups-within m (W .lookups) (W .tuples) ≡ true
   unfolding lookups-within
-  within a b =
+  within o a b =
       let c = ap₂ _&&_ (le-leb (lookup-count (W .lookups)) (m .lookups) (omega (arith, count-back cs))) (le-leb _ _ b) in
       let d = ap₂ _&&_ c (within-of (m .«tuple_words») (W .tuples) narrow) in
       ap₂ _&&_ d
-      (every-of (λ i. leb (name-length (W .lookups) i) (m .«name_bytes»)) (lookup-count (W .lookups)) (λ i h. le-leb (name-length (W .lookups) i) (m .«name_bytes») (named i h)))
+      (every-of (lookup-within m (W .lookups)) (lookup-count (W .lookups)) (λ i h.
+      unfold lookup-within in
+      ap₂ _&&_ (le-leb (name-length (W .lookups) i) (m .«name_bytes») (named i h)) (le-leb (weight (W .lookups) i) (weight-limit (W .lookups) i) (weighed i h))))
     where
       narrow : Each (λ (a : ℕ). a ≤ m .«tuple_words») (W .tuples)
       narrow =
@@ -252,6 +286,26 @@ module _ (m : Limits) (n : ℕ) (cs : List Lookup) (v : Each (Valid m n) cs) whe
       named : (i : ℕ) → i < lookup-count (W .lookups) → name-length (W .lookups) i ≤ m .«name_bytes»
       named i h =
           less (on-bus (W .lookups) i) (lookup-word (W .lookups) i 1) (m .«name_bytes») (rw (at-word i 1 h (omega arith)) (unfold lookup-words in at i h .name))
+
+      bound : (x : Lookup) → Valid m n x → (x .local ≡ false → x .weight ≤ 4294967295)
+          → x .weight ≤ cond (not (eqb (bit (not (x .local))) 0) || eqb (length (x .tuples)) 0) 4294967295 (length (x .tuples) * 4294967295)
+      bound x s q = go (x .local) refl
+        where
+          go : (b : Bool) → x .local ≡ b → x .weight ≤ cond (not (eqb (bit (not b)) 0) || eqb (length (x .tuples)) 0) 4294967295 (length (x .tuples) * 4294967295)
+          go true e = s .weight e
+          go false e = q e
+
+      weighed : (i : ℕ) → i < lookup-count (W .lookups) → weight (W .lookups) i ≤ weight-limit (W .lookups) i
+      weighed i h =
+          unfold weight-limit in
+          let x = getD cs i nothing in
+          let low : lookup-word (W .lookups) i 2 ≡ low-half (x .weight) = at-word i 2 h (omega arith) ∙ (unfold lookup-words in refl) in
+          let high : lookup-word (W .lookups) i 8 ≡ high-half (x .weight) = at-word i 8 h (omega arith) ∙ (unfold lookup-words in refl) in
+          let scope : lookup-word (W .lookups) i 0 ≡ bit (not (x .local)) = at-word i 0 h (omega arith) ∙ (unfold lookup-words in refl) in
+          let count : tuple-count (W .lookups) i ≡ length (x .tuples) = at-word i 5 h (omega arith) ∙ (unfold lookup-words in refl) in
+          let whole : weight (W .lookups) i ≡ x .weight = omega (arith, low, high) in
+          let q = each-at (λ (x : Lookup). x .local ≡ false → x .weight ≤ 4294967295) nothing cs (light cs o) i (omega (arith, count-back cs)) in
+          rw (whole, scope, count) (bound x (at i h) q)
 
   agree : lists-agree n W ≡ true
   unfolding lists-agree nodes-present
@@ -327,7 +381,7 @@ rows-of s lookups lookups′ h e = go (ltb 0 (lookup-count lookups′)) refl
 
 pub packed-passes : PackedPasses
 unfolding words-below known
-packed-passes m p limit t r =
+packed-passes m p limit t r o =
     record {
       tested =
           record {
@@ -385,7 +439,7 @@ packed-passes m p limit t r =
     sized =
         unfold sizes in
         let a = ap₂ _&&_ (k .0) (k .1 .0) in
-        let b = ap₂ _&&_ a (within m N cs valid (omega (arith, w .few-lookups, short)) (omega (arith, w .few-tuples, few))) in
+        let b = ap₂ _&&_ a (within m N cs valid o (omega (arith, w .few-lookups, short)) (omega (arith, w .few-tuples, few))) in
         let c = ap₂ _&&_ b (k .1 .1 .1 .0) in
         let d = ap₂ _&&_ c (k .1 .1 .1 .1 .0) in
         ap₂ _&&_ d (fits-of (words-of cs) (words-fit cs (unnamed m N cs valid)))

@@ -46,7 +46,7 @@ use Rattle.logup.specs.laws.Choices.{generation-known}
 use Rattle.packing.specs.Packing.{on-one-bus, merged, numbered, packed}
 use Rattle.packing.specs.PackSameBus.{columns}
 use Rattle.packing.specs.laws.Columns.{on-one}
-use Rattle.theorems_packing.specs.Packed.{packed-table}
+use Rattle.theorems_packing.specs.Packed.{packed-table, NotOverweight}
 use Rattle.theorems_packing.specs.Passes.{Tested}
 use Rattle.theorems_packing.specs.Same.{on-the-bus}
 use Rattle.theorems_packing.specs.Terminal.{SharedPairs, pairs-from, challenges-of, SameTerminal, KnownSameTerminal, bus-sum, SameBusSum}
@@ -345,9 +345,9 @@ module _ (m : Limits) (p limit : ℕ) (t : Table) (c : SharedPairs) (tested : Te
       (packed-pairs c (λ (q : Pair (List ℕ)). Each (λ (a : ℕ). a < p) (pair-words q)) (node-degrees 0 (t .nodes)) limit (t .lookups)
       (flat-each (λ (a : ℕ). a < p) pair-words (pairs-from c 0 (lookups-of (t .lookups))) (of-below p (flatMap pair-words (pairs-from c 0 (lookups-of (t .lookups)))) e)))))
 
-  entered-same : (buffer : List ℕ) → Entered m p t (challenges-of c t) buffer → Entered m p u (challenges-of c u) buffer
-  entered-same buffer e =
-      let s = packed-passes m p limit t tested in
+  entered-same : (buffer : List ℕ) → NotOverweight limit t → Entered m p t (challenges-of c t) buffer → Entered m p u (challenges-of c u) buffer
+  entered-same buffer o e =
+      let s = packed-passes m p limit t tested o in
       record {
         tested = s .tested;
         whole = eq-eqb (length (challenges-of c u) % 4) 0 (omega (arith, challenges-long u));
@@ -376,9 +376,9 @@ module _ (m : Limits) (p limit : ℕ) (t : Table) (c : SharedPairs) (tested : Te
           le-leb (H * (lookup-count (u .lookups .lookups) + 1) * 4) (length buffer) (omega arith)
 
 pub same-terminal : (rule : ℕ) (m : Limits) (p w : ℕ) → SameTerminal (λ t. generation m p w (table-under rule t))
-same-terminal rule m p w limit t c buffer a =
+same-terminal rule m p w limit t c buffer o a =
     answer-is m p w (table-under rule u′) (challenges-of c u′) buffer
-    (refusal-under rule m p w u′ (challenges-of c u′) buffer ∙ entered-none m p w u′ (challenges-of c u′) buffer (entered-same m p limit t c (e .tested) buffer e))
+    (refusal-under rule m p w u′ (challenges-of c u′) buffer ∙ entered-none m p w u′ (challenges-of c u′) buffer (entered-same m p limit t c (e .tested) buffer o e))
     (λ h. faults-same m p limit t c (e .tested) rule w (k .1 (sym (same-has limit t) ∙ h)))
     ∙ ap₂ (λ (h : Bool) (x : List ℕ). cond h (terminal x) absent) (same-has limit t) (sums-same m p limit t c (e .tested) rule w)
     ∙ sym (answer-is m p w (table-under rule t) (challenges-of c t) buffer (k .0) (k .1))

@@ -30,7 +30,7 @@ use Rattle.lists.specs.Same.{same-list}
 use Rattle.lists.specs.Tab.{tab}
 use Rattle.lookup.specs.Lookups.{element-start, flag-start, lookup-at, lookups-of, multiplicity-start, name-start, tuple-nodes, tuple-start, tuple-width}
 use Rattle.lookup.specs.Sizes.{size-start, table-part}
-use Rattle.lookup.specs.Tests.{has-lookups, lengths-agree, lists-agree, lookups-fit, lookups-within, nodes-present, preprocessed-enough, sizes, words-below, known}
+use Rattle.lookup.specs.Tests.{has-lookups, lengths-agree, lists-agree, lookups-fit, weight-limit, lookup-within, lookups-within, nodes-present, preprocessed-enough, sizes, words-below, known}
 use Rattle.lookup_buses.specs.Order.{keep}
 use Rattle.wire.specs.Room.{fit, flat, sizes-fit}
 use Rattle.wire.specs.Wire.{bytes-of, word-at, word-bytes, word-of, words-of}
@@ -59,7 +59,7 @@ unfolding balance check check-at visit count-of entries entry-of member-entries 
     constants-below degrees-low nodes-fit nodes-known nodes-within traces-below traces-fit traces-within node-value row-values values row-of window
     all-below all-within known-field prime-of addM mulM negM subM every joined total fold same-list tab element-start flag-start lookup-at lookups-of
     multiplicity-start name-start tuple-nodes tuple-start tuple-width size-start table-part has-lookups lengths-agree lists-agree lookups-fit
-    lookups-within nodes-present preprocessed-enough sizes words-below known keep fit flat sizes-fit bytes-of word-at word-bytes
+    weight-limit lookup-within lookups-within nodes-present preprocessed-enough sizes words-below known keep fit flat sizes-fit bytes-of word-at word-bytes
     word-of words-of flatMap balance-numbers
 computed = (
   record { within = refl; nine-lookups = (refl, refl); five-words = (refl, refl) },

@@ -42,7 +42,7 @@ columns = record { main = 1; preprocessed = 0; «public_values» = 0 }
 -- n lookups on one bus, each of one tuple of w words
 abbrev pub lookups : ℕ → ℕ → Lookups
 lookups n w =
-    lent-lookups (joined (λ i. 1 ∷ 1 ∷ 1 ∷ i ∷ 0 ∷ 1 ∷ 1 ∷ 0 ∷ []) 0 n) (replicate n 98) (replicate n w) (replicate n 0) [] (replicate (n * w) 0)
+    lent-lookups (joined (λ i. 1 ∷ 1 ∷ 1 ∷ i ∷ 0 ∷ 1 ∷ 1 ∷ 0 ∷ 0 ∷ []) 0 n) (replicate n 98) (replicate n w) (replicate n 0) [] (replicate (n * w) 0)
 
 -- and one row
 abbrev pub table : ℕ → ℕ → Table
@@ -97,7 +97,7 @@ module _ (n w : ℕ) where
       building.lent-interactions (joined (λ i. 1 ∷ 1 ∷ []) 0 n) (replicate n 1) (replicate n 98) (replicate n w) (replicate n 0) [] (replicate (n * w) 0)
 
   abbrev pub built : Choices → building.Outcome
-  built c = building.building-at c columns nodes (record { locals = 0; globals = n; exclusives = 0 }) interactions (replicate (8 * n) 7)
+  built c = building.building-at c columns nodes (record { locals = 0; globals = n; exclusives = 0 }) interactions (replicate (9 * n) 7)
 
   abbrev pub widest : Choices → WidthsAnswer
   widest c = widths.widths-at c (widths.lent-bus-tables (lookups n w .lookups) (replicate n 98) (replicate n w) (n ∷ n ∷ n ∷ []))

@@ -22,7 +22,7 @@ use Rattle.lookup.specs.Buses.{alone-at, name-at, same-bus}
 use Rattle.lookup.specs.Lookups.{element-start, flag-node, flag-start, lookup-at, lookups-of, multiplicity-node, multiplicity-start, name-start, tuple-nodes, tuple-start, tuple-width}
 use Rattle.lookup.specs.Refusals.{columns-within, form-refusal, form-sizes, lists-refusal, nodes-refusal, shape-of}
 use Rattle.lookup.specs.Sizes.{size-start, table-part}
-use Rattle.lookup.specs.Tests.{lengths-agree, lists-agree, lookups-fit, lookups-within, nodes-present}
+use Rattle.lookup.specs.Tests.{lengths-agree, lists-agree, lookups-fit, weight-limit, lookup-within, lookups-within, nodes-present}
 use Rattle.lookup_builder.specs.Building.{built-weight, built-words, first-tuple, local-refusal, locals-refusal, weight-sum, weight-top, built as built-words-of}
 use Rattle.lookup_builder.specs.FromInteractions.{building, building-at, building-fits, building-refusal, built-refusal}
 use Rattle.lookup_buses.specs.CheckBusWidths.{all-fit, lists-fit, table-at, table-fits, tables-of, widths-answer, widths-at}
@@ -63,7 +63,7 @@ pub computed : Computed 1 × Computed 2
 unfolding packing-on-bytes known limits-of degrees node-degree cabinet gateway decode node constants-below degrees-low nodes-fit nodes-known
     nodes-within all-below all-within known-field prime-of every first joined total same-list tab alone-at name-at same-bus element-start flag-node
     flag-start lookup-at lookups-of multiplicity-node multiplicity-start name-start tuple-nodes tuple-start tuple-width columns-within form-refusal
-    form-sizes lists-refusal nodes-refusal shape-of size-start table-part lengths-agree lists-agree lookups-fit lookups-within nodes-present
+    form-sizes lists-refusal nodes-refusal shape-of size-start table-part lengths-agree lists-agree lookups-fit weight-limit lookup-within lookups-within nodes-present
     built-weight built-words first-tuple local-refusal locals-refusal weight-sum weight-top built-words-of building building-at
     building-fits building-refusal built-refusal all-fit lists-fit table-at table-fits tables-of widths-answer widths-at arranged by-place keep place
     position bus-numbers by-bus expected lookup-refusal table-refusal widest-in-lookup widest-in-table width-in-lookup

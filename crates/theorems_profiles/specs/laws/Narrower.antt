@@ -15,9 +15,9 @@ use Rattle.expression.specs.Node.{node-words, node-count}
 use Rattle.expression.specs.Tests.{traces-within, nodes-within, traces-fit, nodes-fit}
 use Rattle.expression.specs.declared.sizes.Limits.{Limits}
 use Rattle.expression.specs.declared.sizes.Shape.{Shape}
-use Rattle.lookup.specs.Lookups.{Lookups, lookup-words, lookup-count, name-length, name-start, tuple-start}
+use Rattle.lookup.specs.Lookups.{Lookups, lookup-words, lookup-count, name-length, weight, name-start, tuple-start}
 use Rattle.lookup.specs.Table.{Table}
-use Rattle.lookup.specs.Tests.{lookups-within, lookups-fit, sizes}
+use Rattle.lookup.specs.Tests.{weight-limit, lookup-within, lookups-within, lookups-fit, sizes}
 use Rattle.lookup.specs.Refusals.{columns-within, form-sizes}
 use Rattle.lookup.specs.declared.refusals.Columns.{Columns}
 use Rattle.lookup.specs.Sizes.{table-count, covers}
@@ -90,12 +90,14 @@ unfolding all-within
 within-passes {a} {b} l h = every-passes (λ i. leb (word l i) a) (λ i. leb (word l i) b) (length l) (λ i. leb-passes (word l i) h)
 
 module _ (m n : Limits) (k : Narrower m n) where
-  names-pass : (lookups : List ℕ)
-      → Passes (every (λ i. leb (name-length lookups i) (m .«name_bytes»)) (lookup-count lookups))
-      (every (λ i. leb (name-length lookups i) (n .«name_bytes»)) (lookup-count lookups))
-  names-pass lookups =
-      every-passes (λ i. leb (name-length lookups i) (m .«name_bytes»)) (λ i. leb (name-length lookups i) (n .«name_bytes»)) (lookup-count lookups)
-      (λ i. leb-passes (name-length lookups i) (k .name-bytes))
+  lookup-pass : (lookups : List ℕ) (i : ℕ) → Passes (lookup-within m lookups i) (lookup-within n lookups i)
+  unfolding lookup-within
+  lookup-pass lookups i e =
+      let q = passed (leb (name-length lookups i) (m .«name_bytes»)) (leb (weight lookups i) (weight-limit lookups i) ∷ []) e in
+      rw (leb-passes (name-length lookups i) (k .name-bytes) (q .0), q .1 .0) refl
+
+  each-pass : (lookups : List ℕ) → Passes (every (lookup-within m lookups) (lookup-count lookups)) (every (lookup-within n lookups) (lookup-count lookups))
+  each-pass lookups = every-passes (lookup-within m lookups) (lookup-within n lookups) (lookup-count lookups) (lookup-pass lookups)
 
   traces-pass : (s : Shape) (public-values : List ℕ) → Passes (traces-within m s public-values) (traces-within n s public-values)
   unfolding traces-within
@@ -129,14 +131,14 @@ module _ (m n : Limits) (k : Narrower m n) where
       passed (leb (lookup-count lookups) (m .lookups))
       (leb (length tuples) (m .tuples)
       ∷ all-within (m .«tuple_words») tuples
-      ∷ every (λ i. leb (name-length lookups i) (m .«name_bytes»)) (lookup-count lookups)
+      ∷ every (lookup-within m lookups) (lookup-count lookups)
       ∷ [])
       e in
       rw (
         leb-passes (lookup-count lookups) (k .lookups) (q .0),
         leb-passes (length tuples) (k .tuples) (q .1 .0),
         within-passes tuples (k .tuple-words) (q .1 .1 .0),
-        names-pass lookups (q .1 .1 .1 .0),
+        each-pass lookups (q .1 .1 .1 .0),
       ) refl
 
   pub sizes-pass : (t : Table) → Passes (sizes m t) (sizes n t)
@@ -253,9 +255,9 @@ module _ (m n : Limits) (k : Narrower m n) where
   small-pass lookups e =
       let q =
       passed (leb (tuple-start lookups (lookup-count lookups)) (m .tuples))
-      (every (λ i. leb (name-length lookups i) (m .«name_bytes»)) (lookup-count lookups) ∷ [])
+      (every (lookup-within m lookups) (lookup-count lookups) ∷ [])
       e in
-      rw (leb-passes (tuple-start lookups (lookup-count lookups)) (k .tuples) (q .0), names-pass lookups (q .1 .0)) refl
+      rw (leb-passes (tuple-start lookups (lookup-count lookups)) (k .tuples) (q .0), each-pass lookups (q .1 .0)) refl
 
   within-pass : (counts heights : List ℕ) → Passes (tables-within m counts heights) (tables-within n counts heights)
   unfolding tables-within

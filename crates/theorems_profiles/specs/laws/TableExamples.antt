@@ -28,7 +28,7 @@ use Rattle.logup.specs.Rows.{accumulator, fault-at, fault-refusal, first-fault,
 use Rattle.logup.specs.Rule.{elements-under, reversed}
 use Rattle.logup.specs.Tuple.{combine, denominator, quotient4, tuple}
 use Rattle.lookup.specs.Lookups.{element-start, flag-node, flag-start, multiplicity-node, multiplicity-start, name-start, tuple-nodes, tuple-start, tuple-width}
-use Rattle.lookup.specs.Tests.{has-lookups, in-position, lengths-agree, lists-agree, lookups-fit, lookups-within, nodes-present, preprocessed-enough, rows-enough, sizes, words-below, known}
+use Rattle.lookup.specs.Tests.{has-lookups, in-position, lengths-agree, lists-agree, lookups-fit, weight-limit, lookup-within, lookups-within, nodes-present, preprocessed-enough, rows-enough, sizes, words-below, known}
 use Rattle.wire.specs.Room.{fit, flat, sizes-fit}
 use Rattle.wire.specs.Wire.{bytes-of, word-at, word-bytes, word-of, words-of}
 use Rattle.theorems_profiles.specs.laws.Calls.{generated, tested, generated-bytes}
@@ -59,7 +59,7 @@ unfolding powM generation-on-bytes known-rule limits-of known-choices degrees no
     constraints-refusal exclusive-denominator exclusive-numerator lookup-constraint numerator others row-verdict rows-verdict step verdict verdict-at
     entry-outcome entry-refusal generation generation-at rows-outcome accumulator fault-at fault-refusal first-fault fraction-at place row-fault
     row-sum row-words trace used combine denominator quotient4 tuple element-start flag-node flag-start multiplicity-node multiplicity-start
-    name-start tuple-nodes tuple-start tuple-width has-lookups in-position lengths-agree lists-agree lookups-fit lookups-within nodes-present
+    name-start tuple-nodes tuple-start tuple-width has-lookups in-position lengths-agree lists-agree lookups-fit weight-limit lookup-within lookups-within nodes-present
     preprocessed-enough rows-enough sizes words-below known fit flat sizes-fit bytes-of word-at word-bytes word-of words-of
     elements-under reversed
 computed = (

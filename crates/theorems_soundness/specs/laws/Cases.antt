@@ -25,7 +25,7 @@ use Rattle.expression.specs.Tests.{traces-within, nodes-within, traces-fit, nod
 use Rattle.expression.specs.declared.sizes.Limits.{Limits}
 use Rattle.lookup.specs.Lookups.{name-start, tuple-start, multiplicity-start, flag-start, element-start, tuple-width, multiplicity-node, flag-node, tuple-nodes}
 use Rattle.lookup.specs.Table.{Table, values-of}
-use Rattle.lookup.specs.Tests.{lookups-within, lookups-fit, sizes, words-below, known, lengths-agree, nodes-present, lists-agree, in-position, has-lookups, preprocessed-enough, rows-enough}
+use Rattle.lookup.specs.Tests.{weight-limit, lookup-within, lookups-within, lookups-fit, sizes, words-below, known, lengths-agree, nodes-present, lists-agree, in-position, has-lookups, preprocessed-enough, rows-enough}
 use Rattle.logup.specs.Tuple.{tuple, combine, denominator, quotient4}
 use Rattle.logup.specs.Rule.{reversed, elements-under, lookups-under}
 use Rattle.logup.specs.Column.{Place, branches, multiplicity, flag, chosen, denom, used-denom, additive-fraction, additive-fault, exclusive-fraction, exclusive-fault, fraction, fault}
@@ -53,7 +53,7 @@ two-columns main =
       nodes = 1 ∷ 0 ∷ 0 ∷ 1 ∷ 1 ∷ 0 ∷ 0 ∷ 1 ∷ 0 ∷ [];
       lookups =
           record {
-            lookups = 1 ∷ 1 ∷ 1 ∷ 0 ∷ 0 ∷ 1 ∷ 1 ∷ 0 ∷ [];
+            lookups = 1 ∷ 1 ∷ 1 ∷ 0 ∷ 0 ∷ 1 ∷ 1 ∷ 0 ∷ 0 ∷ [];
             names = 109 ∷ [];
             tuples = 2 ∷ [];
             multiplicities = 2 ∷ [];
@@ -77,7 +77,7 @@ two-branches main =
       nodes = 1 ∷ 0 ∷ 0 ∷ 1 ∷ 1 ∷ 0 ∷ 1 ∷ 2 ∷ 0 ∷ 0 ∷ 1 ∷ 0 ∷ [];
       lookups =
           record {
-            lookups = 1 ∷ 1 ∷ 1 ∷ 0 ∷ 1 ∷ 2 ∷ 2 ∷ 2 ∷ [];
+            lookups = 1 ∷ 1 ∷ 1 ∷ 0 ∷ 1 ∷ 2 ∷ 2 ∷ 2 ∷ 0 ∷ [];
             names = 109 ∷ [];
             tuples = 2 ∷ 2 ∷ [];
             multiplicities = 3 ∷ 3 ∷ [];
@@ -107,7 +107,7 @@ one es c =
       nodes = 0 ∷ 0 ∷ 0 ∷ 0 ∷ 1 ∷ 0 ∷ 0 ∷ 2 ∷ 0 ∷ 0 ∷ 3 ∷ 0 ∷ 0 ∷ 4 ∷ 0 ∷ [];
       lookups =
           record {
-            lookups = 1 ∷ 1 ∷ 1 ∷ 0 ∷ 0 ∷ 1 ∷ 1 ∷ 0 ∷ [];
+            lookups = 1 ∷ 1 ∷ 1 ∷ 0 ∷ 0 ∷ 1 ∷ 1 ∷ 0 ∷ 0 ∷ [];
             names = 109 ∷ [];
             tuples = length es ∷ [];
             multiplicities = c ∷ [];
@@ -306,7 +306,7 @@ both-fields : T (chain true (tests 1) && chain true (tests 2))
 unfolding powM addM negM subM mulM inverse1 add4 sub4 mul4 scale4 power4 sum4 conjugate conjugate2 norm2 norm inverse4 is-zero element fold total
     every some-of first joined cabinet all-below all-within node decode row-of window node-value values row-values node-degree degrees traces-within
     nodes-within traces-fit nodes-fit traces-below constants-below nodes-known degrees-low name-start tuple-start multiplicity-start flag-start
-    element-start tuple-width multiplicity-node flag-node tuple-nodes lookups-within lookups-fit sizes words-below known lengths-agree nodes-present
+    element-start tuple-width multiplicity-node flag-node tuple-nodes weight-limit lookup-within lookups-within lookups-fit sizes words-below known lengths-agree nodes-present
     lists-agree in-position has-lookups preprocessed-enough rows-enough tuple combine denominator quotient4 branches multiplicity flag chosen denom
     used-denom additive-fraction additive-fault exclusive-fraction exclusive-fault fraction fault fault-refusal place fraction-at row-sum
     accumulator row-words fault-at row-fault trace first-fault used entry-refusal rows-outcome entry-outcome generation count lookup-entries

@@ -47,11 +47,8 @@ enum-told c = search needs
 write-in-requires : tie.Need-write-in-requires
 write-in-requires c κs =
     let start = c .before .before .before .before .before .before .before .before .before .before .before .before .before .before .before .before in
-    let at-plan-of = c .before .before .before .before .before .before in
-    let at-plan-refusal = c .before .before .before .before in
-    let at-enum-told = c .before .before in (
-      roomy (start .args .limit) (start .args .nodes .now) (given start) (lent start) (at-plan-of .plan-of .ensures) (start .pre .0 .fitting) (start .pre .3)
-          (accepted-is (start .args .limit) (start .args .nodes .now) (given start) (lent start) (at-plan-of .plan-of .ensures) (at-plan-refusal .plan-refusal .result) (refused-so at-plan-refusal) (at-enum-told .enum-told .given .1)),
+    let at-plan-of = c .before .before .before .before .before .before in (
+      roomy (start .args .limit) (start .args .nodes .now) (given start) (lent start) (at-plan-of .plan-of .ensures) (start .pre .0 .fitting) (start .pre .3),
       start .pre .2,
     )
 

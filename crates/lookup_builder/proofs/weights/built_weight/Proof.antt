@@ -30,9 +30,6 @@ sum-of-requires c κs =
       at-7 .pre .0 .few-weights,
     )
 
-saturate-u32-requires : tie.Need-saturate-u32-requires
-saturate-u32-requires c κs = search needs
-
 largest-of-requires : tie.Need-largest-of-requires
 largest-of-requires c κs =
     let at-4 = c .before .before .before .before in
@@ -42,20 +39,22 @@ largest-of-requires c κs =
       at-7 .pre .0 .few-weights,
     )
 
+to-u64-requires : tie.Need-to-u64-requires
+to-u64-requires c κs = search needs
+
 returns : tie.Need-returns
 returns c =
-    let at-4 = c .before .before .before .before in
-    let at-6 = at-4 .before .before in
-    let at-9 = at-6 .before .before .before in
-    weight-local (at-9 .args .kinds) (at-9 .args .interactions .now) (at-9 .args .weights .now) (at-9 .args .i) (c .before .before .if1 .taken) (at-6
-    .first-tuple .ensures .0) (at-4 .to-usize .ensures .0) (c .before .sum-of .ensures) (c .saturate-u32 .ensures)
+    let at-5 = c .before .before .before .before .before in
+    let at-8 = at-5 .before .before .before in
+    weight-local (at-8 .args .kinds) (at-8 .args .interactions .now) (at-8 .args .weights .now) (at-8 .args .i) (c .before .if1 .taken) (at-5
+    .first-tuple .ensures .0) (c .before .before .before .to-usize .ensures .0) (c .sum-of .ensures)
 
 returns-2 : tie.Need-returns-2
 returns-2 c =
-    let at-5 = c .before .before .before .before .before in
-    let at-8 = at-5 .before .before .before in
-    weight-other (at-8 .args .kinds) (at-8 .args .interactions .now) (at-8 .args .weights .now) (at-8 .args .i) (c .before .if1 .left) (at-5
-    .first-tuple .ensures .0) (c .before .before .before .to-usize .ensures .0) (c .largest-of .ensures)
+    let at-6 = c .before .before .before .before .before .before in
+    let at-9 = at-6 .before .before .before in
+    weight-other (at-9 .args .kinds) (at-9 .args .interactions .now) (at-9 .args .weights .now) (at-9 .args .i) (c .before .before .if1 .left) (at-6
+    .first-tuple .ensures .0) (c .before .before .before .before .to-usize .ensures .0) (c .before .largest-of .ensures) (c .to-u64 .ensures .0)
 
 pub built-weight-spec : {M : Type 1} → statement M
 built-weight-spec =
@@ -68,7 +67,7 @@ built-weight-spec =
     shared-slice-read-to-usize
     to-usize-requires
     sum-of-requires
-    saturate-u32-requires
     largest-of-requires
+    to-u64-requires
     returns
     returns-2)

@@ -1,5 +1,7 @@
+use mathlib.Core.Path.{ap, _∙_}
 use native.Mathlib.Omega.{arith}
 use lib.ListN.{length-set}
+use Rattle.expression.specs.Words.{low-half, high-half}
 use Rattle.lookup_builder.proofs.Built.{words-put}
 use borrow.Author.Needs.{needs}
 use Rattle.lookup_builder.proofs.words.write_lookup.Statement.{statement}
@@ -38,6 +40,12 @@ either-requires-2 c κs = search needs
 built-weight-requires : tie.Need-built-weight-requires
 built-weight-requires c κs = search needs
 
+low-half-requires : tie.Need-low-half-requires
+low-half-requires c κs = search needs
+
+high-half-requires : tie.Need-high-half-requires
+high-half-requires c κs = search needs
+
 either-requires-3 : tie.Need-either-requires-3
 either-requires-3 c κs = search needs
 
@@ -57,38 +65,47 @@ cast-out : tie.Need-cast-out
 cast-out c = search needs
 
 slice-write-out-4 : tie.Need-slice-write-out-4
-slice-write-out-4 c = search needs
+slice-write-out-4 c =
+    let at-14 = c .before .before .before .before .before .before .before .before .before .before .before .before .before .before in
+    simp length-set (omega (arith, at-14 .pre .2))
 
 slice-write-out-5 : tie.Need-slice-write-out-5
 slice-write-out-5 c =
-    let at-12 = c .before .before .before .before .before .before .before .before .before .before .before .before in
-    simp length-set (omega (arith, at-12 .pre .2))
+    let at-14 = c .before .before .before .before .before .before .before .before .before .before .before .before .before .before in
+    simp length-set (omega (arith, at-14 .pre .2))
 
 slice-write-out-6 : tie.Need-slice-write-out-6
 slice-write-out-6 c =
-    let at-12 = c .before .before .before .before .before .before .before .before .before .before .before .before in
-    simp length-set (omega (arith, at-12 .pre .2))
+    let at-14 = c .before .before .before .before .before .before .before .before .before .before .before .before .before .before in
+    simp length-set (omega (arith, at-14 .pre .2))
 
 slice-write-out-7 : tie.Need-slice-write-out-7
 slice-write-out-7 c =
-    let at-12 = c .before .before .before .before .before .before .before .before .before .before .before .before in
-    simp length-set (omega (arith, at-12 .pre .2))
+    let at-14 = c .before .before .before .before .before .before .before .before .before .before .before .before .before .before in
+    simp length-set (omega (arith, at-14 .pre .2))
 
 slice-write-out-8 : tie.Need-slice-write-out-8
 slice-write-out-8 c =
-    let at-12 = c .before .before .before .before .before .before .before .before .before .before .before .before in
-    simp length-set (omega (arith, at-12 .pre .2))
+    let at-14 = c .before .before .before .before .before .before .before .before .before .before .before .before .before .before in
+    simp length-set (omega (arith, at-14 .pre .2))
+
+slice-write-out-9 : tie.Need-slice-write-out-9
+slice-write-out-9 c =
+    let at-14 = c .before .before .before .before .before .before .before .before .before .before .before .before .before .before in
+    simp length-set (omega (arith, at-14 .pre .2))
 
 same-length : tie.Need-same-length
 same-length c = simp length-set
 
 returns : tie.Need-returns
 returns c =
-    let at-5 = c .before .before .before .before .before in
-    let at-12 = at-5 .before .before .before .before .before .before .before in
-    words-put (at-12 .args .out .now) (at-12 .args .kinds) (at-12 .args .interactions .now) (at-12 .args .weights .now) (at-12 .args .i) (at-12 .pre
-    .2) (at-5 .either .ensures) (c .before .before .before .either2 .ensures) (c .before .before .built-weight .ensures) (c .before .either3
-    .ensures) (c .either4 .ensures)
+    let at-4 = c .before .before .before .before in
+    let at-7 = at-4 .before .before .before in
+    let at-14 = at-7 .before .before .before .before .before .before .before in
+    let weight = at-4 .built-weight .ensures in
+    words-put (at-14 .args .out .now) (at-14 .args .kinds) (at-14 .args .interactions .now) (at-14 .args .weights .now) (at-14 .args .i) (at-14 .pre
+    .2) (at-7 .either .ensures) (at-4 .before .either2 .ensures) (c .before .before .before .low-half .ensures ∙ ap low-half weight) (c .before .either3
+    .ensures) (c .either4 .ensures) (c .before .before .high-half .ensures ∙ ap high-half weight)
 
 pub write-lookup-spec : {M : Type 1} → statement M
 write-lookup-spec =
@@ -105,6 +122,8 @@ write-lookup-spec =
     shared-slice-read-either
     either-requires-2
     built-weight-requires
+    low-half-requires
+    high-half-requires
     either-requires-3
     either-requires-4
     slice-write-out
@@ -116,5 +135,6 @@ write-lookup-spec =
     slice-write-out-6
     slice-write-out-7
     slice-write-out-8
+    slice-write-out-9
     same-length
     returns)

@@ -1,15 +1,16 @@
 use Prim.Native.Nat.{_-_}
 use lib.ListN.{length}
 use mathlib.Core.Path.{refl, _∙_, ap}
+use Rattle.lookup.specs.Lookups.{lookup-words}
 use Rattle.lookup_builder.specs.Building.{built-words, built}
 use Rattle.lists.specs.laws.Writing.{Writing, begins, turn, ends}
-use Rattle.lookup_builder.proofs.Built.{words-eight}
+use Rattle.lookup_builder.proofs.Built.{words-nine}
 use borrow.Author.Needs.{needs}
 use Rattle.lookup_builder.proofs.words.write_lookups.Statement.{statement}
 use Rattle.lookup_builder.proofs.words.write_lookups.Tie as tie
 
 abbrev Inv-loop : tie.InvT-loop
-Inv-loop kinds interactions weights out₀ n i₀ out i = Writing (built-words kinds interactions weights) 8 n out₀ i out
+Inv-loop kinds interactions weights out₀ n i₀ out i = Writing (built-words kinds interactions weights) lookup-words n out₀ i out
 
 abbrev μ-loop : tie.MeasureT-loop
 μ-loop kinds interactions weights out₀ n i₀ out i = n - i
@@ -52,7 +53,7 @@ loop-again c =
     let at-5 = c .before .before .before .before .before in
     let at-10 = at-5 .before .before .before .before .before in
     turn (at-5 .loop .inv) (search needs) refl refl (c .before .before .write-lookup .ensures) (ap length (c .before .before .write-lookup .ensures) ∙
-    words-eight (at-10 .args .kinds) (at-10 .args .interactions .now) (at-10 .args .weights .now) (at-5 .loop .i))
+    words-nine (at-10 .args .kinds) (at-10 .args .interactions .now) (at-10 .args .weights .now) (at-5 .loop .i))
 
 same-length : tie.Need-same-length Inv-loop μ-loop
 same-length c = search needs

@@ -41,7 +41,7 @@ part-lookups-small-end c =
 lookups-small-requires : tie.Need-lookups-small-requires Inv-loop μ-loop
 lookups-small-requires c κs =
     let loop = c .before .before .before in
-    part-few _ (loop .before .before .before .pre) (loop .loop .inv .start) (search needs) (c .before .size .ensures .0) refl
+    part-few _ _ (loop .before .before .before .pre .few) (loop .loop .inv .start) (c .before .size .ensures .0) refl
 
 add-t : tie.Need-add-t Inv-loop μ-loop
 add-t c = search needs

@@ -1,7 +1,7 @@
 use mathlib.Core.Path.{refl}
 use lib.ListN.{length}
 use Prim.Native.Nat.{_-_}
-use Rattle.lookup_protocol.specs.laws.Height.{WeightSoFar, weight-none, weight-next, weight-all, part-in, part-few}
+use Rattle.lookup_protocol.specs.laws.Height.{WeightSoFar, weight-none, weight-next, weight-all, part-in, part-weights}
 use borrow.Author.Needs.{needs}
 use Rattle.lookup_protocol.proofs.protocol.height_sum.Statement.{statement}
 use Rattle.lookup_protocol.proofs.protocol.height_sum.Tie as tie
@@ -36,7 +36,7 @@ part-table-weight-start c = search needs
 part-table-weight-end : tie.Need-part-table-weight-end Inv-loop μ-loop
 part-table-weight-end c =
     let loop = c .before .before in
-    part-in (loop .before .before .before .before .pre .0) (loop .loop .inv .start) (search needs) (c .size .ensures .0)
+    part-in (loop .before .before .before .before .pre .0 .0) (loop .loop .inv .start) (search needs) (c .size .ensures .0)
 
 mul-table-weight-2 : tie.Need-mul-table-weight-2 Inv-loop μ-loop
 mul-table-weight-2 c = search needs
@@ -48,7 +48,7 @@ table-weight-requires : tie.Need-table-weight-requires Inv-loop μ-loop
 table-weight-requires c κs =
     let loop = c .before .before .before .before in
     let start = loop .before .before .before .before in
-    (part-few _ (start .pre .0) (loop .loop .inv .start) (search needs) (c .before .before .size .ensures .0) refl, start .pre .2 _)
+    (part-weights _ _ (start .pre .0 .1) (loop .loop .inv .start) (search needs) (c .before .before .size .ensures .0) refl, start .pre .1 .1 _)
 
 add-sum : tie.Need-add-sum Inv-loop μ-loop
 add-sum c = search needs
@@ -62,7 +62,7 @@ loop-less c = search needs
 loop-again : tie.Need-loop-again Inv-loop μ-loop
 loop-again c =
     let loop = c .before .before .before .before .before in
-    weight-next (loop .before .before .before .before .pre .0 .few) (loop .loop .inv) (search needs) (c .before .before .before .size .ensures .0) (c .table-weight .ensures)
+    weight-next (loop .before .before .before .before .pre .0 .0 .few) (loop .loop .inv) (search needs) (c .before .before .before .size .ensures .0) (c .table-weight .ensures)
 
 returns : tie.Need-returns Inv-loop μ-loop
 returns c = weight-all (c .before .loop .inv) (search needs)

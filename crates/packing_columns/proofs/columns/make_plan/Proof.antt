@@ -76,22 +76,26 @@ part-words-end c = search needs
 put-column-requires : tie.Need-put-column-requires Inv-loop μ-loop
 put-column-requires c κs = (search needs, c .before .before .before .next-column .ensures .head)
 
+on-bus-requires : tie.Need-on-bus-requires Inv-loop μ-loop
+on-bus-requires c κs = omega (arith, c .before .before .before .before .before .next-column .ensures .head)
+
 add-columns : tie.Need-add-columns Inv-loop μ-loop
 add-columns c = search needs
 
 loop-less : tie.Need-loop-less Inv-loop μ-loop
 loop-less c =
-    let at-6 = c .before .before .before .before .before .before in
-    let at-9 = at-6 .before .before .before in
-    let at-11 = at-9 .before .before in
-    omega (arith, at-9 .loop-test .taken, at-6 .next-column .ensures .above, taken-in (at-11 .order .ensures) (at-6 .next-column .ensures))
+    let at-7 = c .before .before .before .before .before .before .before in
+    let at-10 = at-7 .before .before .before in
+    let at-12 = at-10 .before .before in
+    omega (arith, at-10 .loop-test .taken, at-7 .next-column .ensures .above, taken-in (at-12 .order .ensures) (at-7 .next-column .ensures))
 
 loop-again : tie.Need-loop-again Inv-loop μ-loop
 loop-again c =
-    let at-6 = c .before .before .before .before .before .before in
-    let at-10 = at-6 .before .before .before .before in
-    let at-11 = at-10 .before in
-    plan-turn (at-10 .loop .inv) (at-11 .order .ensures) (at-6 .next-column .ensures) refl (c .before .before .put-column .ensures)
+    let at-7 = c .before .before .before .before .before .before .before in
+    let at-11 = at-7 .before .before .before .before in
+    let at-12 = at-11 .before in
+    plan-turn (at-11 .loop .inv) (at-12 .order .ensures) (at-7 .next-column .ensures) refl (c .before .before .before .put-column .ensures) (c .before
+    .on-bus .ensures)
 
 returns : tie.Need-returns Inv-loop μ-loop
 returns c = plan-ends (c .before .loop .inv) (search needs) (c .before .before .order .ensures)
@@ -119,6 +123,7 @@ make-plan-spec =
     part-words-start
     part-words-end
     put-column-requires
+    on-bus-requires
     add-columns
     loop-less
     loop-again

@@ -1,6 +1,5 @@
 use Rattle.packing_columns.specs.laws.Numbers.{numbered}
 use Rattle.packing_columns.proofs.ColumnsLoops.{small, merged-small, Filling, fill-begins, fill-turn, fill-stops, fill-ends}
-use native.Mathlib.Omega.{arith}
 use Rattle.packing_columns.specs.inner.Columns.{plan-source}
 use lib.ListN.{length}
 use Prim.Native.Nat.{_-_}
@@ -26,7 +25,8 @@ to-usize-requires c κs = search needs
 opened-requires : tie.Need-opened-requires Inv-loop μ-loop
 opened-requires c κs =
     let at-8 = c .before .before .before .before .before .before .before .before in
-    (at-8 .pre .0 .each _ (numbered (at-8 .pre .1) (at-8 .pre .2) (c .to-usize .ensures .0)), at-8 .pre .0 .low)
+    let below = numbered (at-8 .pre .1) (at-8 .pre .2) (c .to-usize .ensures .0) in
+    (at-8 .pre .0 .each _ below, at-8 .pre .0 .weights _ below, at-8 .pre .0 .low)
 
 add-end : tie.Need-add-end Inv-loop μ-loop
 add-end c = search needs
@@ -49,7 +49,8 @@ to-usize-requires-2 c κs = search needs
 opened-requires-2 : tie.Need-opened-requires-2 Inv-loop μ-loop
 opened-requires-2 c κs =
     let at-13 = c .before .before .before .before .before .before .before .before .before .before .before .before .before in
-    (at-13 .pre .0 .each _ (numbered (at-13 .pre .1) (search needs) (c .to-usize2 .ensures .0)), at-13 .pre .0 .low)
+    let below = numbered (at-13 .pre .1) (search needs) (c .to-usize2 .ensures .0) in
+    (at-13 .pre .0 .each _ below, at-13 .pre .0 .weights _ below, at-13 .pre .0 .low)
 
 merge-requires : tie.Need-merge-requires Inv-loop μ-loop
 merge-requires c κs = (small (c .before .before .before .before .loop .inv), c .opened2 .ensures .1)

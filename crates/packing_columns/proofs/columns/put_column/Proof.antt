@@ -1,7 +1,6 @@
 use Rattle.packing_columns.proofs.ColumnsLoops.{column-put}
 use lib.ListN.{length-set}
 use native.Mathlib.Omega.{arith}
-use Rattle.packing_columns.specs.inner.Columns.{column-words}
 use borrow.Author.Needs.{needs}
 use Rattle.packing_columns.proofs.columns.put_column.Statement.{statement}
 use Rattle.packing_columns.proofs.columns.put_column.Tie as tie
@@ -27,8 +26,8 @@ slice-write-out c = search needs
 slice-write-out-2 : tie.Need-slice-write-out-2
 slice-write-out-2 c = search needs
 
-saturate-u32-requires : tie.Need-saturate-u32-requires
-saturate-u32-requires c κs = search needs
+low-half-requires : tie.Need-low-half-requires
+low-half-requires c κs = search needs
 
 slice-write-out-3 : tie.Need-slice-write-out-3
 slice-write-out-3 c = search needs
@@ -39,25 +38,33 @@ slice-write-out-4 c = search needs
 slice-write-out-5 : tie.Need-slice-write-out-5
 slice-write-out-5 c = simp length-set (omega (arith, c .before .before .before .before .before .before .before .before .pre .0))
 
-saturate-u32-requires-2 : tie.Need-saturate-u32-requires-2
-saturate-u32-requires-2 c κs = search needs
+saturate-u32-requires : tie.Need-saturate-u32-requires
+saturate-u32-requires c κs = search needs
 
 slice-write-out-6 : tie.Need-slice-write-out-6
 slice-write-out-6 c = simp length-set (omega (arith, c .before .before .before .before .before .before .before .before .before .pre .0))
 
-saturate-u32-requires-3 : tie.Need-saturate-u32-requires-3
-saturate-u32-requires-3 c κs = search needs
+saturate-u32-requires-2 : tie.Need-saturate-u32-requires-2
+saturate-u32-requires-2 c κs = search needs
 
 slice-write-out-7 : tie.Need-slice-write-out-7
 slice-write-out-7 c = simp length-set (omega (arith, c .before .before .before .before .before .before .before .before .before .before .pre .0))
 
-saturate-u32-requires-4 : tie.Need-saturate-u32-requires-4
-saturate-u32-requires-4 c κs = search needs
+saturate-u32-requires-3 : tie.Need-saturate-u32-requires-3
+saturate-u32-requires-3 c κs = search needs
 
 slice-write-out-8 : tie.Need-slice-write-out-8
 slice-write-out-8 c =
     let at-11 = c .before .before .before .before .before .before .before .before .before .before .before in
     simp length-set (omega (arith, at-11 .pre .0))
+
+high-half-requires : tie.Need-high-half-requires
+high-half-requires c κs = search needs
+
+slice-write-out-9 : tie.Need-slice-write-out-9
+slice-write-out-9 c =
+    let at-12 = c .before .before .before .before .before .before .before .before .before .before .before .before in
+    simp length-set (omega (arith, at-12 .pre .0))
 
 same-length : tie.Need-same-length
 same-length c = simp length-set
@@ -69,10 +76,11 @@ returns c =
     let at-6 = at-5 .before in
     let at-7 = at-6 .before in
     let at-8 = at-7 .before in
-    let at-11 = at-8 .before .before .before in
-    column-put (at-11 .args .out .now) (at-11 .args .lookups .now) (at-11 .args .k) (at-11 .args .column) (at-11 .pre .0) (at-8 .on-bus .ensures) (at-7
-    .mark .ensures) (at-6 .name-length .ensures) (c .before .before .before .saturate-u32 .ensures) (at-5 .exclusive .ensures) (at-4 .mark2
-    .ensures) (c .before .before .saturate-u322 .ensures) (c .before .saturate-u323 .ensures) (c .saturate-u324 .ensures)
+    let at-9 = at-8 .before in
+    let at-12 = at-9 .before .before .before in
+    column-put (at-12 .args .out .now) (at-12 .args .lookups .now) (at-12 .args .k) (at-12 .args .column) (at-12 .pre .0) (at-9 .on-bus .ensures) (at-8
+    .mark .ensures) (at-7 .name-length .ensures) (at-4 .low-half .ensures) (at-6 .exclusive .ensures) (at-5 .mark2 .ensures) (c .before .before .before
+    .saturate-u32 .ensures) (c .before .before .saturate-u322 .ensures) (c .before .saturate-u323 .ensures) (c .high-half .ensures)
 
 pub put-column-spec : {M : Type 1} → statement M
 put-column-spec =
@@ -85,15 +93,17 @@ put-column-spec =
     mark-requires-2
     slice-write-out
     slice-write-out-2
-    saturate-u32-requires
+    low-half-requires
     slice-write-out-3
     slice-write-out-4
     slice-write-out-5
-    saturate-u32-requires-2
+    saturate-u32-requires
     slice-write-out-6
-    saturate-u32-requires-3
+    saturate-u32-requires-2
     slice-write-out-7
-    saturate-u32-requires-4
+    saturate-u32-requires-3
     slice-write-out-8
+    high-half-requires
+    slice-write-out-9
     same-length
     returns)

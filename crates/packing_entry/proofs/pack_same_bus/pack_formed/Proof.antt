@@ -21,18 +21,14 @@ enum-told c = search needs
 
 write-all-requires : tie.Need-write-all-requires
 write-all-requires c κs =
-    let at-6 = c .before .before .before .before .before .before in
-    let at-8 = at-6 .before .before in
-    let at-10 = at-8 .before .before in
+    let at-10 = c .before .before .before .before .before .before .before .before .before .before in
     let at-24 = at-10 .before .before .before .before .before .before .before .before .before .before .before .before .before .before in
     let args = at-24 .args in
     let lent = lent-lookups (args .lookups-out .now) (args .names-out .now) (args .tuples-out .now) (args .multiplicities-out .now) (args .flags-out
     .now) (args .elements-out .now) in
     let own = lent-lookups (args .lookups .now) (args .names .now) (args .tuples .now) (args .multiplicities .now) (args .flags .now) (args .elements
     .now) in
-    roomy (args .limit) (args .nodes .now) own lent (at-10 .plan-of .ensures) (at-24 .pre .0 .fitting) (at-24 .pre .2) (accepted-is (args .limit)
-    (args .nodes .now) own lent (at-10 .plan-of .ensures) (at-8 .plan-refusal .result) (same-refusal (args .limit) (args .nodes .now) own lent (at-10
-    .plan-of .ensures) (at-8 .plan-refusal .result) (at-8 .plan-refusal .ensures)) (at-6 .enum-told .given .1))
+    roomy (args .limit) (args .nodes .now) own lent (at-10 .plan-of .ensures) (at-24 .pre .0 .fitting) (at-24 .pre .2)
 
 returns : tie.Need-returns
 returns c =
