@@ -54,10 +54,14 @@ extern "C" {
  *   main, preprocessed   the traces, row by row
  *   public_values
  *   nodes                three words each: kind, a, b, see below
- *   lookups              eight words each: scope (0 local, else bus), name length, weight, column, exclusive, tuples, multiplicities, flags
+ *   lookups              nine words each: scope (0 local, else bus), name length, weight (its low half), column, exclusive, tuples,
+ *                        multiplicities, flags, and the high half of the weight
  *   names                the bus names, one after the other, in bytes
  *   tuples               the width of each tuple
  *   multiplicities, flags, elements   node numbers
+ *
+ * A lookup's weight is low half + 2^32 * high half. On a bus it is at most 2^32 - 1, so its high half is 0. A local's is at most 2^32 - 1 for
+ * each of its tuples, as many as its record says, and 2^32 - 1 without tuples. A larger one is refusal 1 at every function that takes lookups.
  *
  * A node has a value on each row, by its kind:
  *   0   constant                 a: the word
@@ -115,7 +119,8 @@ uint32_t delmatik_degree(uint32_t field, uint32_t profile,
 
 /* pack_same_bus: the packed lookups into the front of six lists; used says how much of each is used, and what lies past that is untouched.
  * Each list must be as long as the table's own at least (refusal 1), and what is written then finds room: packing writes no more than it
- * reads. A refusal leaves the lists and used as they were. */
+ * reads. Refusal 7 is a column on a bus that would weigh more than 2^32 - 1; a local is never merged, and keeps its weight in both words. A
+ * refusal leaves the lists and used as they were. */
 uint32_t delmatik_pack(uint32_t field, uint32_t profile,
     uint64_t limit, size_t main_width, size_t pre_width, size_t public_values, const uint32_t *nodes, size_t nodes_len,
     const uint32_t *lookups, size_t lookups_len, const uint8_t *names, size_t names_len,
@@ -126,10 +131,11 @@ uint32_t delmatik_pack(uint32_t field, uint32_t profile,
     uint32_t *flags_out, size_t flags_out_len, uint32_t *elements_out, size_t elements_out_len,
     uint64_t used[6], uint64_t details[3]);
 
-/* from_interactions: the words of the lookups into the front of lookups_out, eight each, in column order; used says how many are used, and
+/* from_interactions: the words of the lookups into the front of lookups_out, nine each, in column order; used says how many are used, and
  * what lies past them is untouched. A refusal leaves lookups_out and used as they were.
  * interactions has two words for each, locals first, then globals, then exclusives: the length of its name and the number of its tuples, one
- * for a global. weights has one for each tuple. The other lists are those that the lookups will have. */
+ * for a global. weights has one for each tuple: a local weighs their exact sum, an exclusive the largest of them. The other lists are those
+ * that the lookups will have. */
 uint32_t delmatik_build(uint32_t field, uint32_t profile,
     size_t main_width, size_t pre_width, size_t public_values, const uint32_t *nodes, size_t nodes_len,
     size_t locals, size_t globals, size_t exclusives, const uint32_t *interactions, size_t interactions_len,
@@ -154,8 +160,9 @@ uint32_t delmatik_widths(uint32_t field, uint32_t profile,
     const uint32_t *lookups, size_t lookups_len, const uint8_t *names, size_t names_len,
     const uint32_t *tuples, size_t tuples_len, const uint32_t *sizes, size_t sizes_len, uint64_t widest[1], uint64_t details[3]);
 
-/* The height bound: the lookups of all tables, and for each table how many it has, and its height. Of refusal 5 it tests what the lookups'
- * words show. */
+/* The height bound: the lookups of all tables, and for each table how many it has, and its height. Refusal 19 is that the sum of weight *
+ * height over all lookups is not below p; the sum, of whole weights and exact, is its detail. Of refusal 5 it tests what the lookups' words
+ * show. */
 uint32_t delmatik_height_bound(uint32_t field, uint32_t profile,
     const uint32_t *lookups, size_t lookups_len, const uint32_t *counts, size_t counts_len,
     const uint32_t *heights, size_t heights_len, uint64_t details[3]);

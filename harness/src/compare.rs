@@ -15,6 +15,8 @@ use crate::wrapper::{Refused, Wrapper};
 pub enum Compared {
     /// The crate answers the same, or panics where the model refuses.
     Same,
+    /// It answers the same but for weights over 2^32 - 1: they are held there, in what it is given and in what it gives.
+    Held,
     /// Both refuse, but the crate meets another of several faults first.
     Choice,
     /// The crate has no such limit: it goes on.
@@ -29,13 +31,15 @@ pub struct Disagreement {
     pub text: String,
 }
 
-/// How many tables there were in each field and profile, and with nodes at offset 2 or 3; how many cases by each rule and with an unknown choice; how
-/// often each function gave each number, was compared with the port, and was called once more: in the cabinet, or by rule 1.
+/// How many tables there were in each field and profile, with nodes at offset 2 or 3, and with a local over 2^32 - 1; how many cases by each rule and
+/// with an unknown choice; how often each function gave each number, was compared with the port, and was called once more: in the cabinet, or by
+/// rule 1.
 #[derive(Default)]
 pub struct Tally {
     pub fields: BTreeMap<Field, u64>,
     pub profiles: BTreeMap<Profile, u64>,
     pub far: u64,
+    pub heavy: u64,
     pub rules: BTreeMap<Rule, u64>,
     pub unknown: u64,
     pub counts: BTreeMap<(&'static str, u32, Compared), u64>,
@@ -50,6 +54,7 @@ pub fn check(case: &Case, port: Option<Port>, tally: &mut Tally) -> Result<(), D
     *tally.fields.entry(case.field()).or_default() += case.tables.len() as u64;
     *tally.profiles.entry(case.chosen().profile).or_default() += case.tables.len() as u64;
     tally.far += case.tables.iter().filter(|t| t.looks_far()).count() as u64;
+    tally.heavy += case.tables.iter().filter(|t| t.has_heavy_local()).count() as u64;
     *tally.rules.entry(case.chosen().rule).or_default() += 1;
     tally.unknown += u64::from(case.choices.known_with_rule().is_none());
     let mut run = |function: &'static str, (answer, compared): (Answer, Checked)| match compared {
@@ -148,6 +153,7 @@ mod against_crate {
     //! The model beside the crate's own source.
     use super::*;
     use crate::oracle::{self, Run};
+    use crate::table::Lookup;
 
     /// The crate must panic, with a message that holds this text.
     fn panics<T: Debug>(run: Run<T>, text: &str) -> Checked {
@@ -162,6 +168,20 @@ mod against_crate {
             Ok(answer) if answer == expected => Ok(Compared::Same),
             other => Err(format!("the crate, which should answer {expected:?}, gives {other:?}")),
         }
+    }
+
+    /// Lookups with each weight as the crate has it.
+    fn held(lookups: &[Lookup]) -> Vec<Lookup> {
+        lookups.iter().map(|l| Lookup { weight: word(l.weight).into(), ..l.clone() }).collect()
+    }
+
+    /// The crate must give these lookups, their weights held.
+    fn gives(run: Run<Vec<Lookup>>, lookups: &[Lookup]) -> Checked {
+        but_for_weights(answers(run, held(lookups)), held(lookups) != lookups)
+    }
+
+    fn but_for_weights(checked: Checked, others: bool) -> Checked {
+        checked.map(|same| if others { Compared::Held } else { same })
     }
 
     fn below_p(field: Field, words: &[u32]) -> bool {
@@ -270,7 +290,7 @@ mod against_crate {
         let [_, expected, actual] = answer.details;
         let run = || oracle::pack(t, case.limit);
         let checked = match answer.number {
-            0 => answers(run(), packed),
+            0 => gives(run(), &packed),
             6 => panics(run(), &format!("tuple widths {expected} and {actual} differ")),
             7 => panics(run(), "count_weight overflow"),
             _ => Ok(Compared::Limit),
@@ -288,7 +308,7 @@ mod against_crate {
         let [_, expected, actual] = answer.details;
         let run = || oracle::build(t, &case.interactions);
         let checked = match answer.number {
-            0 => answers(run(), built.records()),
+            0 => gives(run(), &built.records()),
             6 => panics(run(), &format!("local lookup: tuple widths {expected} and {actual} differ")),
             _ => Ok(Compared::Limit),
         };
@@ -333,11 +353,20 @@ mod against_crate {
         let run = || oracle::height_bound(&case.tables, &case.heights);
         let checked = match answer.number {
             0 => answers(run(), Ok(())),
-            19 => answers(run(), Err(answer.details[0].into())),
+            19 => {
+                let by_held = model::height_bound(&all_held(&case.tables), &case.heights);
+                but_for_weights(answers(run(), Err(by_held.details[0].into())), by_held != answer)
+            }
             _ if case.heights.len() != case.tables.len() => panics(run(), "lookups and heights must be aligned"),
             _ => Ok(Compared::Limit),
         };
         (answer, checked)
+    }
+
+    fn all_held(tables: &[Table]) -> Vec<Table> {
+        let mut tables = tables.to_vec();
+        tables.iter_mut().for_each(|t| t.set_records(&held(&t.records())));
+        tables
     }
 
     pub fn terminals(case: &Case) -> (Answer, Checked) {

@@ -4,7 +4,7 @@ use std::fmt;
 
 use crate::model::{self, Choices, Chosen, Limits, Profile, Rule};
 use crate::plain::{self, Ext, Field, Random};
-use crate::table::{Interaction, LOOKUP_WORDS, Lookup, NODE_WORDS, Part, Table, line};
+use crate::table::{Interaction, LOOKUP_WORDS, Lookup, NODE_WORDS, Part, Table, halves, line};
 
 /// One input for each function. Those of one table take the first.
 #[derive(Clone, Debug, PartialEq)]
@@ -416,7 +416,7 @@ impl Maker<'_> {
         let exclusive = self.random.one_in(3);
         let branches = self.random.pick(&[0, 1, 1, 1, 1, 2, 2, 3]);
         let odd_one = self.random.one_in(40);
-        let mut lookup = Lookup { bus, weight: self.random.weight(), exclusive, ..Lookup::default() };
+        let mut lookup = Lookup { bus, weight: self.random.weight().into(), exclusive, ..Lookup::default() };
         if exclusive {
             lookup.flags = self.flags(branches);
         }
@@ -432,7 +432,7 @@ impl Maker<'_> {
     /// The same entries with the opposite sign.
     fn opposite(&mut self, lookup: &Lookup) -> Lookup {
         let multiplicities = lookup.multiplicities.iter().map(|m| self.negation(*m)).collect();
-        Lookup { multiplicities, weight: self.random.weight(), ..lookup.clone() }
+        Lookup { multiplicities, weight: self.random.weight().into(), ..lookup.clone() }
     }
 
     /// Lookups, most of them with an opposite, so that balance passes often.
@@ -529,7 +529,7 @@ fn mirror(random: &mut Random, table: &Table) -> Table {
     let mut lookups = mirror.records();
     lookups.retain(|lookup| lookup.bus.is_some());
     for lookup in &mut lookups {
-        lookup.weight = random.weight();
+        lookup.weight = random.weight().into();
         for multiplicity in &mut lookup.multiplicities {
             *multiplicity = mirror.add_node(12, *multiplicity, 0);
         }
@@ -672,13 +672,35 @@ fn case_of(random: &mut Random, tables: Vec<Table>) -> Case {
     }
 }
 
+/// The most that a lookup of these words may weigh.
+fn weight_limit(entry: &[u32]) -> u64 {
+    model::weight_limit(entry[0] != 0, entry[5])
+}
+
+fn set_weight(entry: &mut [u32], weight: u64) {
+    [entry[2], entry[8]] = halves(weight);
+}
+
+/// Makes a third of the locals heavy: at their limits, near 2^32, or between.
+fn weigh_locals(random: &mut Random, t: &mut Table) {
+    for entry in t.lookups.chunks_exact_mut(LOOKUP_WORDS).filter(|entry| entry[0] == 0) {
+        if random.one_in(3) {
+            let limit = weight_limit(entry);
+            let (near, any) = (u64::from(u32::MAX) + random.below(3), 1 + random.below(limit));
+            set_weight(entry, random.pick(&[limit, limit - 1, near, any]).min(limit));
+        }
+    }
+}
+
 /// A case in either field by either rule, a third of them in the gateway.
 pub fn case(random: &mut Random) -> Case {
     let profile = if random.one_in(3) { Profile::Gateway } else { Profile::Cabinet };
     let field = random.pick(&Field::ALL);
     // Numbers of its own, so that the tables that are drawn do not depend on it.
     let rule = Random(random.0 ^ 0xD1342543DE82EF95 | 1).pick(&Rule::ALL);
-    case_in(random, Chosen { field, profile, rule })
+    let mut case = case_in(random, Chosen { field, profile, rule });
+    case.tables.iter_mut().for_each(|t| weigh_locals(random, t));
+    case
 }
 
 pub fn case_in(random: &mut Random, chosen: impl Into<Chosen>) -> Case {
@@ -744,7 +766,7 @@ pub fn damage(random: &mut Random, case: &mut Case) {
 }
 
 fn damage_table(random: &mut Random, t: &mut Table) {
-    match random.below(22) {
+    match random.below(24) {
         0 => damage_list(random, &mut t.main),
         1 => damage_list(random, &mut t.preprocessed),
         2 => damage_list(random, &mut t.public_values),
@@ -756,16 +778,17 @@ fn damage_table(random: &mut Random, t: &mut Table) {
         14 => damage_list(random, &mut t.elements),
         15 => t.names.push(random.draw() as u8),
         16 => shorten(&mut t.names),
-        // Rows go or come with their words.
-        17 if t.fits() => {
-            t.pre_height = t.pre_height.saturating_sub(random.below(3)) + random.below(2);
+        // Rows go or come with their words, unless they were made too wide before.
+        17 if t.fits() && t.pre_width <= model::CABINET.pre_columns => {
+            t.pre_height = t.pre_height.saturating_sub(random.below(3)).saturating_add(random.below(2));
             t.preprocessed.resize((t.pre_width * t.pre_height) as usize, 1);
         }
-        18 if t.fits() => {
+        18 if t.fits() && t.main_width <= model::CABINET.main_columns => {
             t.height = t.height.saturating_sub(random.below(2)) + random.below(2);
             t.main.resize((t.main_width * t.height) as usize, 1);
         }
         19 | 20 => look_too_far(random, t),
+        21 | 22 => weigh_too_much(random, t),
         _ => {
             let size = random.pick(&[0, 1, 64, 65, 256, 257, 4096, 4097, 1 << 20, (1 << 20) + 1, 1 << 32, 1 << 63, u64::MAX]);
             let place = random.below(4);
@@ -781,6 +804,15 @@ fn look_too_far(random: &mut Random, t: &mut Table) {
     t.nodes[NODE_WORDS * node + 2] = random.pick(&[4, 4, 5, 256, 1 << 31, u32::MAX, u32::MAX]);
     if random.one_in(4) {
         t.nodes[NODE_WORDS * node + 1] = random.pick(&[t.main_width as u32, u32::MAX]);
+    }
+}
+
+/// Makes a lookup one heavier than it may be, or as heavy; now and then as if it had a tuple more.
+fn weigh_too_much(random: &mut Random, t: &mut Table) {
+    let place = random.below(t.lookup_count().max(1) as u64) as usize;
+    if let Some(entry) = t.lookups.chunks_exact_mut(LOOKUP_WORDS).nth(place) {
+        let limit = weight_limit(entry);
+        set_weight(entry, random.pick(&[limit, limit + 1, limit + 1, limit + u64::from(u32::MAX), u64::MAX]));
     }
 }
 
@@ -811,6 +843,27 @@ fn on_bus(column: u32, tuple: Vec<u32>, multiplicity: u32) -> Lookup {
     Lookup { bus: Some(b"mem".to_vec()), weight: 1, column, tuples: vec![tuple], multiplicities: vec![multiplicity], ..Lookup::default() }
 }
 
+/// A local of so many tuples of one column, each with multiplicity 1.
+fn local(column: u32, tuples: usize, weight: u64) -> Lookup {
+    Lookup { weight, column, tuples: vec![vec![0]; tuples], multiplicities: vec![1; tuples], ..Lookup::default() }
+}
+
+/// A local that weighs as much as it may, and so much more.
+fn heavy_local(column: u32, tuples: usize, more: usize) -> Lookup {
+    local(column, tuples, model::weight_limit(false, tuples as u32) + more as u64)
+}
+
+/// As many locals as the limits allow, each as heavy as it may be, the last by so much more: no lookups weigh more together. The first has all
+/// tuples.
+fn heaviest_table(chosen: Chosen, more: usize) -> Table {
+    let limits = chosen.profile.limits();
+    let last = limits.lookups as u32 - 1;
+    let others = (1..=last).map(|column| heavy_local(column, 0, if column == last { more } else { 0 }));
+    let mut t = plain_table(chosen, 2);
+    t.set_records(&std::iter::once(heavy_local(0, limits.tuples, 0)).chain(others).collect::<Vec<Lookup>>());
+    t
+}
+
 /// Interactions at building's limits, or one over, for a table of three nodes.
 fn to_build(limits: &Limits, over: usize) -> Vec<(String, Vec<Interaction>)> {
     let part = |width: usize, weight: u32| Part { elements: vec![0; width], multiplicity: 1, weight };
@@ -824,6 +877,14 @@ fn to_build(limits: &Limits, over: usize) -> Vec<(String, Vec<Interaction>)> {
         (format!("{words} words a tuple to build"), vec![global(1, part(words, 1))]),
         (format!("{bytes} bytes a name to build"), vec![global(bytes, part(1, 1))]),
         (format!("weights {weight} and 1 in a local to build"), vec![Interaction::Local(vec![part(1, weight), part(1, 1)])]),
+        (
+            format!("weights {} and {} in a local to build, then the same in an exclusive", u32::MAX, 1 + over),
+            vec![
+                Interaction::Local(vec![]),
+                Interaction::Local(vec![part(1, u32::MAX), part(1, 1 + over as u32)]),
+                Interaction::Exclusive(vec![], vec![(0, part(1, u32::MAX)), (1, part(1, 1 + over as u32))]),
+            ],
+        ),
         (format!("widths 2 and {} in a local to build", 2 + over), vec![Interaction::Local(vec![part(2, 1), part(2 + over, 1)])]),
         (format!("node {node} to build"), vec![Interaction::Exclusive(vec![], vec![(node, part(1, 1))])]),
     ]
@@ -876,6 +937,22 @@ fn tables_at_limits(chosen: Chosen, over: usize) -> Vec<(String, Table)> {
     add(format!("height {n}"), &|t| *t = plain_table(chosen, n));
     add(format!("preprocessed height {n}"), &|t| (t.pre_width, t.pre_height, t.preprocessed) = (1, n, vec![1; n as usize]));
     add(format!("preprocessed height {n} without columns"), &|t| t.pre_height = n);
+    for tuples in [0, 1, 2, limits.tuples] {
+        let heavy = heavy_local(0, tuples, over);
+        add(format!("a local of {tuples} tuples that weighs {}", heavy.weight), &|t| t.set_records(std::slice::from_ref(&heavy)));
+    }
+    let exclusive = Lookup { exclusive: true, flags: vec![1, 2], ..heavy_local(0, 2, over) };
+    add(format!("an exclusive local of 2 tuples that weighs {}", exclusive.weight), &|t| t.set_records(std::slice::from_ref(&exclusive)));
+    // Each is as heavy as it may be; one of them is heavier.
+    for heavier in 0..=2 * over {
+        let more = |place: usize| if place == heavier { over } else { 0 };
+        let locals = [1, 3, 0].into_iter().enumerate().map(|(i, tuples)| heavy_local(i as u32, tuples, more(i)));
+        add(format!("locals of 1, 3 and 0 tuples, {over} more in {heavier}"), &|t| t.set_records(&locals.clone().collect::<Vec<_>>()));
+    }
+    let weight = u64::from(u32::MAX) + over as u64;
+    let pair = Lookup { tuples: vec![vec![0]; 2], multiplicities: vec![1; 2], ..on_bus(0, vec![], 1) };
+    add(format!("weight {weight} on a bus"), &|t| t.set_records(&[Lookup { weight, ..on_bus(0, vec![0], 1) }]));
+    add(format!("weight {weight} of 2 tuples on a bus"), &|t| t.set_records(&[Lookup { weight, ..pair.clone() }]));
     let n = limits.name_bytes as usize + over;
     add(format!("{n} bytes a name"), &|t| t.set_records(&[Lookup { bus: Some(vec![b'x'; n]), ..on_bus(0, vec![0], 1) }]));
     add(format!("degree {}", 255 + over), &|t| {
@@ -896,8 +973,8 @@ fn tables_at_limits(chosen: Chosen, over: usize) -> Vec<(String, Table)> {
 /// Adds a case of these tables, with a change.
 type Add<'a> = dyn FnMut(String, Vec<Table>, &dyn Fn(&mut Case)) + 'a;
 
-/// The limits of docs/SPECIFICATION.md in each field and profile, each met and passed by one, row offsets likewise, words at the primes, unknown
-/// choices, and tuples and rows ahead by both rules, with a name. By rule 2 there is only what generation and constraints read.
+/// The limits of docs/SPECIFICATION.md in each field and profile, each met and passed by one, weights and row offsets likewise, words at the primes,
+/// unknown choices, and tuples and rows ahead by both rules, with a name. By rule 2 there is only what generation and constraints read.
 pub fn boundaries() -> Vec<(String, Case)> {
     let chosen = |rule| Profile::ALL.into_iter().flat_map(move |profile| Field::ALL.map(|field| Chosen { field, profile, rule }));
     let by_rule_1 = chosen(Rule::One).flat_map(|chosen| named(chosen, at_limits));
@@ -924,6 +1001,23 @@ fn named(chosen: Chosen, added: fn(&mut Add, Chosen)) -> Vec<(String, Case)> {
     };
     added(&mut add, chosen);
     cases
+}
+
+/// A record of another length, and weights that fill both words.
+fn records_at_odds(add: &mut Add, chosen: Chosen) {
+    let mut add = |name: String, change: &dyn Fn(&mut Table)| {
+        let mut t = plain_table(chosen, 3);
+        change(&mut t);
+        add(name, vec![t], &|_| ());
+    };
+    for words in [LOOKUP_WORDS - 1, LOOKUP_WORDS + 1] {
+        add(format!("a lookup of {words} words"), &|t| t.lookups.resize(words, 0));
+    }
+    let tuples = chosen.profile.limits().tuples;
+    for weight in [u64::from(u32::MAX) << 32, u64::MAX] {
+        add(format!("a local of {tuples} tuples that weighs {weight}"), &|t| t.set_records(&[local(0, tuples, weight)]));
+        add(format!("weight {weight} on a bus"), &|t| t.set_records(&[Lookup { weight, ..on_bus(0, vec![0], 1) }]));
+    }
 }
 
 /// What all functions read.
@@ -970,17 +1064,27 @@ fn at_limits(add: &mut Add, chosen: Chosen) {
         add(format!("prefix width {}", 255 + n), table(&|_| ()), &|c| c.prefix_width = 255 + n);
         add(format!("prefix width {n}"), table(&|_| ()), &|c| c.prefix_width = n);
         add(format!("transition degree {}", 1 + n), table(&|_| ()), &|c| c.transition = 1 + n);
-        add(
-            format!("weights {} and 1 on a bus", u32::MAX - 1 + over as u32),
-            table(&|t| {
-                let heavy = Lookup { weight: u32::MAX - 1 + over as u32, ..on_bus(0, vec![0], 1) };
-                t.set_records(&[heavy, on_bus(1, vec![0], 2)]);
-            }),
-            &|c| c.limit = 9,
-        );
+        let weight = u64::from(u32::MAX) - 1 + over as u64;
+        let heavy = Lookup { weight, ..on_bus(0, vec![0], 1) };
+        add(format!("weights {weight} and 1 on a bus"), table(&|t| t.set_records(&[heavy.clone(), on_bus(1, vec![0], 2)])), &|c| {
+            c.limit = 9
+        });
+        // Locals are no merges, whatever they weigh together.
+        let beside = [heavy, local(1, 2, 1 << 32), on_bus(2, vec![0], 2), local(3, 3, 2 << 32), heavy_local(4, 0, 0)];
+        add(format!("weights {weight} and 1 on a bus, heavy locals beside them"), table(&|t| t.set_records(&beside)), &|c| c.limit = 9);
+        let full = |last: Table| [vec![heaviest_table(chosen, 0); limits.tables - 1], vec![last]].concat();
+        for height in [0, limits.height] {
+            let name = format!("{} tables of the heaviest locals, {over} more in the last, height {height}", limits.tables);
+            add(name, full(heaviest_table(chosen, over)), &|c| c.heights = vec![height; limits.tables]);
+        }
         for (name, interactions) in to_build(limits, over) {
             add(name, table(&|_| ()), &|c| c.interactions = interactions.clone());
         }
+        let built = Interaction::Local(vec![Part { elements: vec![0], multiplicity: 1, weight: 1 }]);
+        add(format!("room to build short by {over}"), table(&|_| ()), &|c| {
+            c.interactions = vec![built.clone()];
+            c.edits = vec![(List::Built, if over == 1 { Edit::Pop } else { Edit::Push(5) })];
+        });
         // A lent list that is too short is found before a node that is absent.
         for (i, absent) in (0..6).flat_map(|i| [(i, 0), (i, 9)]) {
             let flagged = Lookup { exclusive: true, flags: vec![1 + absent], ..on_bus(1, vec![0], 1) };
@@ -993,6 +1097,7 @@ fn at_limits(add: &mut Add, chosen: Chosen) {
         });
         rows_and_buffers(add, chosen, over);
     }
+    records_at_odds(add, chosen);
     heights(add, chosen);
     farthest_rows(add, chosen);
     for word in AT_PRIMES {
@@ -1010,6 +1115,7 @@ fn at_limits_of_rows(add: &mut Add, chosen: Chosen) {
         }
         rows_and_buffers(add, chosen, over);
     }
+    records_at_odds(add, chosen);
     heights(add, chosen);
     farthest_rows(add, chosen);
     for word in AT_PRIMES {
@@ -1103,11 +1209,14 @@ fn at_prime(add: &mut Add, chosen: Chosen, word: u32) {
     add(format!("count -{word}"), table(), &|c| c.count = -(word as i32));
     let heavy = |weight: u32| {
         let mut t = plain_table(chosen, 1);
-        t.set_records(&[Lookup { weight, ..on_bus(0, vec![0], 1) }]);
+        t.set_records(&[Lookup { weight: weight.into(), ..on_bus(0, vec![0], 1) }]);
         t
     };
     add(format!("height sum {word}"), vec![heavy(word)], &same);
     add(format!("height sum {word} of two tables"), vec![heavy(word - 7), heavy(7)], &same);
+    add(format!("height sum {word} beside heavy locals without rows"), vec![heaviest_table(chosen, 0), heavy(word)], &|c| {
+        c.heights = vec![0, 1]
+    });
 }
 
 /// The nodes of the tables below after their eight columns: two constants, and the mark of the first row.

@@ -3,7 +3,7 @@
 use std::ops::Range;
 
 use crate::plain::{self, Ext, Field};
-use crate::table::{Entry, LOOKUP_WORDS, Lookup, NODE_WORDS, Plan, SIZES, Table, Widths, chosen_of, front};
+use crate::table::{Entry, LOOKUP_WORDS, Lookup, NODE_WORDS, Plan, SIZES, Table, Widths, chosen_of, front, halves};
 
 /// A refusal's number and three details; number 0 where the call is accepted.
 #[derive(Clone, Copy, Debug, Default, PartialEq, Eq)]
@@ -167,12 +167,23 @@ fn plan_sizes_fit(t: &Table) -> bool {
         && lookup_sizes_fit(t)
 }
 
+/// The most that a lookup of so many tuples weighs: 2^32 - 1 on a bus; of a local as much for each tuple, and without tuples once.
+pub fn weight_limit(on_bus: bool, tuples: u32) -> u64 {
+    let times = if on_bus { 1 } else { tuples.max(1) };
+    u64::from(times) * u64::from(u32::MAX)
+}
+
+pub fn weights_within(t: &Table) -> bool {
+    t.entries().iter().all(|e| e.weight <= weight_limit(e.on_bus, e.tuples))
+}
+
 /// What the lookups' words alone show.
 fn words_within(t: &Table) -> bool {
     let (limits, entries) = (t.profile.limits(), t.entries());
     t.lookups.len().is_multiple_of(LOOKUP_WORDS)
         && entries.len() <= limits.lookups
         && entries.iter().all(|e| e.name_length <= limits.name_bytes)
+        && weights_within(t)
         && entries.iter().map(|e| u64::from(e.tuples)).sum::<u64>() <= limits.tuples as u64
 }
 
@@ -640,9 +651,10 @@ pub fn pack(t: &Table, limit: u64) -> (Answer, Vec<Lookup>) {
             });
             match merged.filter(|merged| lookup_degree(merged, &degrees) <= limit) {
                 Some(merged) => {
-                    let Some(weight) = merged.weight.checked_add(member.weight) else {
+                    let weight = merged.weight + member.weight;
+                    if u64::from(u32::MAX) < weight {
                         return (refused(7), vec![]);
-                    };
+                    }
                     *columns.last_mut().unwrap() = Lookup { weight, ..merged };
                 }
                 None => columns.push(member.clone()),
@@ -679,10 +691,10 @@ pub fn build(t: &Table, plan: &Plan, room: usize) -> (Answer, Table) {
         let (local, exclusive) = (u64::from(i) < *locals, locals + globals <= u64::from(i));
         let (name, tuples) = (interactions[2 * i as usize], interactions[2 * i as usize + 1]);
         let own = front(&mut weights, tuples).iter().map(|w| u64::from(*w));
-        let weight = if local { own.sum::<u64>().min(u32::MAX.into()) } else { own.max().unwrap_or(0) };
+        let [low, high] = halves(if local { own.sum() } else { own.max().unwrap_or(0) });
         let name = if local { 0 } else { name };
         let flags = if exclusive { tuples } else { 0 };
-        built.lookups.extend([u32::from(!local), name, weight as u32, i, exclusive.into(), tuples, tuples, flags]);
+        built.lookups.extend([u32::from(!local), name, low, i, exclusive.into(), tuples, tuples, flags, high]);
     }
     let number = plan_refusal(&built);
     if number != 0 {
@@ -769,7 +781,7 @@ pub fn height_bound(tables: &[Table], heights: &[u64]) -> Answer {
     if number != 0 {
         return refused(number);
     }
-    let weight = |t: &Table| t.entries().iter().map(|e| u64::from(e.weight)).sum::<u64>();
+    let weight = |t: &Table| t.entries().iter().map(|e| e.weight).sum::<u64>();
     let sum: u64 = tables.iter().zip(heights).map(|(t, h)| weight(t) * h).sum();
     let below = tables.iter().all(|t| sum < t.field.prime().into());
     if below { ACCEPTED } else { Answer { number: 19, details: [sum, 0, 0] } }

@@ -21,7 +21,7 @@ use serde::Transparent;
 
 use crate::model::{self, Rule};
 use crate::plain::{Ext, Field};
-use crate::table::{Interaction, Lookup, NODE_WORDS, Part, Table, chosen_of};
+use crate::table::{Interaction, Lookup, NODE_WORDS, Part, Table, chosen_of, word};
 
 type Expression<const P: u32> = SymbolicExpression<MontyField31<P>>;
 
@@ -52,9 +52,12 @@ fn caught<T>(run: impl FnOnce() -> T) -> Run<T> {
     })
 }
 
-/// Whether the crate can be given this table: the lists fit, each word is an element, each node and each list has a meaning. Limits aside.
+/// Whether the crate can be given this table: the lists fit, each word is an element, each node, list and weight has a meaning. Limits aside, but
+/// the columns that are added must have numbers.
 pub fn takes(t: &Table) -> bool {
-    t.fits() && model::traces_below(t) && model::constants_below(t) && model::nodes_known(t) && model::lookups_agree(t) && trees_small(t)
+    let meant = || model::nodes_known(t) && model::lookups_agree(t) && model::weights_within(t);
+    let narrow = t.main_width.max(t.pre_width) <= 1 << 31;
+    t.fits() && narrow && model::traces_below(t) && model::constants_below(t) && meant() && trees_small(t)
 }
 
 /// The crate's expressions are trees; a table of nodes can stand for one that is too large to walk.
@@ -260,13 +263,14 @@ impl<const P: u32, const W: u32> Over<Quartic<P, W>> {
         nodes.iter().position(|node| node.is(expression)).expect("an expression of the table") as u32
     }
 
+    /// Weights have 32 bits there: a larger one is held at the largest.
     fn lookups(t: &Table, nodes: &[Expression<P>]) -> Vec<types::Lookup<MontyField31<P>>> {
         let listed = |numbers: &[u32]| -> Vec<Expression<P>> { numbers.iter().map(|n| nodes[*n as usize].clone()).collect() };
         let lookup = |r: &Lookup| types::Lookup {
             kind: r.bus.as_deref().map_or(Kind::Local, |name| Kind::Global(bus_name(name))),
             elements: r.tuples.iter().map(|tuple| listed(tuple)).collect(),
             multiplicities: listed(&r.multiplicities),
-            count_weight: r.weight,
+            count_weight: word(r.weight),
             column: r.column as usize,
             flags: r.exclusive.then(|| listed(&r.flags)),
         };
@@ -281,7 +285,7 @@ impl<const P: u32, const W: u32> Over<Quartic<P, W>> {
                 Kind::Local => None,
                 Kind::Global(name) => Some(name.chars().map(|c| c as u8).collect()),
             },
-            weight: l.count_weight,
+            weight: l.count_weight.into(),
             column: l.column as u32,
             exclusive: l.flags.is_some(),
             tuples: l.elements.iter().map(|tuple| numbers(tuple)).collect(),

@@ -125,6 +125,7 @@ fn smaller_tables(t: &Table) -> Vec<(Table, Option<usize>)> {
         for i in 0..t.lookup_count() {
             with(Some(i), &|t| change_records(t, &|records| drop(records.remove(i))));
             with(None, &|t| change_records(t, &|records| records[i].weight = 0));
+            with(None, &|t| change_records(t, &|records| records[i].weight = records[i].weight.min(1 << 32)));
             for k in 0..t.records()[i].tuples.len() {
                 with(None, &|t| change_records(t, &|records| drop_tuple(&mut records[i], k)));
                 with(None, &|t| change_records(t, &|records| shorten(&mut records[i].tuples[k])));

@@ -22,7 +22,8 @@ pub struct Table<W = u32> {
     pub public_values: Vec<W>,
     /// kind, a, b of each node; b is the row offset in kinds 1 and 3
     pub nodes: Vec<W>,
-    /// scope (0 local, else bus), name length, weight, column, exclusive, tuples, multiplicities, flags of each lookup
+    /// scope (0 local, else bus), name length, weight (its low half), column, exclusive, tuples, multiplicities, flags of each lookup, and the
+    /// high half of its weight
     pub lookups: Vec<W>,
     pub names: Vec<u8>,
     /// the width of each tuple
@@ -37,7 +38,7 @@ pub struct Table<W = u32> {
 pub struct Lookup {
     /// The name of its bus; a local has none.
     pub bus: Option<Vec<u8>>,
-    pub weight: u32,
+    pub weight: u64,
     pub column: u32,
     pub exclusive: bool,
     pub tuples: Vec<Vec<u32>>,
@@ -138,14 +139,14 @@ impl<W> Table<W> {
     }
 }
 
-pub const LOOKUP_WORDS: usize = 8;
+pub const LOOKUP_WORDS: usize = 9;
 pub const NODE_WORDS: usize = 3;
 
 /// The words of one lookup, by their names.
 pub struct Entry {
     pub on_bus: bool,
     pub name_length: u32,
-    pub weight: u32,
+    pub weight: u64,
     pub column: u32,
     pub exclusive: bool,
     pub tuples: u32,
@@ -176,7 +177,7 @@ impl Table {
             on_bus: words[0] != 0,
             // A local has no name.
             name_length: if words[0] != 0 { words[1] } else { 0 },
-            weight: words[2],
+            weight: u64::from(words[2]) + (u64::from(words[8]) << 32),
             column: words[3],
             exclusive: words[4] != 0,
             tuples: words[5],
@@ -201,6 +202,11 @@ impl Table {
     /// Whether it has a node that sees a row after the next.
     pub fn looks_far(&self) -> bool {
         (0..self.node_count()).any(|i| matches!(self.node(i), [1 | 3, _, 2 | 3]))
+    }
+
+    /// Whether it has a local that weighs more than 2^32 - 1.
+    pub fn has_heavy_local(&self) -> bool {
+        self.entries().iter().any(|e| !e.on_bus && u64::from(u32::MAX) < e.weight)
     }
 
     pub fn add_node(&mut self, kind: u32, a: u32, b: u32) -> u32 {
@@ -265,8 +271,10 @@ impl Table {
         for r in records {
             let name = r.bus.as_deref().unwrap_or_default();
             let lengths = [r.tuples.len(), r.multiplicities.len(), r.flags.len()].map(|n| n as u32);
-            self.lookups.extend([r.bus.is_some().into(), name.len() as u32, r.weight, r.column, r.exclusive.into()]);
+            let [low, high] = halves(r.weight);
+            self.lookups.extend([r.bus.is_some().into(), name.len() as u32, low, r.column, r.exclusive.into()]);
             self.lookups.extend(lengths);
+            self.lookups.push(high);
             self.names.extend(name);
             self.tuples.extend(r.tuples.iter().map(|t| t.len() as u32));
             self.multiplicities.extend(&r.multiplicities);
@@ -368,6 +376,11 @@ impl Table<u8> {
 
 pub fn word(n: u64) -> u32 {
     n.try_into().unwrap_or(u32::MAX)
+}
+
+/// A number as two words, the low half first.
+pub fn halves(n: u64) -> [u32; 2] {
+    [n as u32, (n >> 32) as u32]
 }
 
 pub fn bytes_of(words: &[u32]) -> Vec<u8> {

@@ -6,7 +6,7 @@ use harness::generator;
 use harness::model::{ACCEPTED, Answer, Choices, Profile, Rule};
 use harness::oracle::{self, Run};
 use harness::plain::{Ext, Field, lift};
-use harness::table::{Interaction, Lookup, Part, Plan, Table, chosen_of};
+use harness::table::{Interaction, LOOKUP_WORDS, Lookup, Part, Plan, Table, chosen_of};
 
 #[cfg(feature = "port")]
 const PORT: &dyn Exports = &harness::port::Exported;
@@ -86,6 +86,11 @@ fn table(rows: &[u32], lookups: &[Lookup]) -> Table {
 fn once(column: u32) -> Lookup {
     let bus = Some(b"mem".to_vec());
     Lookup { bus, weight: 1, column, tuples: vec![vec![0]], multiplicities: vec![2], ..Lookup::default() }
+}
+
+/// A local with the column twice.
+fn local(weight: u64) -> Lookup {
+    Lookup { weight, tuples: vec![vec![0]; 2], multiplicities: vec![2; 2], ..Lookup::default() }
 }
 
 fn flagged(column: u32, flag: u32) -> Lookup {
@@ -212,6 +217,19 @@ fn full_table_of_nodes() {
     assert_eq!(PORT.count_from_i32(Choices::of(FIELD), &mut nodes, 1024, 1, &mut count).number, 1);
     assert_eq!(PORT.count_negated(Choices::of(FIELD), &mut nodes, 1024, [0, 1], &mut count).number, 1);
     assert_eq!(oracle::count_from(FIELD, 1), Ok(([0, 1, 0], 1)));
+}
+
+#[test]
+fn weights_over_their_limits() {
+    let of_bus = Lookup { weight: 1 << 32, ..once(0) };
+    let of_one = Lookup { bus: None, ..of_bus.clone() };
+    let of_none = Lookup { weight: 1 << 32, ..Lookup::default() };
+    for t in [of_bus, local((1 << 33) - 1), of_one, of_none].map(|lookup| table(&[3], &[lookup])) {
+        assert_eq!([generate(&t, &pairs(1)).number, pack(&t, 9).number], [1, 1]);
+        assert_eq!(degree(&t, 0, 0), Err(1));
+        let t = std::slice::from_ref(&t);
+        assert_eq!([widths(t).number, height_bound(t, &[0]).number, balance(t, &mut []).number], [1; 3]);
+    }
 }
 
 #[test]
@@ -416,7 +434,7 @@ fn widths_differ() {
 
 #[test]
 fn weight_too_large() {
-    let t = table(&[3], &[Lookup { weight: u32::MAX, ..once(0) }, once(1)]);
+    let t = table(&[3], &[Lookup { weight: u32::MAX.into(), ..once(0) }, once(1)]);
     assert_eq!(pack(&t, 9).number, 7);
     says(oracle::pack(&t, 9), "count_weight overflow");
 }
@@ -520,7 +538,7 @@ fn unbalanced() {
 fn sums() {
     for field in Field::ALL {
         let p = field.prime();
-        let t = [Table { field, ..table(&[3], &[Lookup { weight: p, ..once(0) }]) }];
+        let t = [Table { field, ..table(&[3], &[Lookup { weight: p.into(), ..once(0) }]) }];
         assert_eq!((height_bound(&t, &[1]), oracle::height_bound(&t, &[1])), (refused(19, [p.into(), 0, 0]), Ok(Err(p.into()))));
         let ones = [Some(lift(1)); 2];
         assert_eq!((terminals(field, &ones).number, oracle::terminals(field, &ones)), (20, Ok(false)));
@@ -587,7 +605,7 @@ fn challenges_before_lists() {
 fn widths_and_weights_before_nodes_and_lists() {
     // Two widths, or two weights that are too large together, with an absent column, a degree that is too high, or a multiplicity too many.
     let many = Lookup { multiplicities: vec![2, 2], ..once(0) };
-    let heavy = [Lookup { weight: u32::MAX, ..once(0) }, once(1)];
+    let heavy = [Lookup { weight: u32::MAX.into(), ..once(0) }, once(1)];
     for (lookups, text) in [([once(0), wide(1)], "tuple widths 1 and 2 differ"), (heavy, "count_weight overflow")] {
         let mut absent = table(&[3], &lookups);
         absent.add_node(1, 1, 0);
@@ -600,7 +618,7 @@ fn widths_and_weights_before_nodes_and_lists() {
     assert_eq!(pack(&t, 9).number, 5);
     says(oracle::pack(&t, 9), "tuple widths 1 and 2 differ");
     assert_eq!((widths(std::slice::from_ref(&t)).number, oracle::widths(&[t])), (5, Ok(Err((1, 2)))));
-    let heavy = [table(&[3], &[Lookup { weight: P, multiplicities: vec![2, 2], ..once(0) }])];
+    let heavy = [table(&[3], &[Lookup { weight: P.into(), multiplicities: vec![2, 2], ..once(0) }])];
     assert_eq!((height_bound(&heavy, &[1]).number, oracle::height_bound(&heavy, &[1])), (5, Ok(Err(P.into()))));
     // A local of two widths, built for a table with an absent column.
     let part = |width| Part { elements: vec![0; width], multiplicity: 2, weight: 1 };
@@ -696,6 +714,25 @@ fn rows_further_ahead() {
             assert_eq!(oracle::constraints(given, &with, 2, &trace, Some(sum)), Ok(None));
         }
     }
+}
+
+#[test]
+fn sum_of_a_local() {
+    // The crate holds the sum of these weights at 2^32 - 1.
+    let part = |weight| Part { elements: vec![0], multiplicity: 2, weight };
+    let interactions = [Interaction::Local(vec![part(u32::MAX), part(1)])];
+    let (t, mut words) = (table(&[3], &[]), [7; LOOKUP_WORDS]);
+    assert_eq!(PORT.build(Choices::of(FIELD), &t, &Plan::of(&interactions), &mut words, &mut 7), ACCEPTED);
+    assert_eq!(words, [0, 0, 0, 0, 0, 2, 2, 0, 1]);
+    assert_eq!(oracle::build(&t, &interactions), Ok(vec![local(u32::MAX.into())]));
+    // What is packed weighs what it did, and the height bound counts that.
+    let tables = [table(&[3], &[local(1 << 32)])];
+    let mut packed = Table { lookups: vec![7; LOOKUP_WORDS], ..tables[0].clone() };
+    assert_eq!(PORT.pack(Choices::of(FIELD), &tables[0], 9, &mut packed, &mut [7; 6]), ACCEPTED);
+    assert_eq!(packed, tables[0]);
+    assert_eq!(oracle::pack(&tables[0], 9), Ok(vec![local(u32::MAX.into())]));
+    assert_eq!(height_bound(&tables, &[3]), refused(19, [3 << 32, 0, 0]));
+    assert_eq!(oracle::height_bound(&tables, &[3]), Ok(Err(3 * u128::from(u32::MAX))));
 }
 
 #[test]

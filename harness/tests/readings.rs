@@ -204,7 +204,7 @@ fn given(choices: Choices, t: &Table) -> Vec<(&'static str, Answer, String)> {
     add("degree", PORT.degree(choices, t, 0, 0, &mut degree), &degree);
     let (mut out, mut used) = (t.clone(), [7; 6]);
     add("packing", PORT.pack(choices, t, 9, &mut out, &mut used), &(&out, used));
-    let part = Part { elements: vec![0; t.tuples[0] as usize], multiplicity: 1, weight: 1 };
+    let part = Part { elements: vec![0; t.tuples.first().map_or(1, |w| *w as usize)], multiplicity: 1, weight: 1 };
     let plan = Plan::of(&vec![Interaction::Global(b"mem".to_vec(), part); t.lookup_count()]);
     let (mut lookups, mut used) = (vec![7; LOOKUP_WORDS * t.lookup_count()], 7);
     add("building", PORT.build(choices, t, &plan, &mut lookups, &mut used), &(&lookups, used));
@@ -493,6 +493,70 @@ fn offsets_over_three() {
         let numbers = [constant, squared, absent].map(|t| generate(&t, &PAIR).number);
         assert_eq!(numbers, if number == 0 { [2, 4, 5] } else { [2, 3, 3] });
     }
+}
+
+/// The table with a lookup of so many tuples, of this weight.
+fn weighing(bus: Option<&[u8]>, tuples: usize, weight: u64) -> Table {
+    let mut t = table(bus);
+    t.set_records(&[Lookup { weight, tuples: vec![vec![0]; tuples], multiplicities: vec![1; tuples], ..t.records().remove(0) }]);
+    t
+}
+
+#[test]
+fn weights_at_every_door() {
+    let most = u64::from(u32::MAX);
+    // 2^32 - 1 for each tuple of a local, and for one without tuples; on a bus 2^32 - 1.
+    let limits = [(None, 0, most), (None, 1, most), (None, 2, 2 * most), (None, 64, 64 * most), (Some(&b"mem"[..]), 2, most)];
+    for (bus, tuples, limit) in limits {
+        for (name, answer, _) in given(ONE, &weighing(bus, tuples, limit)) {
+            assert_ne!(answer.number, 1, "{name}");
+        }
+        // Building is given interactions, whose weights are words.
+        for (name, answer, _) in given(ONE, &weighing(bus, tuples, limit + 1)) {
+            assert_eq!(answer.number == 1, name != "building", "{name}");
+        }
+    }
+    // The tuples are those of the record: their number is at odds with the multiplicities' after that.
+    let bound = |weight: u64| {
+        let mut t = weighing(None, 2, weight);
+        t.lookups[6] = 1;
+        PORT.height_bound(ONE, &t.lookups, &[1], &[1]).number
+    };
+    assert_eq!([bound(2 * most), bound(2 * most + 1)], [5, 1]);
+}
+
+#[test]
+fn weights_of_locals_are_whole() {
+    let most = u64::from(u32::MAX);
+    // Building adds them up.
+    let built = |weights: &[u32]| {
+        let part = |weight: &u32| Part { elements: vec![0], multiplicity: 1, weight: *weight };
+        let plan = Plan::of(&[Interaction::Local(weights.iter().map(part).collect())]);
+        let mut words = [7; LOOKUP_WORDS];
+        assert_eq!(PORT.build(ONE, &table(None), &plan, &mut words, &mut 7), ACCEPTED);
+        [words[2], words[8]]
+    };
+    assert_eq!([built(&[u32::MAX, 0]), built(&[u32::MAX, 1]), built(&[u32::MAX, 2])], [[u32::MAX, 0], [0, 1], [1, 1]]);
+    assert_eq!(built(&[u32::MAX; 64]), [(1 << 32) - 64, 63].map(|n: u64| n as u32));
+    // Packing keeps them, and refuses by 7 what is on a bus alone.
+    for (weight, number) in [(most - 1, 0), (most, 7)] {
+        let mut t = weighing(None, 2, 2 * most);
+        let [local, on_bus] = [t.records().remove(0), table(Some(b"mem")).records().remove(0)];
+        t.set_records(&[Lookup { weight, ..on_bus.clone() }, local.clone(), on_bus]);
+        let (mut out, mut used) = (t.clone(), [7; 6]);
+        assert_eq!(PORT.pack(ONE, &t, 9, &mut out, &mut used).number, number);
+        if number == 0 {
+            assert_eq!(used[0] as usize, 2 * LOOKUP_WORDS);
+            assert_eq!(out.lookups[..LOOKUP_WORDS], [0, 0, u32::MAX - 1, 0, 0, 2, 2, 0, 1]);
+            assert_eq!(out.lookups[LOOKUP_WORDS..used[0] as usize], [1, 3, u32::MAX, 1, 0, 2, 2, 0, 0]);
+        }
+    }
+    // The height bound's sum is exact: sixteen tables of a local of 64 tuples and 63 without.
+    let mut t = weighing(None, 64, 64 * most);
+    let without = weighing(None, 0, most).records().remove(0);
+    t.set_records(&[t.records(), vec![without; 63]].concat());
+    let bound = |height: u32| PORT.height_bound(ONE, &t.lookups.repeat(16), &[64; 16], &[height; 16]);
+    assert_eq!([0, 1 << 20].map(bound), [ACCEPTED, Answer { number: 19, details: [(127 * most) << 24, 0, 0] }]);
 }
 
 /// Choices with an unknown number among them.

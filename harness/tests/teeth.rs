@@ -1,6 +1,6 @@
 //! The comparison notices wrong ports and wrong wrappers, and makes what it finds small. The wrong ones are readings that
-//! docs/SPECIFICATION.md rules out, fields, profiles and tuple rules that are mixed, choices and row offsets that are not tested or read otherwise,
-//! outputs that are written or left where they must not be, and slips in the wrapper.
+//! docs/SPECIFICATION.md rules out, fields, profiles and tuple rules that are mixed, choices, row offsets and weights that are not tested or read
+//! otherwise, outputs that are written or left where they must not be, and slips in the wrapper.
 use std::borrow::Cow;
 
 use harness::compare::{Disagreement, Tally, check_port};
@@ -10,7 +10,7 @@ use harness::model::{self, Answer, Choices, Chosen, Profile, Rule};
 use harness::plain::{Ext, Field, KoalaBear, PrimeField, Random};
 use harness::port::Port;
 use harness::shrink::shrink;
-use harness::table::{Interaction, LOOKUP_WORDS, Lookup, NODE_WORDS, Plan, SIZES, Table, words_of};
+use harness::table::{Interaction, LOOKUP_WORDS, Lookup, NODE_WORDS, Plan, SIZES, Table, halves, words_of};
 use harness::tuned::{self, Product};
 use harness::wrapper::{Refused, Wrapper};
 
@@ -31,9 +31,11 @@ macro_rules! mistakes {
 mistakes! {
     // Readings.
     FirstElementBetaZero, InclusiveAccumulator, TerminalZero, BufferNotWritten, LastRowZero, OtherDetails, AcceptsAnyTrace, NumericOrder,
-    WidestOfLocalsToo, PacksNothing, LosesATuple, SumsBranches, WrapsAWeight, AbsentTerminalTested, CountNotReduced, MagnitudeNotTaken,
+    WidestOfLocalsToo, PacksNothing, LosesATuple, SumsBranches, AbsentTerminalTested, CountNotReduced, MagnitudeNotTaken,
     NegatesAbsentNode, NodeLimitForgotten, ProvidedWithWeight, BoundedWithoutWeight, RowAfterTheLast, PartOfARow, RowWithoutLookups,
     PowerOneMore, InverseOfZero, SeedMovesSlots,
+    // Weights of locals in building, then in packing.
+    WrapsASum, HoldsASum, LosesHighHalves, HoldsPackedWeights, SevenOfALocal,
     // Tests that are missing or out of order.
     WidthsWithoutFive, BoundWithoutFive, ShortOutputAfterFive, SizesPastTheListsTaken, OddTerminalWordsTaken, TwoTuplesOfAGlobalTaken,
     ShortElementTaken, OddBytesTaken,
@@ -49,7 +51,8 @@ mistakes! {
     ElementZeroedByRefusal, CountZeroedByRefusal, NodesZeroedByRefusal, RoomNotFilled, WrittenRoomNotFilled, RoomFilledThoughRefused, RoomReversed,
     BytesTerminalZeroedByRefusal, BytesUsedZeroedByRefusal,
     // The wrapper.
-    WithoutFlags, WithoutNames, CountOfNine, SizesExchanged, GenerateWithoutTerminal, GenerateShort, ConstraintsWithoutTerminal, PackNotCut,
+    WithoutFlags, WithoutNames, WithoutHighHalves, CountOfEight, SizesExchanged, GenerateWithoutTerminal, GenerateShort,
+    ConstraintsWithoutTerminal, PackNotCut,
     BuildUnsorted, WidthsOfTheFirst, BoundOfTheFirst, AbsentTerminalAsZeroMark, PrefixesOneShort, BalanceOfTheFirst, PowerExchanged,
     InverseNotTaken, RefusalWithoutDetails, BytesReversed, BytesPackInWords, BytesGenerateWithoutTerminal, BytesBalanceAccepts,
     SeededBalanceAccepts, BytesSeededBalanceAccepts, BoundedExchanged, ProvidedIsBounded, CountOfTheMagnitude, NodesOfACountKept,
@@ -236,7 +239,15 @@ impl Exports for Mistake {
                 return model::refused(2);
             }
             LosesATuple if answer.number == 0 => used[2] = used[2].saturating_sub(1),
-            UsedInRecords if answer.number == 0 => used[0] /= 8,
+            UsedInRecords if answer.number == 0 => used[0] /= LOOKUP_WORDS as u64,
+            LosesHighHalves | HoldsPackedWeights if answer.number == 0 => {
+                let written = out.lookups[..used[0] as usize].chunks_exact_mut(LOOKUP_WORDS).filter(|entry| entry[8] != 0);
+                written.for_each(|entry| [entry[2], entry[8]] = [if *self == LosesHighHalves { entry[2] } else { u32::MAX }, 0]);
+            }
+            SevenOfALocal if answer.number == 0 && t.has_heavy_local() => {
+                (*out, *used) = before;
+                return model::refused(7);
+            }
             PackedPastTheEnd if answer.number == 0 => out.elements.iter_mut().skip(used[5] as usize).for_each(|word| *word = 0),
             PackedZeroedByRefusal if by_refusal(answer) => *used = [0; 6],
             ShortOutputAfterFive if answer.number == 1 => {
@@ -251,11 +262,12 @@ impl Exports for Mistake {
     fn build(&self, choices: Choices, t: &Table, plan: &Plan, lookups: &mut [u32], used: &mut u64) -> Answer {
         let answer = RIGHT.build(choices, t, plan, lookups, used);
         let mut weights = &plan.weights[..];
-        for (lookup, words) in lookups.chunks_exact_mut(8).zip(plan.interactions.chunks_exact(2)) {
+        for (lookup, words) in lookups.chunks_exact_mut(LOOKUP_WORDS).zip(plan.interactions.chunks_exact(2)) {
             let own = weights.split_off(..weights.len().min(words[1] as usize)).unwrap();
             match self {
                 SumsBranches if answer.number == 0 && lookup[4] == 1 => lookup[2] = own.iter().copied().fold(0, u32::saturating_add),
-                WrapsAWeight if answer.number == 0 && lookup[0] == 0 => lookup[2] = own.iter().copied().fold(0, u32::wrapping_add),
+                WrapsASum if answer.number == 0 => lookup[8] = 0,
+                HoldsASum if answer.number == 0 && lookup[8] != 0 => [lookup[2], lookup[8]] = [u32::MAX, 0],
                 _ => (),
             }
         }
@@ -476,13 +488,14 @@ impl Wrapper for Mistake {
         match self {
             WithoutFlags => with.flags.clear(),
             WithoutNames => with.names.clear(),
+            WithoutHighHalves => with.lookups.chunks_exact_mut(LOOKUP_WORDS).for_each(|entry| entry[8] = 0),
             _ => (),
         }
         with
     }
 
     fn lookup_count(&self, t: &Table) -> usize {
-        if *self == CountOfNine { t.lookups.len() / 9 } else { SAFE.lookup_count(t) }
+        if *self == CountOfEight { t.lookups.len() / 8 } else { SAFE.lookup_count(t) }
     }
 
     fn sizes(&self, t: &Table) -> [u32; SIZES] {
@@ -645,7 +658,7 @@ fn compared<Wrong: Exports + Wrapper>(wrong: &Wrong, case: &Case) -> Option<Disa
     check_port(case, Port { exports: wrong, wrapper: wrong }, &mut Tally::default()).err()
 }
 
-/// Reads the choices or the row offsets of one function otherwise than it must.
+/// Reads the choices, the row offsets or the weights of one function otherwise than it must.
 struct Misread {
     function: &'static str,
     slip: Slip,
@@ -702,6 +715,15 @@ enum Slip {
     OffsetOfTwoBits,
     UnusedOffsetTaken,
     UnusedWordTested,
+    /// The high half of a weight is not read, or not on a bus.
+    HighHalfIgnored,
+    HighHalfIgnoredOnABus,
+    /// A local may weigh more than its tuples allow, a lookup on a bus as much as its tuples would.
+    HeavyLocalTaken,
+    TuplesOnABusCounted,
+    /// A local may weigh 2^32 - 1, however many tuples it has; one without tuples may weigh nothing.
+    TuplesNotCounted,
+    NoTuplesNoWeight,
 }
 use Slip::*;
 
@@ -749,6 +771,11 @@ fn slips() -> Vec<Misread> {
         }
         for slip in [OffsetOfTwoBits, UnusedOffsetTaken, UnusedWordTested] {
             add(of_nodes && !function.ends_with("bytes"), slip);
+        }
+        // So it does the lookups. Building makes its own.
+        let of_weights = limited && function != "building" && !function.ends_with("bytes");
+        for slip in [HighHalfIgnored, HighHalfIgnoredOnABus, HeavyLocalTaken, TuplesOnABusCounted, TuplesNotCounted, NoTuplesNoWeight] {
+            add(of_weights, slip);
         }
     }
     let wrapped = [
@@ -863,11 +890,38 @@ impl Misread {
         call(choices, lent)
     }
 
-    /// The table as a function reads its row offsets; `lists` has the lookups that name its nodes.
+    /// The words of lookups as a function reads their weights.
+    fn weighed<'a>(&self, function: &str, lookups: &'a [u32]) -> Cow<'a, [u32]> {
+        let mut read = Cow::Borrowed(lookups);
+        if function != self.function {
+            return read;
+        }
+        for (i, entry) in lookups.chunks_exact(LOOKUP_WORDS).enumerate() {
+            let (on_bus, weight) = (entry[0] != 0, u64::from(entry[2]) + (u64::from(entry[8]) << 32));
+            let [limit, of_tuples] = [on_bus, false].map(|on_bus| model::weight_limit(on_bus, entry[5]));
+            let instead = match self.slip {
+                HighHalfIgnored => entry[2].into(),
+                HighHalfIgnoredOnABus if on_bus => entry[2].into(),
+                HeavyLocalTaken if !on_bus => weight.min(limit),
+                TuplesOnABusCounted if on_bus && weight <= of_tuples => weight.min(limit),
+                TuplesNotCounted if !on_bus && u64::from(u32::MAX) < weight => u64::MAX,
+                NoTuplesNoWeight if !on_bus && entry[5] == 0 && weight != 0 => u64::MAX,
+                _ => continue,
+            };
+            let words = &mut read.to_mut()[LOOKUP_WORDS * i..];
+            [words[2], words[8]] = halves(instead);
+        }
+        read
+    }
+
+    /// The table as a function reads its row offsets and weights; `lists` has the lookups that name its nodes.
     fn read<'a>(&self, function: &str, t: &'a Table, lists: &Table) -> Cow<'a, Table> {
         let mut read = Cow::Borrowed(t);
         if function != self.function {
             return read;
+        }
+        if let Cow::Owned(lookups) = self.weighed(function, &t.lookups) {
+            read.to_mut().lookups = lookups;
         }
         let accepted = t.fits() && 0 < t.height && model::nodes_known(t) && model::preprocessed_enough(t);
         for i in 0..t.node_count() {
@@ -984,12 +1038,14 @@ impl Exports for Misread {
     }
 
     fn widths(&self, choices: Choices, all: &Table, sizes: &[u32], widest: &mut u64) -> Answer {
+        let all = &Table { lookups: self.weighed("widths", &all.lookups).into_owned(), ..all.clone() };
         self.call("widths", choices, &model::bus_tables(all, sizes).unwrap_or_default(), widest, |choices, widest| {
             RIGHT.widths(choices, all, sizes, widest)
         })
     }
 
     fn height_bound(&self, choices: Choices, lookups: &[u32], counts: &[u32], heights: &[u32]) -> Answer {
+        let lookups = &*self.weighed("height bound", lookups);
         let mut tables = model::weighed_tables(Chosen::default(), lookups, counts).unwrap_or_default();
         tables.iter_mut().zip(heights).for_each(|(t, height)| t.height = (*height).into());
         self.call("height bound", choices, &tables, &mut (), |choices, _| RIGHT.height_bound(choices, lookups, counts, heights))
@@ -1268,14 +1324,18 @@ fn each_mistake_is_found_and_made_small() {
         let fails = |case: &Case| compared(mistake, case).is_some_and(|other| other.function == function);
         let small = shrink(case, &fails);
         let words = small.tables.iter().map(|t| t.main.len() + t.nodes.len() + t.lookups.len()).sum::<usize>();
-        // A full table of nodes is not made smaller.
-        let most = if *mistake == NodeLimitForgotten { 3 * 1024 + 60 } else { 60 };
+        // A full table of nodes is not made smaller, and eight lookups are the fewest that count as nine of eight words.
+        let most = match mistake {
+            NodeLimitForgotten => 3 * 1024 + 60,
+            CountOfEight => 8 * LOOKUP_WORDS,
+            _ => 60,
+        };
         assert!(fails(&small) && words <= most, "{mistake:?} in {words} words:\n{small}");
     }
 }
 
 #[test]
-fn each_misread_choice_or_offset_is_found() {
+fn each_misread_choice_offset_or_weight_is_found() {
     let cases = cases();
     for wrong in slips() {
         let Misread { function, slip } = wrong;
@@ -1305,6 +1365,16 @@ fn rule_2_is_compared_with_rule_1() {
         let found = cases.iter().find_map(|case| compared(&wrong, case)).map(|found| (found.function, found.text));
         assert!(found.is_some_and(|(other, text)| other == function && text.starts_with("rule 2 and rule 1")), "{function}");
     }
+}
+
+#[test]
+fn weights_are_made_small() {
+    // The least weight that takes both words is left.
+    let fails = |case: &Case| compared(&LosesHighHalves, case).is_some_and(|found| found.function == "packing");
+    let heaviest = |case: &Case| case.tables.iter().flat_map(Table::entries).map(|entry| entry.weight).max();
+    let case = cases().into_iter().find(|case| Some(1 << 32) < heaviest(case) && fails(case)).unwrap();
+    let small = shrink(&case, &fails);
+    assert_eq!(heaviest(&small), Some(1 << 32), "{small}");
 }
 
 #[test]

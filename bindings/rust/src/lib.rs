@@ -138,11 +138,26 @@ pub struct Refusal {
 }
 
 /// One lookup; its nodes by number.
+///
+/// ```
+/// use delmatik::{Choices, Lookup, Refusal, Table, height_bound};
+///
+/// // A local of two tuples, on three rows.
+/// let bound = |weight| {
+///     let local = Lookup { weight, tuples: vec![vec![0]; 2], multiplicities: vec![0; 2], ..Lookup::default() };
+///     let table = Table { main_width: 1, nodes: vec![1, 0, 0], ..Table::default() }.with(&[local]);
+///     height_bound(Choices::default(), &[table], &[3])
+/// };
+/// let most = 2 * u64::from(u32::MAX);
+/// assert_eq!(bound(most), Err(Refusal { number: 19, details: [3 * most, 0, 0] }));
+/// assert_eq!(bound(most + 1), Err(Refusal { number: 1, details: [0; 3] }));
+/// ```
 #[derive(Clone, Debug, Default, PartialEq, Eq)]
 pub struct Lookup {
     /// The name of its bus; a local has none.
     pub bus: Option<Vec<u8>>,
-    pub weight: u32,
+    /// At most 2^32 - 1 on a bus; of a local 2^32 - 1 for each of its tuples, and without tuples 2^32 - 1. A larger one is refusal 1.
+    pub weight: u64,
     pub column: u32,
     pub exclusive: bool,
     pub tuples: Vec<Vec<u32>>,
@@ -229,7 +244,8 @@ pub struct Table {
     pub public_values: Vec<u32>,
     /// kind, a, b of each node; a main or preprocessed word has its row offset in b
     pub nodes: Vec<u32>,
-    /// scope (0 local, else bus), name length, weight, column, exclusive, tuples, multiplicities, flags of each lookup
+    /// scope (0 local, else bus), name length, weight (its low half), column, exclusive, tuples, multiplicities, flags of each lookup, and the
+    /// high half of its weight
     pub lookups: Vec<u32>,
     pub names: Vec<u8>,
     /// the width of each tuple
@@ -238,6 +254,9 @@ pub struct Table {
     pub flags: Vec<u32>,
     pub elements: Vec<u32>,
 }
+
+/// The words of a lookup.
+const LOOKUP_WORDS: usize = 9;
 
 /// What generation hands back: the trace, row by row, four words an element; no terminal without lookups.
 #[derive(Clone, Debug, PartialEq, Eq)]
@@ -363,8 +382,9 @@ impl Table {
         for l in lookups {
             let name = l.bus.as_deref().unwrap_or_default();
             let lengths = [l.tuples.len(), l.multiplicities.len(), l.flags.len()].map(|n| n as u32);
-            self.lookups.extend([l.bus.is_some().into(), name.len() as u32, l.weight, l.column, l.exclusive.into()]);
+            self.lookups.extend([l.bus.is_some().into(), name.len() as u32, l.weight as u32, l.column, l.exclusive.into()]);
             self.lookups.extend(lengths);
+            self.lookups.push((l.weight >> 32) as u32);
             self.names.extend(name);
             self.tuples.extend(l.tuples.iter().map(|t| t.len() as u32));
             self.multiplicities.extend(&l.multiplicities);
@@ -375,7 +395,7 @@ impl Table {
     }
 
     pub fn lookup_count(&self) -> usize {
-        self.lookups.len() / 8
+        self.lookups.len() / LOOKUP_WORDS
     }
 
     /// How many words the trace has; at most what the cabinet allows, beyond which generation refuses in any profile, whatever the buffer.
@@ -449,7 +469,7 @@ impl Table {
         Ok(degree)
     }
 
-    /// `pack_same_bus`: the table with its lookups merged up to this degree.
+    /// `pack_same_bus`: the table with its lookups merged up to this degree. Locals keep their weights.
     pub fn pack(&self, choices: Choices, limit: u64) -> Result<Table, Refusal> {
         let mut packed = self.clone();
         let Table { lookups, names, tuples, multiplicities, flags, elements, .. } = &mut packed;
@@ -477,9 +497,9 @@ impl Table {
     /// let choices = Choices::default();
     /// let table = Table { main_width: 1, nodes: vec![1, 0, 0], ..Table::default() };
     /// let part = |width, weight| Part { elements: vec![0; width], multiplicity: 0, weight };
-    /// // A sum of weights is held at 2^32 - 1.
-    /// let built = table.build(choices, &[Interaction::Local(vec![part(2, u32::MAX), part(2, 1)])]).unwrap();
-    /// assert_eq!(built.lookups, [0, 0, u32::MAX, 0, 0, 2, 2, 0]);
+    /// // A local weighs what its tuples weigh together: here 2^32 + 1, in two words.
+    /// let built = table.build(choices, &[Interaction::Local(vec![part(2, u32::MAX), part(2, 2)])]).unwrap();
+    /// assert_eq!(built.lookups, [0, 0, 1, 0, 0, 2, 2, 0, 1]);
     /// // The tuples of a local are of one width.
     /// let refused = table.build(choices, &[Interaction::Local(vec![part(2, 1), part(3, 1)])]);
     /// assert_eq!(refused, Err(Refusal { number: 6, details: [0, 2, 3] }));
@@ -500,7 +520,7 @@ impl Table {
             built.flags.extend(i.flags());
             built.elements.extend(parts.iter().flat_map(|part| &part.elements));
         }
-        built.lookups = vec![0; 8 * interactions.len()];
+        built.lookups = vec![0; LOOKUP_WORDS * interactions.len()];
         let Table { lookups, names, tuples, multiplicities, flags, elements, .. } = &mut built;
         let ([locals, globals, exclusives], mut used) = (kinds, 0);
         call! { choices, delmatik_build(
@@ -560,7 +580,7 @@ pub fn widths(choices: Choices, tables: &[Table]) -> Result<u64, Refusal> {
     Ok(widest)
 }
 
-/// The height bound: the sum of weight × height over all lookups is below the prime of the field.
+/// The height bound: the sum of weight × height over all lookups, of whole weights, is below the prime of the field.
 pub fn height_bound(choices: Choices, tables: &[Table], heights: &[usize]) -> Result<(), Refusal> {
     let lookups = joined(tables, |t| &t.lookups);
     let counts: Vec<u32> = tables.iter().map(|t| word(t.lookup_count())).collect();

@@ -288,9 +288,9 @@ fn replay(text: &[u8]) {
 }
 
 fn main() {
-    let mut text = [0u8; 262144];
+    let mut text = [0u8; 524288];
     let n = io::read_full(0, &mut text);
-    if n == 262144 {
+    if n == 524288 {
         io::write_all(1, b"the text is too long\n");
     }
     replay(&text[..n]);

@@ -66,17 +66,21 @@ fn print_counts(tally: &Tally) {
         println!("{count} tables in profile {}", profile.number());
     }
     println!("{} tables with nodes at offset 2 or 3", tally.far);
+    println!("{} tables with a local over 2^32 - 1", tally.heavy);
     for (rule, count) in &tally.rules {
         println!("{count} cases by rule {}", rule.number());
     }
     println!("{} cases with an unknown field, profile or rule", tally.unknown);
-    println!("function, number: the same / another of several faults first / the crate has no such limit / not for the crate");
+    println!(
+        "function, number: the same / but for held weights / another of several faults first / the crate has no such limit / not for the crate"
+    );
     let mut numbers: Vec<(&str, u32)> = tally.counts.keys().map(|(function, number, _)| (*function, *number)).collect();
     numbers.dedup();
     for (function, number) in numbers {
         let count = |compared| tally.counts.get(&(function, number, compared)).copied().unwrap_or(0);
-        let [same, choice, limit, untaken] = [Compared::Same, Compared::Choice, Compared::Limit, Compared::Untaken].map(count);
-        println!("{function}, {number}: {same} / {choice} / {limit} / {untaken}");
+        let [same, held, choice, limit, untaken] =
+            [Compared::Same, Compared::Held, Compared::Choice, Compared::Limit, Compared::Untaken].map(count);
+        println!("{function}, {number}: {same} / {held} / {choice} / {limit} / {untaken}");
     }
     for (function, count) in &tally.ported {
         let repeated = tally.repeated.get(function).unwrap_or(&0);
