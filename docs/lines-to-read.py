@@ -27,7 +27,13 @@ ENTRIES = {
 EXPORTS = ["delmatik", "delmatik_bytes"]
 
 # the files with the statements of the theorems; `use` lines lead on from there
-STATEMENTS = ["theorems_*/specs/*.antt", "packing/specs/Keeps.antt", "balance/specs/Passes.antt"]
+STATEMENTS = [
+    "theorems_*/specs/*.antt",
+    "packing/specs/Keeps.antt",
+    "balance/specs/Passes.antt",
+    "lookup_protocol/specs/HeightSum.antt",
+    "lookup_builder/specs/BuiltWeights.antt",
+]
 
 USE = re.compile(r"^\s*(?:ghost )?use (?:Rattle·(\w+)(?:·specs)?\.specs\.)([\w.]+?)(?:\.\{([^}]*)\}| as ([\w-]+))?;?\s*$", re.M)
 

@@ -143,7 +143,6 @@ FUNCTIONS = {
     ('groups', 'buses', 'leads'): 'balance_groups::buses::first_of_bus',
     ('groups', 'group', 'enter_group'): 'balance_groups::accumulate::accumulate_group',
     ('lines', 'row', 'becomes'): 'logup_terms::eval_row::next_accumulator',
-    ('lookup', 'tests', 'entry_total'): 'lookup::tests::lookup_total',
     ('lookup', 'types', 'entry'): 'lookup::types::lookup_word',
     ('parts', 'trace', 'parts'): 'logup_rows::trace::all_rows',
     ('plan', 'columns', 'held'): 'expression::words::saturate_u32',
