@@ -14,7 +14,7 @@ use Rattle.field.specs.Word.{addM, mulM, negM}
 use Rattle.lists.specs.Count.{every, joined, total}
 use Rattle.lookup.specs.Lookups.{tuple-start}
 use Rattle.lookup.specs.Sizes.{size-start, table-part}
-use Rattle.lookup.specs.Tests.{lengths-agree}
+use Rattle.lookup.specs.Tests.{weight-limit, lookup-within, lengths-agree}
 use Rattle.lookup_challenges.specs.Prefixes.{prefix-by, prefixes, prefixes-at, prefixes-fit, prefixes-refusal}
 use Rattle.lookup_count.specs.Count.{count-refusal, from-i32, from-i32-at, negated, negated-at, negation-refusal}
 use Rattle.lookup_protocol.specs.Height.{height-at, height-refusal, height-sum, lookups-small, table-lookups, table-weight, tables-fit, tables-within, weight-sum}
@@ -44,7 +44,7 @@ pub record Computed (field : ℕ) : Type 0 where
 
 pub computed : Computed 1 × Computed 2
 unfolding known limits-of cabinet gateway all-below all-within add4 is-zero mul4 power4 scale4 known-field prime-of w-of addM mulM negM every joined
-    total tuple-start size-start table-part lengths-agree prefix-by prefixes prefixes-at prefixes-fit prefixes-refusal count-refusal from-i32
+    total tuple-start size-start table-part weight-limit lookup-within lengths-agree prefix-by prefixes prefixes-at prefixes-fit prefixes-refusal count-refusal from-i32
     from-i32-at negated negated-at negation-refusal height-at height-refusal height-sum lookups-small table-lookups table-weight tables-fit
     tables-within weight-sum present terminal terminal-below terminal-sum terminals-at terminals-refusal with-terminal count-numbers
 computed = (
