@@ -39,10 +39,8 @@ pub fn accumulate_lookup(
     workspace: &mut [u32],
     u: SlotUse,
 ) -> SlotUse
-    ghost l: { TableLists }
-    requires elements_value { lent_tables sizes.now main.now preprocessed.now public_values.now nodes.now lookups.now names.now tuples.now multiplicities.now flags.now elements.now ≡ l }
-    requires tables_tested { TablesTested p l × (m < lookup_count l.lookups.lookups) × (slot_words * u.used ≤ length workspace.old) }
-    ensures { work workspace.new result ≡ fold (step p) (work workspace.old u) (member_entries p (member_at l m)) }
+    requires { let l : TableLists = lent_tables sizes.now main.now preprocessed.now public_values.now nodes.now lookups.now names.now tuples.now multiplicities.now flags.now elements.now in TablesTested p l × (m < lookup_count l.lookups.lookups) × (slot_words * u.used ≤ length workspace.old) }
+    ensures { let l : TableLists = lent_tables sizes.now main.now preprocessed.now public_values.now nodes.now lookups.now names.now tuples.now multiplicities.now flags.now elements.now in work workspace.new result ≡ fold (step p) (work workspace.old u) (member_entries p (member_at l m)) }
 {
     let t = table_of(sizes, m);
     let shape = shape_of(sizes, t);

@@ -90,10 +90,8 @@ fn add_tuples(
     flags: &[u32],
     elements: &[u32],
 ) -> LinkedUse
-    ghost l: { PartLists }
-    requires elements_value { part_lists tuples.now multiplicities.now flags.now elements.now ≡ l }
-    requires known_prime { KnownPrime p × Below p vals.now × ChainsLinked seed heads.old workspace.old u × StartsWithin starts l }
-    ensures { (plain_work workspace.new result ≡ fold (step p) (plain_work workspace.old u) (entries_from p starts l vals.now)) × ChainsLinked seed heads.new workspace.new result }
+    requires { let l : PartLists = part_lists tuples.now multiplicities.now flags.now elements.now in KnownPrime p × Below p vals.now × ChainsLinked seed heads.old workspace.old u × StartsWithin starts l }
+    ensures { let l : PartLists = part_lists tuples.now multiplicities.now flags.now elements.now in (plain_work workspace.new result ≡ fold (step p) (plain_work workspace.old u) (entries_from p starts l vals.now)) × ChainsLinked seed heads.new workspace.new result }
 {
     let n = starts.count;
     let start = starts.tuples;
@@ -139,10 +137,8 @@ fn accumulate_row(
     workspace: &mut [u32],
     u: LinkedUse,
 ) -> LinkedUse
-    ghost s: { Source }
-    requires elements_value { source (lent_traces shape main.now preprocessed.now public_values.now) nodes.now (part_lists tuples.now multiplicities.now flags.now elements.now) ≡ s }
-    requires evaluable { Evaluable p s.traces s.nodes × (r < s.traces.shape.height) × ChainsLinked seed heads.old workspace.old u × StartsWithin starts s.parts }
-    ensures { (plain_work workspace.new result ≡ fold (step p) (plain_work workspace.old u) (entries_from p starts s.parts (row_values p s.nodes s.traces r))) × ChainsLinked seed heads.new workspace.new result }
+    requires { let s : Source = source (lent_traces shape main.now preprocessed.now public_values.now) nodes.now (part_lists tuples.now multiplicities.now flags.now elements.now) in Evaluable p s.traces s.nodes × (r < s.traces.shape.height) × ChainsLinked seed heads.old workspace.old u × StartsWithin starts s.parts }
+    ensures { let s : Source = source (lent_traces shape main.now preprocessed.now public_values.now) nodes.now (part_lists tuples.now multiplicities.now flags.now elements.now) in (plain_work workspace.new result ≡ fold (step p) (plain_work workspace.old u) (entries_from p starts s.parts (row_values p s.nodes s.traces r))) × ChainsLinked seed heads.new workspace.new result }
 {
     if u.full {
         return u;
@@ -192,10 +188,8 @@ fn accumulate_linked(
     workspace: &mut [u32],
     u: LinkedUse,
 ) -> LinkedUse
-    ghost s: { Source }
-    requires elements_value { source (lent_traces shape main.now preprocessed.now public_values.now) nodes.now (part_lists tuples.now multiplicities.now flags.now elements.now) ≡ s }
-    requires evaluable { Evaluable p s.traces s.nodes × (s.traces.shape.height ≤ 1048576) × ChainsLinked seed heads.old workspace.old u × StartsWithin starts s.parts }
-    ensures { (plain_work workspace.new result ≡ fold (step p) (plain_work workspace.old u) (rows_entries p starts s s.traces.shape.height)) × ChainsLinked seed heads.new workspace.new result }
+    requires { let s : Source = source (lent_traces shape main.now preprocessed.now public_values.now) nodes.now (part_lists tuples.now multiplicities.now flags.now elements.now) in Evaluable p s.traces s.nodes × (s.traces.shape.height ≤ 1048576) × ChainsLinked seed heads.old workspace.old u × StartsWithin starts s.parts }
+    ensures { let s : Source = source (lent_traces shape main.now preprocessed.now public_values.now) nodes.now (part_lists tuples.now multiplicities.now flags.now elements.now) in (plain_work workspace.new result ≡ fold (step p) (plain_work workspace.old u) (rows_entries p starts s s.traces.shape.height)) × ChainsLinked seed heads.new workspace.new result }
 {
     let height = shape.height;
     let mut v = u;
@@ -242,10 +236,8 @@ pub fn accumulate_rows(
     workspace: &mut [u32],
     u: SlotUse,
 ) -> SlotUse
-    ghost s: { Source }
-    requires elements_value { source (lent_traces shape main.now preprocessed.now public_values.now) nodes.now (part_lists tuples.now multiplicities.now flags.now elements.now) ≡ s }
-    requires evaluable { Evaluable p s.traces s.nodes × (s.traces.shape.height ≤ 1048576) × (slot_words * u.used ≤ length workspace.old) × StartsWithin starts s.parts }
-    ensures { work workspace.new result ≡ fold (step p) (work workspace.old u) (rows_entries p starts s s.traces.shape.height) }
+    requires { let s : Source = source (lent_traces shape main.now preprocessed.now public_values.now) nodes.now (part_lists tuples.now multiplicities.now flags.now elements.now) in Evaluable p s.traces s.nodes × (s.traces.shape.height ≤ 1048576) × (slot_words * u.used ≤ length workspace.old) × StartsWithin starts s.parts }
+    ensures { let s : Source = source (lent_traces shape main.now preprocessed.now public_values.now) nodes.now (part_lists tuples.now multiplicities.now flags.now elements.now) in work workspace.new result ≡ fold (step p) (work workspace.old u) (rows_entries p starts s s.traces.shape.height) }
 {
     let mut heads = [0u32; 32768];
     let linked = link_slots(seed, &mut heads, workspace, u.used);

@@ -8,7 +8,7 @@ use lookup::starts::{element_start, flag_start, multiplicity_start, tuple_start}
 use lookup::types::{exclusive, tuple_count};
 
 // Whether the lookup is exclusive, how many tuples it has, and where its tuples, multiplicities, flags and elements begin.
-#[derive(Drop)]
+#[derive(Clone, Copy)]
 pub struct LookupStarts {
     pub exclusive: bool,
     pub count: usize,

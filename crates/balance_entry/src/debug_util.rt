@@ -32,10 +32,8 @@ pub fn check_within(
     seed: Seed,
     workspace: &mut [u32],
 ) -> Verdict
-    ghost l: { TableLists }
-    requires elements_value { lent_tables sizes.now main.now preprocessed.now public_values.now nodes.now lookups.now names.now tuples.now multiplicities.now flags.now elements.now ≡ l }
-    requires sane { Sane limits × KnownPrime p }
-    ensures { record { refusal = refusal result; workspace = workspace.new } ≡ check limits p l workspace.old }
+    requires { Sane limits × KnownPrime p }
+    ensures { let l : TableLists = lent_tables sizes.now main.now preprocessed.now public_values.now nodes.now lookups.now names.now tuples.now multiplicities.now flags.now elements.now in record { refusal = refusal result; workspace = workspace.new } ≡ check limits p l workspace.old }
 {
     if !lists_fit(
         limits,

@@ -18,7 +18,7 @@ use expression::words::clear;
 use lookup::types::LOOKUP_WORDS;
 
 // The verdict so far, and the number of the next group.
-#[derive(Drop)]
+#[derive(Clone, Copy)]
 pub struct Checked {
     pub verdict: Verdict,
     pub group: u64,
@@ -52,10 +52,8 @@ fn check_group(
     workspace: &mut [u32],
     g: u64,
 ) -> Checked
-    ghost l: { TableLists }
-    requires elements_value { lent_tables sizes.now main.now preprocessed.now public_values.now nodes.now lookups.now names.now tuples.now multiplicities.now flags.now elements.now ≡ l }
-    requires tables_tested { TablesTested p l × (m < lookup_count l.lookups.lookups) × (g ≤ 4294967295) }
-    ensures { (visited_of workspace.new result ≡ group_visited p (length workspace.old) g (group_at l m)) × (result.group ≡ g + 1) }
+    requires { let l : TableLists = lent_tables sizes.now main.now preprocessed.now public_values.now nodes.now lookups.now names.now tuples.now multiplicities.now flags.now elements.now in TablesTested p l × (m < lookup_count l.lookups.lookups) × (g ≤ 4294967295) }
+    ensures { let l : TableLists = lent_tables sizes.now main.now preprocessed.now public_values.now nodes.now lookups.now names.now tuples.now multiplicities.now flags.now elements.now in (visited_of workspace.new result ≡ group_visited p (length workspace.old) g (group_at l m)) × (result.group ≡ g + 1) }
 {
     clear(workspace);
     let u = accumulate_group(
@@ -105,10 +103,8 @@ fn check_kind(
     workspace: &mut [u32],
     v: Checked,
 ) -> Checked
-    ghost l: { TableLists }
-    requires elements_value { lent_tables sizes.now main.now preprocessed.now public_values.now nodes.now lookups.now names.now tuples.now multiplicities.now flags.now elements.now ≡ l }
-    requires tables_tested { TablesTested p l × (v.group ≤ 1024) }
-    ensures { (visited_of workspace.new result ≡ fold (visit p (length workspace.old)) (visited_of workspace.old v) (groups_to l buses (lookup_count l.lookups.lookups))) × (result.group ≤ v.group + 1024) }
+    requires { let l : TableLists = lent_tables sizes.now main.now preprocessed.now public_values.now nodes.now lookups.now names.now tuples.now multiplicities.now flags.now elements.now in TablesTested p l × (v.group ≤ 1024) }
+    ensures { let l : TableLists = lent_tables sizes.now main.now preprocessed.now public_values.now nodes.now lookups.now names.now tuples.now multiplicities.now flags.now elements.now in (visited_of workspace.new result ≡ fold (visit p (length workspace.old)) (visited_of workspace.old v) (groups_to l buses (lookup_count l.lookups.lookups))) × (result.group ≤ v.group + 1024) }
 {
     let n = lookups.len() / LOOKUP_WORDS;
     let mut checked = v;
@@ -158,10 +154,8 @@ pub fn check_groups(
     seed: Seed,
     workspace: &mut [u32],
 ) -> Checked
-    ghost l: { TableLists }
-    requires elements_value { lent_tables sizes.now main.now preprocessed.now public_values.now nodes.now lookups.now names.now tuples.now multiplicities.now flags.now elements.now ≡ l }
-    requires tables_tested { TablesTested p l }
-    ensures { visited_of workspace.new result ≡ fold (visit p (length workspace.old)) (unvisited (length workspace.old)) (groups_to l false (lookup_count l.lookups.lookups) ++ groups_to l true (lookup_count l.lookups.lookups)) }
+    requires { let l : TableLists = lent_tables sizes.now main.now preprocessed.now public_values.now nodes.now lookups.now names.now tuples.now multiplicities.now flags.now elements.now in TablesTested p l }
+    ensures { let l : TableLists = lent_tables sizes.now main.now preprocessed.now public_values.now nodes.now lookups.now names.now tuples.now multiplicities.now flags.now elements.now in visited_of workspace.new result ≡ fold (visit p (length workspace.old)) (unvisited (length workspace.old)) (groups_to l false (lookup_count l.lookups.lookups) ++ groups_to l true (lookup_count l.lookups.lookups)) }
 {
     clear(workspace);
     let none = Checked {

@@ -12,7 +12,7 @@ use expression::node::NODE_WORDS;
 use lookup::sizes::{part_end, part_start};
 use lookup::types::LOOKUP_WORDS;
 
-#[derive(Drop)]
+#[derive(Clone, Copy)]
 pub struct TableRanges {
     pub main: usize,
     pub main_end: usize,

@@ -108,10 +108,8 @@ fn verdict_at(
     elements: &[u32],
     t: usize,
 ) -> Verdict
-    ghost l: { TableLists }
-    requires elements_value { lent_tables sizes.now main.now preprocessed.now public_values.now nodes.now lookups.now names.now tuples.now multiplicities.now flags.now elements.now ≡ l }
-    requires sane { Sane limits × ListsCovered l × (t < table_count l.sizes) }
-    ensures { refusal result ≡ one_refusal limits p (table_at l t) }
+    requires { let l : TableLists = lent_tables sizes.now main.now preprocessed.now public_values.now nodes.now lookups.now names.now tuples.now multiplicities.now flags.now elements.now in Sane limits × ListsCovered l × (t < table_count l.sizes) }
+    ensures { let l : TableLists = lent_tables sizes.now main.now preprocessed.now public_values.now nodes.now lookups.now names.now tuples.now multiplicities.now flags.now elements.now in refusal result ≡ one_refusal limits p (table_at l t) }
 {
     let shape = shape_of(sizes, t);
     let ranges = table_ranges(sizes, t);
@@ -168,10 +166,8 @@ pub fn tables_verdict(
     flags: &[u32],
     elements: &[u32],
 ) -> Verdict
-    ghost l: { TableLists }
-    requires elements_value { lent_tables sizes.now main.now preprocessed.now public_values.now nodes.now lookups.now names.now tuples.now multiplicities.now flags.now elements.now ≡ l }
-    requires sane { Sane limits × ListsCovered l }
-    ensures { refusal result ≡ lowest (λ t. one_refusal limits p (table_at l t)) (table_count l.sizes) }
+    requires { let l : TableLists = lent_tables sizes.now main.now preprocessed.now public_values.now nodes.now lookups.now names.now tuples.now multiplicities.now flags.now elements.now in Sane limits × ListsCovered l }
+    ensures { let l : TableLists = lent_tables sizes.now main.now preprocessed.now public_values.now nodes.now lookups.now names.now tuples.now multiplicities.now flags.now elements.now in refusal result ≡ lowest (λ t. one_refusal limits p (table_at l t)) (table_count l.sizes) }
 {
     let n = sizes.len() / TABLE_SIZES;
     let mut v = Verdict::Accepted;
@@ -223,10 +219,8 @@ pub fn lists_fit(
     flags: &[u32],
     elements: &[u32],
 ) -> bool
-    ghost l: { TableLists }
-    requires elements_value { lent_tables sizes.now main.now preprocessed.now public_values.now nodes.now lookups.now names.now tuples.now multiplicities.now flags.now elements.now ≡ l }
-    requires sane { Sane limits }
-    ensures { result ≡ lists_fit limits l }
+    requires { Sane limits }
+    ensures { let l : TableLists = lent_tables sizes.now main.now preprocessed.now public_values.now nodes.now lookups.now names.now tuples.now multiplicities.now flags.now elements.now in result ≡ lists_fit limits l }
 {
     if (sizes.len() % TABLE_SIZES == 0) & (sizes.len() / TABLE_SIZES <= limits.tables) {
         return covers(sizes, MAIN_COUNT_SIZE, 1, main.len())

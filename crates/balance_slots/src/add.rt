@@ -12,7 +12,7 @@ use crate::slot::{SLOT_WORDS, add_count, new_slot};
 use expression::words::clear;
 
 // How many slots are in use, whether one was missing, and how many of them are linked.
-#[derive(Drop)]
+#[derive(Clone, Copy)]
 pub struct LinkedUse {
     pub used: usize,
     pub full: bool,

@@ -12,7 +12,7 @@ use expression::refusal::{Refusal, Verdict};
 use expression::words::{to_u64, to_usize, word_at};
 
 // The first slot by decimal text whose net is not zero, if there is one.
-#[derive(Drop)]
+#[derive(Clone, Copy)]
 pub struct Best {
     pub found: bool,
     pub slot: usize,

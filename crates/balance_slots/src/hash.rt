@@ -12,7 +12,7 @@ const HASH_PRIME: u64 = 2147483647;
 const CHAINS: u64 = 32768;
 
 // Where the polynomial of a tuple's words is evaluated, and what spreads the values over the chains.
-#[derive(Drop)]
+#[derive(Clone, Copy)]
 pub struct Seed {
     pub point: u32,
     pub factor: u32,

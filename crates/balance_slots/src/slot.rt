@@ -19,7 +19,7 @@ pub const TUPLE_WORD: usize = 1;
 pub const NET_WORD: usize = 9;
 
 // How many slots are in use, and whether one was missing.
-#[derive(Drop)]
+#[derive(Clone, Copy)]
 pub struct SlotUse {
     pub used: usize,
     pub full: bool,

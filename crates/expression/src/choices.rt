@@ -6,7 +6,7 @@ use crate::sizes::{Limits, cabinet, gateway};
 use field::modulus::known_field;
 
 // The field, by the number that the field crate gives it, and the profile, whose limits the call keeps.
-#[derive(Drop)]
+#[derive(Clone, Copy)]
 pub struct Choices {
     pub field: u32,
     pub profile: u32,

@@ -9,7 +9,7 @@ pub const NODE_WORDS: usize = 3;
 pub const ROW_OFFSETS: u32 = 4;
 
 // An offset is counted in rows from the current one, around the end of the table.
-#[derive(Drop)]
+#[derive(Clone, Copy)]
 pub enum Node {
     Constant(u32),
     // offset, column

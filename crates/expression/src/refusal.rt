@@ -3,7 +3,7 @@ ghost use Rattle.std.specs.Prelude.{◌≡◌};
 ghost use Rattle.lists.specs.Count.{or_else};
 ghost use Rattle.expression.specs.Refusal.{refusal};
 
-#[derive(Drop)]
+#[derive(Clone, Copy)]
 pub enum Refusal {
     // 1: a size is over a limit or at odds with a slice, or main has no columns.
     SizeAtOdds,
@@ -48,14 +48,14 @@ pub enum Refusal {
 }
 
 // What a test answers: nothing is wrong, or the first refusal.
-#[derive(Drop)]
+#[derive(Clone, Copy)]
 pub enum Verdict {
     Accepted,
     Refused(Refusal),
 }
 
 // The three details of an answer.
-#[derive(Drop)]
+#[derive(Clone, Copy)]
 pub struct ThreeDetails {
     pub first: u64,
     pub second: u64,

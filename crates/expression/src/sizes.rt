@@ -2,7 +2,7 @@
 ghost use Rattle.std.specs.Prelude.{◌≡◌};
 ghost use Rattle.expression.specs.Limits.{cabinet, gateway};
 
-#[derive(Drop)]
+#[derive(Clone, Copy)]
 pub struct Shape {
     pub main_width: usize,
     pub height: usize,
@@ -10,7 +10,7 @@ pub struct Shape {
     pub pre_height: usize,
 }
 
-#[derive(Drop)]
+#[derive(Clone, Copy)]
 pub struct Limits {
     pub tables: usize,
     pub lookups: usize,

@@ -35,7 +35,7 @@ pub fn rows_ahead(r: usize, height: usize) -> [usize; 4]
 }
 
 // The current row on top of the row at an offset.
-#[derive(Drop)]
+#[derive(Clone, Copy)]
 pub struct VerticalPair<'a> {
     pub top: &'a [u32],
     pub bottom: &'a [u32],

@@ -7,7 +7,7 @@ ghost use Rattle.field.specs.Ext.{ext_words};
 
 use crate::word;
 
-#[derive(Drop)]
+#[derive(Clone, Copy)]
 pub struct Ext {
     pub c0: u32,
     pub c1: u32,

@@ -14,7 +14,7 @@ use field::modulus::{BABYBEAR, KOALABEAR};
 use field::{extension, word};
 
 // A quotient, and the inverse of the product without its factor.
-#[derive(Drop)]
+#[derive(Clone, Copy)]
 pub struct Split {
     pub quotient: Ext,
     pub inverse: u32,

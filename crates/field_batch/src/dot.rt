@@ -9,7 +9,7 @@ ghost use Rattle.field_batch.specs.inner.Dot.{residues, Room};
 use field::extension::Ext;
 use field::word;
 
-#[derive(Drop)]
+#[derive(Clone, Copy)]
 pub struct Sum {
     pub s0: u64,
     pub s1: u64,

@@ -2,7 +2,7 @@
 use expression::refusal::Refusal;
 use lookup::types::LookupTerminal;
 
-#[derive(Drop)]
+#[derive(Clone, Copy)]
 pub enum Generated {
     Terminal(LookupTerminal),
     // There are no lookups: the trace is empty.

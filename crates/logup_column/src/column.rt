@@ -19,14 +19,14 @@ use field::extension::Ext;
 use lookup::types;
 
 // A tuple's term in its lookup's fraction, m ÷ (α - z): its multiplicity and its denominator.
-#[derive(Drop)]
+#[derive(Clone, Copy)]
 pub struct Term {
     pub multiplicity: u32,
     pub denominator: Ext,
 }
 
 // What the flags of a lookup say: whether one is over 1, how many are 1, and the number of the branch chosen plus 1, 0 for none.
-#[derive(Drop)]
+#[derive(Clone, Copy)]
 pub struct Flags {
     pub over: bool,
     pub ones: usize,
@@ -174,11 +174,9 @@ fn write_terms(
     term_multiplicities: &mut [u32],
     term_denominators: &mut [u32],
 ) -> bool
-    ghost c: { Place }
-    requires powers_value { own_place own.now widths.now multiplicities.now [] nodes.now vals.now (ext_words alpha) (beta_of powers) ≡ c }
-    requires field_values { FieldValues p w c.vals × Powers p w powers × Word4 p c.alpha × PartsFit c
+    requires { let c : Place = own_place own.now widths.now multiplicities.now [] nodes.now vals.now (ext_words alpha) (beta_of powers) in FieldValues p w c.vals × Powers p w powers × Word4 p c.alpha × PartsFit c
         × (length term_multiplicities.old ≡ tuple_count c.lookups.lookups 0) × (length term_denominators.old ≡ 4 * tuple_count c.lookups.lookups 0) }
-    ensures { TermsWritten p w c exclusive branch (tuple_count c.lookups.lookups 0) result term_multiplicities.new term_denominators.new }
+    ensures { let c : Place = own_place own.now widths.now multiplicities.now [] nodes.now vals.now (ext_words alpha) (beta_of powers) in TermsWritten p w c exclusive branch (tuple_count c.lookups.lookups 0) result term_multiplicities.new term_denominators.new }
 {
     let n = term_multiplicities.len();
     let mut at = 0;
@@ -228,12 +226,10 @@ pub fn lookup(
     term_multiplicities: &mut [u32],
     term_denominators: &mut [u32],
 ) -> u32
-    ghost c: { Place }
-    requires powers_value { own_place own.now widths.now multiplicities.now flags.now nodes.now vals.now (ext_words alpha) (beta_of powers) ≡ c }
-    requires field_values { FieldValues p w c.vals × Powers p w powers × Word4 p c.alpha × PartsFit c
+    requires { let c : Place = own_place own.now widths.now multiplicities.now flags.now nodes.now vals.now (ext_words alpha) (beta_of powers) in FieldValues p w c.vals × Powers p w powers × Word4 p c.alpha × PartsFit c
         × (length c.lookups.flags ≡ cond (exclusive c.lookups.lookups 0) (tuple_count c.lookups.lookups 0) 0)
         × (length term_multiplicities.old ≡ tuple_count c.lookups.lookups 0) × (length term_denominators.old ≡ 4 * tuple_count c.lookups.lookups 0) }
-    ensures { LookupTerms p w c result term_multiplicities.new term_denominators.new }
+    ensures { let c : Place = own_place own.now widths.now multiplicities.now flags.now nodes.now vals.now (ext_words alpha) (beta_of powers) in LookupTerms p w c result term_multiplicities.new term_denominators.new }
 {
     // A call for each kind: the compiler keeps a loop that is called twice apart, and that is faster than all loops of a row in one.
     if types::exclusive(own, 0) {

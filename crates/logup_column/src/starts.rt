@@ -8,7 +8,7 @@ use expression::words::to_usize;
 use lookup::types;
 
 // Where a lookup's own parts begin in the table's lists.
-#[derive(Drop)]
+#[derive(Clone, Copy)]
 pub struct Starts {
     pub tuple: usize,
     pub multiplicity: usize,

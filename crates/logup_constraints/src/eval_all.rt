@@ -28,7 +28,7 @@ use lookup::tests;
 use lookup::types::{LOOKUP_WORDS, LookupTerminal};
 
 // The terminal that comes with a trace.
-#[derive(Drop)]
+#[derive(Clone, Copy)]
 pub enum Terminal {
     Absent,
     Given(LookupTerminal),
@@ -113,10 +113,8 @@ fn entry_refusal(
     words: &[u32],
     terminal: Terminal,
 ) -> Verdict
-    ghost t: { Table }
-    requires elements_value { lent_table shape main.now preprocessed.now public_values.now nodes.now (lent_lookups lookups.now names.now tuples.now multiplicities.now flags.now elements.now) ≡ t }
-    requires sane { Sane limits }
-    ensures { (refusal result ≡ entry_tests limits p t challenges.now width words.now (terminal_of terminal))
+    requires { Sane limits }
+    ensures { let t : Table = lent_table shape main.now preprocessed.now public_values.now nodes.now (lent_lookups lookups.now names.now tuples.now multiplicities.now flags.now elements.now) in (refusal result ≡ entry_tests limits p t challenges.now width words.now (terminal_of terminal))
         × (refusal result ≡ none → EntryPassed limits p t challenges.now width words.now (terminal_of terminal)) }
 {
     let fit = (challenges.len() % 4 == 0) & trace_fits(shape.height, width, words.len());
@@ -170,12 +168,10 @@ fn rows_verdict(
     words: &[u32],
     terminal: LookupTerminal,
 ) -> Verdict
-    ghost s: { Source }
-    requires challenges_value { lent_source shape main.now preprocessed.now public_values.now nodes.now lookups.now tuples.now multiplicities.now flags.now elements.now challenges.now ≡ s }
-    requires field { Field p w × Listed s.lookups
+    requires { let s : Source = lent_source shape main.now preprocessed.now public_values.now nodes.now lookups.now tuples.now multiplicities.now flags.now elements.now challenges.now in Field p w × Listed s.lookups
         × Evaluable p s.traces s.nodes × Below p s.challenges × (8 * lookup_count s.lookups.lookups ≤ length s.challenges) × (lookup_count s.lookups.lookups ≤ 64)
         × (length s.lookups.tuples ≤ 64) × TraceInputs p shape.height width (lookup_count s.lookups.lookups) words.now × Word4 p (ext_words terminal.0) }
-    ensures { (names : List ℕ) → refusal result ≡ rows_verdict p w (named (lookups_under rule s.lookups) names) s.challenges (node_values p s) width words.now (ext_words terminal.0) shape.height }
+    ensures { let s : Source = lent_source shape main.now preprocessed.now public_values.now nodes.now lookups.now tuples.now multiplicities.now flags.now elements.now challenges.now in (names : List ℕ) → refusal result ≡ rows_verdict p w (named (lookups_under rule s.lookups) names) s.challenges (node_values p s) width words.now (ext_words terminal.0) shape.height }
 {
     let n = lookups.len() / LOOKUP_WORDS;
     // The powers of 64 betas.
@@ -227,10 +223,8 @@ pub fn eval_trace(
     words: &[u32],
     terminal: Terminal,
 ) -> Verdict
-    ghost t: { Table }
-    requires elements_value { lent_table shape main.now preprocessed.now public_values.now nodes.now (lent_lookups lookups.now names.now tuples.now multiplicities.now flags.now elements.now) ≡ t }
-    requires sane { Sane limits × Field p w }
-    ensures { refusal result ≡ verdict limits p w (table_under rule t) challenges.now width words.now (terminal_of terminal) }
+    requires { Sane limits × Field p w }
+    ensures { let t : Table = lent_table shape main.now preprocessed.now public_values.now nodes.now (lent_lookups lookups.now names.now tuples.now multiplicities.now flags.now elements.now) in refusal result ≡ verdict limits p w (table_under rule t) challenges.now width words.now (terminal_of terminal) }
 {
     let verdict = entry_refusal(
         limits,

@@ -90,12 +90,10 @@ fn generate_rows(
     challenges: &[u32],
     trace: &mut [u32],
 ) -> Generated
-    ghost s: { Source }
-    requires challenges_value { lent_source shape main.now preprocessed.now public_values.now nodes.now lookups.now tuples.now multiplicities.now flags.now elements.now challenges.now ≡ s }
-    requires field { Field p w × Listed s.lookups
+    requires { let s : Source = lent_source shape main.now preprocessed.now public_values.now nodes.now lookups.now tuples.now multiplicities.now flags.now elements.now challenges.now in Field p w × Listed s.lookups
         × Evaluable p s.traces s.nodes × Below p s.challenges × (8 * lookup_count s.lookups.lookups ≤ length s.challenges)
         × (shape.height ≤ 1048576) × (lookup_count s.lookups.lookups ≤ 64) × (length s.lookups.tuples ≤ 64) × (used s.lookups.lookups shape.height ≤ length trace.old) }
-    ensures { (m : Declared.Limits) (names : List ℕ) → (answer_of result ≡ (rows_result m p w (source_under rule s) names trace.old).answer)
+    ensures { let s : Source = lent_source shape main.now preprocessed.now public_values.now nodes.now lookups.now tuples.now multiplicities.now flags.now elements.now challenges.now in (m : Declared.Limits) (names : List ℕ) → (answer_of result ≡ (rows_result m p w (source_under rule s) names trace.old).answer)
         × (trace.new ≡ (rows_result m p w (source_under rule s) names trace.old).buffer) }
 {
     let n = lookups.len() / LOOKUP_WORDS;
@@ -143,10 +141,8 @@ fn entry_refusal(
     challenges: &[u32],
     trace_len: usize,
 ) -> Verdict
-    ghost t: { Table }
-    requires elements_value { lent_table shape main.now preprocessed.now public_values.now nodes.now (lent_lookups lookups.now names.now tuples.now multiplicities.now flags.now elements.now) ≡ t }
-    requires sane { Sane limits }
-    ensures { (refusal result ≡ entry_tests limits p t challenges.now trace_len) × (refusal result ≡ none → EntryPassed limits p t challenges.now trace_len) }
+    requires { Sane limits }
+    ensures { let t : Table = lent_table shape main.now preprocessed.now public_values.now nodes.now (lent_lookups lookups.now names.now tuples.now multiplicities.now flags.now elements.now) in (refusal result ≡ entry_tests limits p t challenges.now trace_len) × (refusal result ≡ none → EntryPassed limits p t challenges.now trace_len) }
 {
     let verdict = refusals::table_refusal(
         limits,
@@ -191,10 +187,8 @@ pub fn generate_permutation(
     challenges: &[u32],
     trace: &mut [u32],
 ) -> Generated
-    ghost t: { Table }
-    requires elements_value { lent_table shape main.now preprocessed.now public_values.now nodes.now (lent_lookups lookups.now names.now tuples.now multiplicities.now flags.now elements.now) ≡ t }
-    requires sane { Sane limits × Field p w }
-    ensures { (answer_of result ≡ (generation limits p w (table_under rule t) challenges.now trace.old).answer)
+    requires { Sane limits × Field p w }
+    ensures { let t : Table = lent_table shape main.now preprocessed.now public_values.now nodes.now (lent_lookups lookups.now names.now tuples.now multiplicities.now flags.now elements.now) in (answer_of result ≡ (generation limits p w (table_under rule t) challenges.now trace.old).answer)
         × (trace.new ≡ (generation limits p w (table_under rule t) challenges.now trace.old).buffer) }
 {
     let trace_len = trace.len();

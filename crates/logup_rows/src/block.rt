@@ -22,7 +22,7 @@ use field::extension::Ext;
 use field_batch::division::divide_all;
 
 // The accumulator after a run of rows, and the first fault so far.
-#[derive(Drop)]
+#[derive(Clone, Copy)]
 pub struct Progress {
     pub accumulator: Ext,
     pub verdict: Verdict,
@@ -50,12 +50,10 @@ fn fill(
     term_multiplicities: &mut [u32],
     term_denominators: &mut [u32],
 ) -> Verdict
-    ghost s: { Source }
-    requires challenges_value { lent_source shape main.now preprocessed.now public_values.now nodes.now lookups.now tuples.now multiplicities.now flags.now elements.now challenges.now ≡ s }
-    requires column_inputs { ColumnInputs p w s.lookups s.challenges table.now × Evaluable p s.traces s.nodes × (from + k ≤ shape.height) × (shape.height ≤ 1048576)
+    requires { let s : Source = lent_source shape main.now preprocessed.now public_values.now nodes.now lookups.now tuples.now multiplicities.now flags.now elements.now challenges.now in ColumnInputs p w s.lookups s.challenges table.now × Evaluable p s.traces s.nodes × (from + k ≤ shape.height) × (shape.height ≤ 1048576)
         × (refusal before ≡ first (row_fault p w s.lookups s.challenges (node_values p s)) from)
         × (length term_multiplicities.old ≡ k * length s.lookups.tuples) × (length term_denominators.old ≡ 4 * (k * length s.lookups.tuples)) }
-    ensures { (refusal result ≡ first (row_fault p w s.lookups s.challenges (node_values p s)) (from + k))
+    ensures { let s : Source = lent_source shape main.now preprocessed.now public_values.now nodes.now lookups.now tuples.now multiplicities.now flags.now elements.now challenges.now in (refusal result ≡ first (row_fault p w s.lookups s.challenges (node_values p s)) (from + k))
         × RunTerms p w s.lookups s.challenges (node_values p s) from k term_multiplicities.new term_denominators.new }
 {
     let size = tuples.len();
@@ -133,12 +131,10 @@ pub fn block(
     before: Progress,
     out: &mut [u32],
 ) -> Progress
-    ghost s: { Source }
-    requires challenges_value { lent_source shape main.now preprocessed.now public_values.now nodes.now lookups.now tuples.now multiplicities.now flags.now elements.now challenges.now ≡ s }
-    requires column_inputs { ColumnInputs p w s.lookups s.challenges table.now × Evaluable p s.traces s.nodes × (from + k ≤ shape.height) × (shape.height ≤ 1048576)
+    requires { let s : Source = lent_source shape main.now preprocessed.now public_values.now nodes.now lookups.now tuples.now multiplicities.now flags.now elements.now challenges.now in ColumnInputs p w s.lookups s.challenges table.now × Evaluable p s.traces s.nodes × (from + k ≤ shape.height) × (shape.height ≤ 1048576)
         × (length out.old ≡ k * (4 * lookup_count s.lookups.lookups + 4)) × Reached p w s.lookups s.challenges (node_values p s) from before
         × (k * length s.lookups.tuples ≤ 256) }
-    ensures { Reached p w s.lookups s.challenges (node_values p s) (from + k) result
+    ensures { let s : Source = lent_source shape main.now preprocessed.now public_values.now nodes.now lookups.now tuples.now multiplicities.now flags.now elements.now challenges.now in Reached p w s.lookups s.challenges (node_values p s) (from + k) result
         × (out.new ≡ joined (row_words p w s.lookups s.challenges (node_values p s)) from k) }
 {
     let fault = before.verdict;

@@ -40,11 +40,9 @@ pub fn write_pair(
     term_multiplicities: &mut [u32],
     term_denominators: &mut [u32],
 ) -> Verdict
-    ghost s: { RowSource }
-    requires vals_value { lent_row lookups.now tuples.now multiplicities.now flags.now elements.now challenges.now vals.now ≡ s }
-    requires column_inputs { ColumnInputs p w s.lookups s.challenges table.now × Below p s.vals × Below p next_vals.now × (r < 1048576) × (0 < n) × (n ≤ 2)
+    requires { let s : RowSource = lent_row lookups.now tuples.now multiplicities.now flags.now elements.now challenges.now vals.now in ColumnInputs p w s.lookups s.challenges table.now × Below p s.vals × Below p next_vals.now × (r < 1048576) × (0 < n) × (n ≤ 2)
         × (length term_multiplicities.old ≡ n * length s.lookups.tuples) × (length term_denominators.old ≡ 4 * (n * length s.lookups.tuples)) }
-    ensures { (values : ℕ → List ℕ) → values r ≡ s.vals → (1 < n → values (r + 1) ≡ next_vals.now)
+    ensures { let s : RowSource = lent_row lookups.now tuples.now multiplicities.now flags.now elements.now challenges.now vals.now in (values : ℕ → List ℕ) → values r ≡ s.vals → (1 < n → values (r + 1) ≡ next_vals.now)
         → (or_else (first (row_fault p w s.lookups s.challenges values) r) (refusal result) ≡ first (row_fault p w s.lookups s.challenges values) (r + n))
         × RunTerms p w s.lookups s.challenges values r n term_multiplicities.new term_denominators.new }
 {

@@ -47,11 +47,9 @@ fn lookup_terms(
     term_multiplicities: &mut [u32],
     term_denominators: &mut [u32],
 ) -> u32
-    ghost s: { RowSource }
-    requires vals_value { lent_row lookups.now tuples.now multiplicities.now flags.now elements.now challenges.now vals.now ≡ s }
-    requires column_inputs { ColumnInputs p w s.lookups s.challenges table.now × Below p s.vals × PartsOf s.lookups i at end
+    requires { let s : RowSource = lent_row lookups.now tuples.now multiplicities.now flags.now elements.now challenges.now vals.now in ColumnInputs p w s.lookups s.challenges table.now × Below p s.vals × PartsOf s.lookups i at end
         × (length term_multiplicities.old ≡ tuple_count s.lookups.lookups i) × (length term_denominators.old ≡ 4 * tuple_count s.lookups.lookups i) }
-    ensures { LookupTerms p w (place p w s.lookups s.challenges (λ _. s.vals) 0 i) result term_multiplicities.new term_denominators.new }
+    ensures { let s : RowSource = lent_row lookups.now tuples.now multiplicities.now flags.now elements.now challenges.now vals.now in LookupTerms p w (place p w s.lookups s.challenges (λ _. s.vals) 0 i) result term_multiplicities.new term_denominators.new }
 {
     let powers = tuple::load_powers(table, i);
     let alpha = extension::load(challenges, 2 * i);
@@ -96,11 +94,9 @@ pub fn write_row_terms(
     term_multiplicities: &mut [u32],
     term_denominators: &mut [u32],
 ) -> Verdict
-    ghost s: { RowSource }
-    requires vals_value { lent_row lookups.now tuples.now multiplicities.now flags.now elements.now challenges.now vals.now ≡ s }
-    requires column_inputs { ColumnInputs p w s.lookups s.challenges table.now × Below p s.vals
+    requires { let s : RowSource = lent_row lookups.now tuples.now multiplicities.now flags.now elements.now challenges.now vals.now in ColumnInputs p w s.lookups s.challenges table.now × Below p s.vals
         × (length term_multiplicities.old ≡ length s.lookups.tuples) × (length term_denominators.old ≡ 4 * length s.lookups.tuples) }
-    ensures { RowTerms p w s.lookups s.challenges (λ _. s.vals) r result term_multiplicities.new term_denominators.new }
+    ensures { let s : RowSource = lent_row lookups.now tuples.now multiplicities.now flags.now elements.now challenges.now vals.now in RowTerms p w s.lookups s.challenges (λ _. s.vals) r result term_multiplicities.new term_denominators.new }
 {
     let n = lookups.len() / LOOKUP_WORDS;
     let mut verdict = Verdict::Accepted;

@@ -51,12 +51,10 @@ pub fn rows(
     before: Progress,
     out: &mut [u32],
 ) -> Progress
-    ghost s: { Source }
-    requires challenges_value { lent_source shape main.now preprocessed.now public_values.now nodes.now lookups.now tuples.now multiplicities.now flags.now elements.now challenges.now ≡ s }
-    requires column_inputs { ColumnInputs p w s.lookups s.challenges table.now × Evaluable p s.traces s.nodes × (from + k ≤ shape.height) × (shape.height ≤ 1048576)
+    requires { let s : Source = lent_source shape main.now preprocessed.now public_values.now nodes.now lookups.now tuples.now multiplicities.now flags.now elements.now challenges.now in ColumnInputs p w s.lookups s.challenges table.now × Evaluable p s.traces s.nodes × (from + k ≤ shape.height) × (shape.height ≤ 1048576)
         × (length s.lookups.tuples ≤ 64) × (length out.old ≡ k * (4 * lookup_count s.lookups.lookups + 4))
         × Reached p w s.lookups s.challenges (node_values p s) from before }
-    ensures { Reached p w s.lookups s.challenges (node_values p s) (from + k) result
+    ensures { let s : Source = lent_source shape main.now preprocessed.now public_values.now nodes.now lookups.now tuples.now multiplicities.now flags.now elements.now challenges.now in Reached p w s.lookups s.challenges (node_values p s) (from + k) result
         × (out.new ≡ joined (row_words p w s.lookups s.challenges (node_values p s)) from k) }
 {
     let width = 4 * (lookups.len() / LOOKUP_WORDS) + 4;
@@ -112,11 +110,9 @@ pub fn all_rows(
     table: &[u32],
     out: &mut [u32],
 ) -> Progress
-    ghost s: { Source }
-    requires challenges_value { lent_source shape main.now preprocessed.now public_values.now nodes.now lookups.now tuples.now multiplicities.now flags.now elements.now challenges.now ≡ s }
-    requires column_inputs { ColumnInputs p w s.lookups s.challenges table.now × Evaluable p s.traces s.nodes
+    requires { let s : Source = lent_source shape main.now preprocessed.now public_values.now nodes.now lookups.now tuples.now multiplicities.now flags.now elements.now challenges.now in ColumnInputs p w s.lookups s.challenges table.now × Evaluable p s.traces s.nodes
         × (shape.height ≤ 1048576) × (length s.lookups.tuples ≤ 64) × (used s.lookups.lookups shape.height ≤ length out.old) }
-    ensures { Reached p w s.lookups s.challenges (node_values p s) shape.height result
+    ensures { let s : Source = lent_source shape main.now preprocessed.now public_values.now nodes.now lookups.now tuples.now multiplicities.now flags.now elements.now challenges.now in Reached p w s.lookups s.challenges (node_values p s) shape.height result
         × (out.new ≡ trace p w s.lookups s.challenges (node_values p s) shape.height ++ drop (used s.lookups.lookups shape.height) out.old) }
 {
     let width = 4 * (lookups.len() / LOOKUP_WORDS) + 4;

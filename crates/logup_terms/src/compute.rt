@@ -20,14 +20,14 @@ use logup_column::tuple;
 use lookup::types;
 
 // A lookup's fraction on a row, not divided: its numerator and its common denominator.
-#[derive(Drop)]
+#[derive(Clone, Copy)]
 pub struct Fraction {
     pub numerator: Ext,
     pub denominator: Ext,
 }
 
 // What the branches of an exclusive lookup sum up to: flag · multiplicity and flags are words.
-#[derive(Drop)]
+#[derive(Clone, Copy)]
 pub struct Branches {
     pub numerator: u32,
     pub denominator: Ext,
@@ -75,10 +75,8 @@ pub fn compute_combined_sum_terms(
     nodes: &[u32],
     vals: &[u32],
 ) -> Fraction
-    ghost c: { Place }
-    requires powers_value { own_place own.now widths.now multiplicities.now [] nodes.now vals.now (ext_words alpha) (beta_of powers) ≡ c }
-    requires field_values { FieldValues p w c.vals × Powers p w powers × Word4 p c.alpha × PartsFit c }
-    ensures { FractionIs p (additive_numerator p w c) (additive_denominator p w c) result }
+    requires { let c : Place = own_place own.now widths.now multiplicities.now [] nodes.now vals.now (ext_words alpha) (beta_of powers) in FieldValues p w c.vals × Powers p w powers × Word4 p c.alpha × PartsFit c }
+    ensures { let c : Place = own_place own.now widths.now multiplicities.now [] nodes.now vals.now (ext_words alpha) (beta_of powers) in FractionIs p (additive_numerator p w c) (additive_denominator p w c) result }
 {
     let n = to_usize(types::tuple_count(own, 0));
     let mut t = Fraction {
@@ -136,10 +134,8 @@ fn sum_branches(
     nodes: &[u32],
     vals: &[u32],
 ) -> Branches
-    ghost c: { Place }
-    requires powers_value { own_place own.now widths.now multiplicities.now flags.now nodes.now vals.now (ext_words alpha) (beta_of powers) ≡ c }
-    requires field_values { FieldValues p w c.vals × Powers p w powers × Word4 p c.alpha × PartsFit c × (tuple_count c.lookups.lookups 0 ≤ length c.lookups.flags) }
-    ensures { Summed p w c result (tuple_count c.lookups.lookups 0) }
+    requires { let c : Place = own_place own.now widths.now multiplicities.now flags.now nodes.now vals.now (ext_words alpha) (beta_of powers) in FieldValues p w c.vals × Powers p w powers × Word4 p c.alpha × PartsFit c × (tuple_count c.lookups.lookups 0 ≤ length c.lookups.flags) }
+    ensures { let c : Place = own_place own.now widths.now multiplicities.now flags.now nodes.now vals.now (ext_words alpha) (beta_of powers) in Summed p w c result (tuple_count c.lookups.lookups 0) }
 {
     let n = to_usize(types::tuple_count(own, 0));
     let mut t = Branches {
@@ -179,10 +175,8 @@ pub fn compute_exclusive_terms(
     nodes: &[u32],
     vals: &[u32],
 ) -> Fraction
-    ghost c: { Place }
-    requires powers_value { own_place own.now widths.now multiplicities.now flags.now nodes.now vals.now (ext_words alpha) (beta_of powers) ≡ c }
-    requires field_values { FieldValues p w c.vals × Powers p w powers × Word4 p c.alpha × PartsFit c × (tuple_count c.lookups.lookups 0 ≤ length c.lookups.flags) }
-    ensures { FractionIs p (exclusive_numerator p w c) (exclusive_denominator p w c) result }
+    requires { let c : Place = own_place own.now widths.now multiplicities.now flags.now nodes.now vals.now (ext_words alpha) (beta_of powers) in FieldValues p w c.vals × Powers p w powers × Word4 p c.alpha × PartsFit c × (tuple_count c.lookups.lookups 0 ≤ length c.lookups.flags) }
+    ensures { let c : Place = own_place own.now widths.now multiplicities.now flags.now nodes.now vals.now (ext_words alpha) (beta_of powers) in FractionIs p (exclusive_numerator p w c) (exclusive_denominator p w c) result }
 {
     let t = sum_branches(
         p,
@@ -233,11 +227,9 @@ fn compute_terms(
     nodes: &[u32],
     vals: &[u32],
 ) -> Fraction
-    ghost c: { Place }
-    requires powers_value { own_place own.now widths.now multiplicities.now flags.now nodes.now vals.now (ext_words alpha) (beta_of powers) ≡ c }
-    requires field_values { FieldValues p w c.vals × Powers p w powers × Word4 p c.alpha × PartsFit c
+    requires { let c : Place = own_place own.now widths.now multiplicities.now flags.now nodes.now vals.now (ext_words alpha) (beta_of powers) in FieldValues p w c.vals × Powers p w powers × Word4 p c.alpha × PartsFit c
         × (length c.lookups.flags ≡ cond (exclusive c.lookups.lookups 0) (tuple_count c.lookups.lookups 0) 0) }
-    ensures { LookupFraction p w c result }
+    ensures { let c : Place = own_place own.now widths.now multiplicities.now flags.now nodes.now vals.now (ext_words alpha) (beta_of powers) in LookupFraction p w c result }
 {
     if types::exclusive(own, 0) {
         return compute_exclusive_terms(
@@ -280,11 +272,9 @@ pub fn lookup_constraint(
     vals: &[u32],
     cell: Ext,
 ) -> Ext
-    ghost c: { Place }
-    requires powers_value { own_place own.now widths.now multiplicities.now flags.now nodes.now vals.now (ext_words alpha) (beta_of powers) ≡ c }
-    requires field_values { FieldValues p w c.vals × Powers p w powers × Word4 p c.alpha × PartsFit c
+    requires { let c : Place = own_place own.now widths.now multiplicities.now flags.now nodes.now vals.now (ext_words alpha) (beta_of powers) in FieldValues p w c.vals × Powers p w powers × Word4 p c.alpha × PartsFit c
         × (length c.lookups.flags ≡ cond (exclusive c.lookups.lookups 0) (tuple_count c.lookups.lookups 0) 0) × Word4 p (ext_words cell) }
-    ensures { Word4 p (ext_words result) × (ext_words result ≡ vanishing p w c (ext_words cell)) }
+    ensures { let c : Place = own_place own.now widths.now multiplicities.now flags.now nodes.now vals.now (ext_words alpha) (beta_of powers) in Word4 p (ext_words result) × (ext_words result ≡ vanishing p w c (ext_words cell)) }
 {
     let t = compute_terms(
         p,

@@ -28,7 +28,7 @@ use logup_column::tuple;
 use lookup::types::{LOOKUP_WORDS, LookupTerminal};
 
 // The sum of a row's fractions, and the first refusal of its lookups.
-#[derive(Drop)]
+#[derive(Clone, Copy)]
 pub struct RowFractions {
     pub sum: Ext,
     pub verdict: Verdict,
@@ -63,10 +63,8 @@ fn eval_fraction(
     end: Starts,
     cell: Ext,
 ) -> Ext
-    ghost s: { RowSource }
-    requires vals_value { lent_row lookups.now tuples.now multiplicities.now flags.now elements.now challenges.now vals.now ≡ s }
-    requires column_inputs { ColumnInputs p w s.lookups s.challenges table.now × Below p s.vals × PartsOf s.lookups i at end × Word4 p (ext_words cell) }
-    ensures { ext_words result ≡ vanishing p w (place p w s.lookups s.challenges (λ _. s.vals) 0 i) (ext_words cell) }
+    requires { let s : RowSource = lent_row lookups.now tuples.now multiplicities.now flags.now elements.now challenges.now vals.now in ColumnInputs p w s.lookups s.challenges table.now × Below p s.vals × PartsOf s.lookups i at end × Word4 p (ext_words cell) }
+    ensures { let s : RowSource = lent_row lookups.now tuples.now multiplicities.now flags.now elements.now challenges.now vals.now in ext_words result ≡ vanishing p w (place p w s.lookups s.challenges (λ _. s.vals) 0 i) (ext_words cell) }
 {
     let powers = tuple::load_powers(table, i);
     let alpha = extension::load(challenges, 2 * i);
@@ -110,11 +108,9 @@ fn eval_fractions(
     base: usize,
     r: usize,
 ) -> RowFractions
-    ghost s: { RowSource }
-    requires vals_value { lent_row lookups.now tuples.now multiplicities.now flags.now elements.now challenges.now vals.now ≡ s }
-    requires column_inputs { ColumnInputs p w s.lookups s.challenges table.now × Below p s.vals × Below p words.now
+    requires { let s : RowSource = lent_row lookups.now tuples.now multiplicities.now flags.now elements.now challenges.now vals.now in ColumnInputs p w s.lookups s.challenges table.now × Below p s.vals × Below p words.now
         × (4 * (base + (lookup_count s.lookups.lookups + 1)) ≤ length words.now) }
-    ensures { FractionsEvaluated p w s words.now base r result }
+    ensures { let s : RowSource = lent_row lookups.now tuples.now multiplicities.now flags.now elements.now challenges.now vals.now in FractionsEvaluated p w s words.now base r result }
 {
     let n = lookups.len() / LOOKUP_WORDS;
     let mut sum = Ext {
@@ -238,12 +234,10 @@ fn eval_row(
     r: usize,
     height: usize,
 ) -> Verdict
-    ghost s: { RowSource }
-    requires vals_value { lent_row lookups.now tuples.now multiplicities.now flags.now elements.now challenges.now vals.now ≡ s }
-    requires column_inputs { ColumnInputs p w s.lookups s.challenges table.now × Below p s.vals
+    requires { let s : RowSource = lent_row lookups.now tuples.now multiplicities.now flags.now elements.now challenges.now vals.now in ColumnInputs p w s.lookups s.challenges table.now × Below p s.vals
         × TraceInputs p height width (lookup_count s.lookups.lookups) words.now × Word4 p (ext_words terminal.0)
         × (r < height) × (base ≡ r * width) × (lookup_count s.lookups.lookups ≤ 64) }
-    ensures { (values : ℕ → List ℕ) → values r ≡ s.vals
+    ensures { let s : RowSource = lent_row lookups.now tuples.now multiplicities.now flags.now elements.now challenges.now vals.now in (values : ℕ → List ℕ) → values r ≡ s.vals
         → refusal result ≡ row_verdict p w s.lookups s.challenges values width words.now (ext_words terminal.0) height r }
 {
     let fractions = eval_fractions(
@@ -310,12 +304,10 @@ pub fn eval_rows(
     words: &[u32],
     terminal: LookupTerminal,
 ) -> Verdict
-    ghost s: { Source }
-    requires challenges_value { lent_source shape main.now preprocessed.now public_values.now nodes.now lookups.now tuples.now multiplicities.now flags.now elements.now challenges.now ≡ s }
-    requires column_inputs { ColumnInputs p w s.lookups s.challenges table.now × Evaluable p s.traces s.nodes
+    requires { let s : Source = lent_source shape main.now preprocessed.now public_values.now nodes.now lookups.now tuples.now multiplicities.now flags.now elements.now challenges.now in ColumnInputs p w s.lookups s.challenges table.now × Evaluable p s.traces s.nodes
         × TraceInputs p shape.height width (lookup_count s.lookups.lookups) words.now × Word4 p (ext_words terminal.0)
         × (lookup_count s.lookups.lookups ≤ 64) }
-    ensures { refusal result ≡ rows_verdict p w s.lookups s.challenges (node_values p s) width words.now (ext_words terminal.0) shape.height }
+    ensures { let s : Source = lent_source shape main.now preprocessed.now public_values.now nodes.now lookups.now tuples.now multiplicities.now flags.now elements.now challenges.now in refusal result ≡ rows_verdict p w s.lookups s.challenges (node_values p s) width words.now (ext_words terminal.0) shape.height }
 {
     let height = shape.height;
     let count = nodes.len() / NODE_WORDS;

@@ -39,10 +39,8 @@ pub fn alone(lookups: &[u32], packing: bool, i: usize) -> bool
 
 // Whether lookups i and j are on one bus, neither alone.
 pub fn same_bus(lookups: &[u32], names: &[u8], packing: bool, i: usize, j: usize) -> bool
-    ghost l: { Lookups }
-    requires names_value { bus_lookups lookups.now names.now [] ≡ l }
-    requires bus_names { BusNames l.lookups l.names × (i < lookup_count l.lookups) × (j < lookup_count l.lookups) }
-    ensures { result ≡ same_bus (alone_at packing l.lookups) (name_at l.lookups l.names) i j }
+    requires { let l : Lookups = bus_lookups lookups.now names.now [] in BusNames l.lookups l.names × (i < lookup_count l.lookups) × (j < lookup_count l.lookups) }
+    ensures { let l : Lookups = bus_lookups lookups.now names.now [] in result ≡ same_bus (alone_at packing l.lookups) (name_at l.lookups l.names) i j }
 {
     if alone(lookups, packing, i) {
         return false;

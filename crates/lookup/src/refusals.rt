@@ -21,7 +21,7 @@ use expression_checks::fits::{nodes_fit, nodes_within, traces_fit, traces_within
 use expression_checks::nodes::{constants_below, nodes_known, traces_below};
 
 // What stands in for the traces of a table where they are not given: how many columns and public values it has.
-#[derive(Drop)]
+#[derive(Clone, Copy)]
 pub struct Columns {
     pub main: usize,
     pub preprocessed: usize,

@@ -29,10 +29,8 @@ pub fn part_start(sizes: &[u32], words: usize, f: usize, unit: usize, t: usize) 
 }
 
 pub fn part_end(sizes: &[u32], words: usize, f: usize, unit: usize, t: usize) -> usize
-    ghost s: { List ℕ }
-    requires sizes_value { sizes.now ≡ s }
-    requires words_bound { (words ≤ 16) × (f < words) × (unit ≤ 9) × (t ≤ 16) }
-    ensures { (result ≡ unit * size_start words s f t + unit * size words s f t) × (result ≤ 657129996135) }
+    requires { (words ≤ 16) × (f < words) × (unit ≤ 9) × (t ≤ 16) }
+    ensures { let s : List ℕ = sizes.now in (result ≡ unit * size_start words s f t + unit * size words s f t) × (result ≤ 657129996135) }
 {
     unit * size_start(sizes, words, f, t) + unit * size(sizes, words, f, t)
 }

@@ -35,9 +35,7 @@ fn lookup_within(limits: Limits, lookups: &[u32], i: usize) -> bool
 
 // So of each lookup.
 pub fn each_within(limits: Limits, lookups: &[u32]) -> bool
-    ghost l: { List ℕ }
-    requires { lookups.now ≡ l }
-    ensures { result ≡ every (lookup_within limits l) (lookup_count l) }
+    ensures { let l : List ℕ = lookups.now in result ≡ every (lookup_within limits l) (lookup_count l) }
 {
     let n = lookups.len() / LOOKUP_WORDS;
     let mut ok = true;
@@ -82,10 +80,8 @@ pub fn lookups_fit(
 
 // How many flags lookup i must have.
 fn flags_due(lookups: &[u32], i: usize) -> u32
-    ghost l: { List ℕ }
-    requires lookups_value { lookups.now ≡ l }
-    requires lookup_words_in_bounds { lookup_words * i + lookup_words ≤ length l }
-    ensures { result ≡ cond (exclusive l i) (tuple_count l i) 0 }
+    requires { let l : List ℕ = lookups.now in lookup_words * i + lookup_words ≤ length l }
+    ensures { let l : List ℕ = lookups.now in result ≡ cond (exclusive l i) (tuple_count l i) 0 }
 {
     if exclusive(lookups, i) {
         tuple_count(lookups, i)
@@ -105,9 +101,7 @@ pub fn lengths_agree(lookups: &[u32], i: usize) -> bool
 
 // The numbers of tuples, multiplicities and flags agree in each lookup.
 pub fn all_agree(lookups: &[u32]) -> bool
-    ghost l: { List ℕ }
-    requires { lookups.now ≡ l }
-    ensures { result ≡ every (lengths_agree l) (lookup_count l) }
+    ensures { let l : List ℕ = lookups.now in result ≡ every (lengths_agree l) (lookup_count l) }
 {
     let n = lookups.len() / LOOKUP_WORDS;
     let mut ok = true;

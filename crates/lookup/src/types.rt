@@ -27,7 +27,7 @@ pub const FLAG_COUNT_WORD: usize = 7;
 pub const WEIGHT_HIGH_WORD: usize = 8;
 
 // The sum of all fractions of a table. It is wrapped, so that it is never passed where a challenge belongs.
-#[derive(Drop)]
+#[derive(Clone, Copy)]
 pub struct LookupTerminal(pub Ext);
 
 // Word f of lookup i.

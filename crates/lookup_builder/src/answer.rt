@@ -7,7 +7,7 @@ pub const INTERACTION_WORDS: usize = 2;
 pub const TUPLE_NUMBER_WORD: usize = 1;
 
 // How many interactions there are of each kind; they come in this order.
-#[derive(Drop)]
+#[derive(Clone, Copy)]
 pub struct Kinds {
     pub locals: usize,
     pub globals: usize,
@@ -15,7 +15,7 @@ pub struct Kinds {
 }
 
 // How many words were written.
-#[derive(Drop)]
+#[derive(Clone, Copy)]
 pub enum BuildingAnswer {
     Built(usize),
     Refused(Refusal),

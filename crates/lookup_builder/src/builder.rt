@@ -31,10 +31,8 @@ fn words_verdict(
     flags: &[u32],
     elements: &[u32],
 ) -> Verdict
-    ghost l: { Lookups }
-    requires elements_value { lent_lookups lookups.now names.now tuples.now multiplicities.now flags.now elements.now ≡ l }
-    requires sane { Sane limits × (locals ≤ lookup_count l.lookups) }
-    ensures { refusal result ≡ built_refusal limits p columns nodes.now locals l }
+    requires { let l : Lookups = lent_lookups lookups.now names.now tuples.now multiplicities.now flags.now elements.now in Sane limits × (locals ≤ lookup_count l.lookups) }
+    ensures { let l : Lookups = lent_lookups lookups.now names.now tuples.now multiplicities.now flags.now elements.now in refusal result ≡ built_refusal limits p columns nodes.now locals l }
 {
     let verdict = form_refusal(
         limits,
@@ -69,10 +67,8 @@ fn built_verdict(
     flags: &[u32],
     elements: &[u32],
 ) -> Verdict
-    ghost g: { Interactions }
-    requires elements_value { lent_interactions interactions.now weights.now names.now tuples.now multiplicities.now flags.now elements.now ≡ g }
-    requires sane { Sane limits × InteractionsSized kinds g.interactions g.weights }
-    ensures { refusal result ≡ built_refusal limits p columns nodes.now kinds.locals (lookups_built kinds g) }
+    requires { let g : Interactions = lent_interactions interactions.now weights.now names.now tuples.now multiplicities.now flags.now elements.now in Sane limits × InteractionsSized kinds g.interactions g.weights }
+    ensures { let g : Interactions = lent_interactions interactions.now weights.now names.now tuples.now multiplicities.now flags.now elements.now in refusal result ≡ built_refusal limits p columns nodes.now kinds.locals (lookups_built kinds g) }
 {
     let mut words = [0u32; 576];
     write_lookups(kinds, interactions, weights, &mut words);
@@ -108,10 +104,8 @@ pub fn build_within(
     elements: &[u32],
     lookups: &mut [u32],
 ) -> BuildingAnswer
-    ghost s: { BuildSource }
-    requires lookups_value { build_source nodes.now (lent_interactions interactions.now weights.now names.now tuples.now multiplicities.now flags.now elements.now) lookups.old ≡ s }
-    requires sane { Sane limits }
-    ensures { (result ≡ (building limits p columns s.nodes kinds s.given s.lent).answer)
+    requires { Sane limits }
+    ensures { let s : BuildSource = build_source nodes.now (lent_interactions interactions.now weights.now names.now tuples.now multiplicities.now flags.now elements.now) lookups.old in (result ≡ (building limits p columns s.nodes kinds s.given s.lent).answer)
         × (lookups.new ≡ (building limits p columns s.nodes kinds s.given s.lent).lookups) }
 {
     if !building_fits(limits, kinds, interactions, weights, tuples, lookups.len()) {

@@ -11,10 +11,8 @@ use lookup_buses::lookup_widths::{FirstWidth, tuples_verdict};
 
 // The tuples of lookup i are as wide as its first.
 fn local_verdict(lookups: &[u32], tuples: &[u32], i: usize) -> Verdict
-    ghost l: { Lookups }
-    requires tuples_value { bus_lookups lookups.now [] tuples.now ≡ l }
-    requires lookups_bound { (lookup_count l.lookups ≤ 64) × (i < lookup_count l.lookups) × (tuple_start l.lookups (lookup_count l.lookups) ≤ length l.tuples) }
-    ensures { refusal result ≡ local_refusal l.lookups l.tuples i }
+    requires { let l : Lookups = bus_lookups lookups.now [] tuples.now in (lookup_count l.lookups ≤ 64) × (i < lookup_count l.lookups) × (tuple_start l.lookups (lookup_count l.lookups) ≤ length l.tuples) }
+    ensures { let l : Lookups = bus_lookups lookups.now [] tuples.now in refusal result ≡ local_refusal l.lookups l.tuples i }
 {
     if !(0 < tuple_count(lookups, i)) {
         return Verdict::Accepted;
@@ -26,10 +24,8 @@ fn local_verdict(lookups: &[u32], tuples: &[u32], i: usize) -> Verdict
 
 // So of each of the first n lookups.
 pub fn locals_verdict(n: usize, lookups: &[u32], tuples: &[u32]) -> Verdict
-    ghost l: { Lookups }
-    requires tuples_value { bus_lookups lookups.now [] tuples.now ≡ l }
-    requires lookups_bound { (lookup_count l.lookups ≤ 64) × (n ≤ lookup_count l.lookups) × (tuple_start l.lookups (lookup_count l.lookups) ≤ length l.tuples) }
-    ensures { refusal result ≡ locals_refusal n l.lookups l.tuples }
+    requires { let l : Lookups = bus_lookups lookups.now [] tuples.now in (lookup_count l.lookups ≤ 64) × (n ≤ lookup_count l.lookups) × (tuple_start l.lookups (lookup_count l.lookups) ≤ length l.tuples) }
+    ensures { let l : Lookups = bus_lookups lookups.now [] tuples.now in refusal result ≡ locals_refusal n l.lookups l.tuples }
 {
     let mut verdict = Verdict::Accepted;
     let mut i = 0;

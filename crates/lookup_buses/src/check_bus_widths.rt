@@ -18,7 +18,7 @@ use lookup::starts::{name_start, tuple_start};
 use lookup::tests::{all_agree, lookups_within};
 use lookup::types::LOOKUP_WORDS;
 
-#[derive(Drop)]
+#[derive(Clone, Copy)]
 pub enum WidthsAnswer {
     Widest(u64),
     Refused(Refusal),
@@ -54,10 +54,8 @@ fn table_fits(limits: Limits, lookups: &[u32], names: &[u8], tuples: &[u32]) -> 
 
 // Every table fits, where the lists do.
 fn tables_fit(limits: Limits, lookups: &[u32], names: &[u8], tuples: &[u32], sizes: &[u32]) -> bool
-    ghost l: { BusTables }
-    requires sizes_value { lent_bus_tables lookups.now names.now tuples.now sizes.now ≡ l }
-    requires sane { Sane limits × BusListsCover l }
-    ensures { result ≡ every (λ t. table_fits limits (table_at l t)) (table_count bus_sizes l.sizes) }
+    requires { let l : BusTables = lent_bus_tables lookups.now names.now tuples.now sizes.now in Sane limits × BusListsCover l }
+    ensures { let l : BusTables = lent_bus_tables lookups.now names.now tuples.now sizes.now in result ≡ every (λ t. table_fits limits (table_at l t)) (table_count bus_sizes l.sizes) }
 {
     let n = sizes.len() / BUS_SIZES;
     let mut ok = true;

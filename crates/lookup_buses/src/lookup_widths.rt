@@ -16,7 +16,7 @@ use lookup::types::{name_length, on_bus, tuple_count};
 use lookup_degree::tuples::larger;
 
 // A width, where there is a tuple.
-#[derive(Drop)]
+#[derive(Clone, Copy)]
 pub enum FirstWidth {
     Nothing,
     Width(u32),
@@ -40,10 +40,8 @@ pub fn width_in_lookup(
     tuples: &[u32],
     i: usize,
 ) -> FirstWidth
-    ghost l: { Lookups }
-    requires tuples_value { bus_lookups lookups.now names.now tuples.now ≡ l }
-    requires bus_lists { BusLists l.lookups l.names l.tuples × (i < lookup_count l.lookups) }
-    ensures { width_option result ≡ width_in_lookup bus.now l i }
+    requires { let l : Lookups = bus_lookups lookups.now names.now tuples.now in BusLists l.lookups l.names l.tuples × (i < lookup_count l.lookups) }
+    ensures { let l : Lookups = bus_lookups lookups.now names.now tuples.now in width_option result ≡ width_in_lookup bus.now l i }
 {
     if !on_bus(lookups, i) {
         return FirstWidth::Nothing;
@@ -78,10 +76,8 @@ fn tuple_verdict(i: usize, expected: FirstWidth, width: u32) -> Verdict
 
 // Refusal 6 of the tuples of lookup i, where this width is expected.
 pub fn tuples_verdict(expected: FirstWidth, lookups: &[u32], tuples: &[u32], i: usize) -> Verdict
-    ghost l: { Lookups }
-    requires tuples_value { bus_lookups lookups.now [] tuples.now ≡ l }
-    requires lookups_bound { (lookup_count l.lookups ≤ 64) × (i < lookup_count l.lookups) × (tuple_start l.lookups i + tuple_count l.lookups i ≤ length l.tuples) }
-    ensures { refusal result ≡ first (λ k. tuple_refusal i (width_option expected) (tuple_width l.lookups l.tuples i k)) (tuple_count l.lookups i) }
+    requires { let l : Lookups = bus_lookups lookups.now [] tuples.now in (lookup_count l.lookups ≤ 64) × (i < lookup_count l.lookups) × (tuple_start l.lookups i + tuple_count l.lookups i ≤ length l.tuples) }
+    ensures { let l : Lookups = bus_lookups lookups.now [] tuples.now in refusal result ≡ first (λ k. tuple_refusal i (width_option expected) (tuple_width l.lookups l.tuples i k)) (tuple_count l.lookups i) }
 {
     let start = tuple_start(lookups, i);
     let n = to_usize(tuple_count(lookups, i));
@@ -98,10 +94,8 @@ pub fn tuples_verdict(expected: FirstWidth, lookups: &[u32], tuples: &[u32], i: 
 
 // The widest tuple of lookup i.
 fn widest_tuple(lookups: &[u32], tuples: &[u32], i: usize) -> u32
-    ghost l: { Lookups }
-    requires tuples_value { bus_lookups lookups.now [] tuples.now ≡ l }
-    requires lookups_bound { (lookup_count l.lookups ≤ 64) × (i < lookup_count l.lookups) × (tuple_start l.lookups i + tuple_count l.lookups i ≤ length l.tuples) }
-    ensures { result ≡ greatest (tuple_width l.lookups l.tuples i) (tuple_count l.lookups i) }
+    requires { let l : Lookups = bus_lookups lookups.now [] tuples.now in (lookup_count l.lookups ≤ 64) × (i < lookup_count l.lookups) × (tuple_start l.lookups i + tuple_count l.lookups i ≤ length l.tuples) }
+    ensures { let l : Lookups = bus_lookups lookups.now [] tuples.now in result ≡ greatest (tuple_width l.lookups l.tuples i) (tuple_count l.lookups i) }
 {
     let start = tuple_start(lookups, i);
     let n = to_usize(tuple_count(lookups, i));
@@ -116,10 +110,8 @@ fn widest_tuple(lookups: &[u32], tuples: &[u32], i: usize) -> u32
 
 // The widest tuple of lookup i, if that is on a bus.
 pub fn widest_in_lookup(lookups: &[u32], names: &[u8], tuples: &[u32], i: usize) -> u32
-    ghost l: { Lookups }
-    requires tuples_value { bus_lookups lookups.now names.now tuples.now ≡ l }
-    requires bus_lists { BusLists l.lookups l.names l.tuples × (i < lookup_count l.lookups) }
-    ensures { result ≡ widest_in_lookup l i }
+    requires { let l : Lookups = bus_lookups lookups.now names.now tuples.now in BusLists l.lookups l.names l.tuples × (i < lookup_count l.lookups) }
+    ensures { let l : Lookups = bus_lookups lookups.now names.now tuples.now in result ≡ widest_in_lookup l i }
 {
     if on_bus(lookups, i) {
         return widest_tuple(lookups, tuples, i);

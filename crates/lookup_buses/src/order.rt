@@ -12,10 +12,8 @@ use lookup::types::LOOKUP_WORDS;
 
 // The place of lookup i: 0, or 1 + the first lookup of its bus.
 fn place_of(lookups: &[u32], names: &[u8], packing: bool, i: usize) -> u32
-    ghost l: { Lookups }
-    requires names_value { bus_lookups lookups.now names.now [] ≡ l }
-    requires bus_names { BusNames l.lookups l.names × (i < lookup_count l.lookups) }
-    ensures { result ≡ place (alone_at packing l.lookups) (name_at l.lookups l.names) (lookup_count l.lookups) i }
+    requires { let l : Lookups = bus_lookups lookups.now names.now [] in BusNames l.lookups l.names × (i < lookup_count l.lookups) }
+    ensures { let l : Lookups = bus_lookups lookups.now names.now [] in result ≡ place (alone_at packing l.lookups) (name_at l.lookups l.names) (lookup_count l.lookups) i }
 {
     if alone(lookups, packing, i) {
         return 0;
@@ -33,10 +31,8 @@ fn place_of(lookups: &[u32], names: &[u8], packing: bool, i: usize) -> u32
 
 // The places of all lookups.
 fn places(lookups: &[u32], names: &[u8], packing: bool) -> [u32; 64]
-    ghost l: { Lookups }
-    requires names_value { bus_lookups lookups.now names.now [] ≡ l }
-    requires bus_names { BusNames l.lookups l.names }
-    ensures { result ≡ tab (place (alone_at packing l.lookups) (name_at l.lookups l.names) (lookup_count l.lookups)) 0 (lookup_count l.lookups) ++ drop (lookup_count l.lookups) (replicate 64 0) }
+    requires { let l : Lookups = bus_lookups lookups.now names.now [] in BusNames l.lookups l.names }
+    ensures { let l : Lookups = bus_lookups lookups.now names.now [] in result ≡ tab (place (alone_at packing l.lookups) (name_at l.lookups l.names) (lookup_count l.lookups)) 0 (lookup_count l.lookups) ++ drop (lookup_count l.lookups) (replicate 64 0) }
 {
     let n = lookups.len() / LOOKUP_WORDS;
     let mut out = [0u32; 64];
@@ -51,10 +47,8 @@ fn places(lookups: &[u32], names: &[u8], packing: bool) -> [u32; 64]
 
 // The lookups of place k go to order from `start` on; answers where they end.
 fn push_place(places: &[u32], k: u32, n: usize, order: &mut [u32], start: usize) -> usize
-    ghost found: { List ℕ }
-    requires n_value { of_place places.now k n ≡ found }
-    requires n_bound { (n ≤ 64) × (n ≤ length places.now) × (start + length found ≤ length order.old) }
-    ensures { (result ≡ start + length found) × (order.new ≡ (take start order.old ++ found) ++ drop result order.old) }
+    requires { let found : List ℕ = of_place places.now k n in (n ≤ 64) × (n ≤ length places.now) × (start + length found ≤ length order.old) }
+    ensures { let found : List ℕ = of_place places.now k n in (result ≡ start + length found) × (order.new ≡ (take start order.old ++ found) ++ drop result order.old) }
 {
     let mut end = start;
     let mut i = 0;
@@ -70,10 +64,8 @@ fn push_place(places: &[u32], k: u32, n: usize, order: &mut [u32], start: usize)
 
 // The lookups by place, by number; answers how many they are.
 fn arrange(places: &[u32], n: usize, order: &mut [u32]) -> usize
-    ghost found: { List ℕ }
-    requires n_value { order_of places.now (n + 1) n ≡ found }
-    requires n_bound { (n ≤ 64) × (n ≤ length places.now) × (n ≤ length order.old) }
-    ensures { (result ≡ length found) × (order.new ≡ found ++ drop result order.old) }
+    requires { (n ≤ 64) × (n ≤ length places.now) × (n ≤ length order.old) }
+    ensures { let found : List ℕ = order_of places.now (n + 1) n in (result ≡ length found) × (order.new ≡ found ++ drop result order.old) }
 {
     let mut end = 0;
     let mut k = 0;
@@ -86,10 +78,8 @@ fn arrange(places: &[u32], n: usize, order: &mut [u32]) -> usize
 
 // The order of a table's lookups, by number.
 pub fn order(lookups: &[u32], names: &[u8], packing: bool) -> [u32; 64]
-    ghost l: { Lookups }
-    requires names_value { bus_lookups lookups.now names.now [] ≡ l }
-    requires bus_names { BusNames l.lookups l.names }
-    ensures { result ≡ arranged (alone_at packing l.lookups) (name_at l.lookups l.names) (lookup_count l.lookups) ++ drop (lookup_count l.lookups) (replicate 64 0) }
+    requires { let l : Lookups = bus_lookups lookups.now names.now [] in BusNames l.lookups l.names }
+    ensures { let l : Lookups = bus_lookups lookups.now names.now [] in result ≡ arranged (alone_at packing l.lookups) (name_at l.lookups l.names) (lookup_count l.lookups) ++ drop (lookup_count l.lookups) (replicate 64 0) }
 {
     let n = lookups.len() / LOOKUP_WORDS;
     let places = places(lookups, names, packing);

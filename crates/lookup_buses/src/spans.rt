@@ -14,7 +14,7 @@ pub const NAME_BYTES_SIZE: usize = 1;
 
 pub const TUPLE_COUNT_SIZE: usize = 2;
 
-#[derive(Drop)]
+#[derive(Clone, Copy)]
 pub struct TableSpans {
     pub lookups_start: usize,
     pub lookups_end: usize,

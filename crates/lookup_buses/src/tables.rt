@@ -19,10 +19,8 @@ use lookup_degree::tuples::larger;
 
 // The width first seen on a bus in one table.
 fn width_in_table(bus: &[u8], lookups: &[u32], names: &[u8], tuples: &[u32]) -> FirstWidth
-    ghost l: { Lookups }
-    requires tuples_value { bus_lookups lookups.now names.now tuples.now ≡ l }
-    requires bus_lists { BusLists l.lookups l.names l.tuples }
-    ensures { width_option result ≡ width_in_table bus.now l }
+    requires { let l : Lookups = bus_lookups lookups.now names.now tuples.now in BusLists l.lookups l.names l.tuples }
+    ensures { let l : Lookups = bus_lookups lookups.now names.now tuples.now in width_option result ≡ width_in_table bus.now l }
 {
     let n = lookups.len() / LOOKUP_WORDS;
     let mut found = FirstWidth::Nothing;
@@ -37,10 +35,8 @@ fn width_in_table(bus: &[u8], lookups: &[u32], names: &[u8], tuples: &[u32]) -> 
 
 // The width first seen on a bus.
 fn expected(bus: &[u8], lookups: &[u32], names: &[u8], tuples: &[u32], sizes: &[u32]) -> FirstWidth
-    ghost l: { BusTables }
-    requires sizes_value { lent_bus_tables lookups.now names.now tuples.now sizes.now ≡ l }
-    requires bus_tables_fit { BusTablesFit l }
-    ensures { width_option result ≡ expected (tables_of l) bus.now }
+    requires { let l : BusTables = lent_bus_tables lookups.now names.now tuples.now sizes.now in BusTablesFit l }
+    ensures { let l : BusTables = lent_bus_tables lookups.now names.now tuples.now sizes.now in width_option result ≡ expected (tables_of l) bus.now }
 {
     let n = sizes.len() / BUS_SIZES;
     let mut found = FirstWidth::Nothing;
@@ -76,10 +72,8 @@ fn lookup_verdict(
     own_tuples: &[u32],
     i: usize,
 ) -> Verdict
-    ghost s: { TableAmong }
-    requires own_tuples_value { among (lent_bus_tables lookups.now names.now tuples.now sizes.now) (bus_lookups own_lookups.now own_names.now own_tuples.now) ≡ s }
-    requires bus_tables_fit { BusTablesFit s.all × BusLists s.own.lookups s.own.names s.own.tuples × (i < lookup_count s.own.lookups) }
-    ensures { refusal result ≡ lookup_refusal (tables_of s.all) s.own i }
+    requires { let s : TableAmong = among (lent_bus_tables lookups.now names.now tuples.now sizes.now) (bus_lookups own_lookups.now own_names.now own_tuples.now) in BusTablesFit s.all × BusLists s.own.lookups s.own.names s.own.tuples × (i < lookup_count s.own.lookups) }
+    ensures { let s : TableAmong = among (lent_bus_tables lookups.now names.now tuples.now sizes.now) (bus_lookups own_lookups.now own_names.now own_tuples.now) in refusal result ≡ lookup_refusal (tables_of s.all) s.own i }
 {
     if !on_bus(own_lookups, i) {
         return Verdict::Accepted;
@@ -100,10 +94,8 @@ fn table_verdict(
     own_names: &[u8],
     own_tuples: &[u32],
 ) -> Verdict
-    ghost s: { TableAmong }
-    requires own_tuples_value { among (lent_bus_tables lookups.now names.now tuples.now sizes.now) (bus_lookups own_lookups.now own_names.now own_tuples.now) ≡ s }
-    requires bus_tables_fit { BusTablesFit s.all × BusLists s.own.lookups s.own.names s.own.tuples }
-    ensures { refusal result ≡ table_refusal (tables_of s.all) s.own }
+    requires { let s : TableAmong = among (lent_bus_tables lookups.now names.now tuples.now sizes.now) (bus_lookups own_lookups.now own_names.now own_tuples.now) in BusTablesFit s.all × BusLists s.own.lookups s.own.names s.own.tuples }
+    ensures { let s : TableAmong = among (lent_bus_tables lookups.now names.now tuples.now sizes.now) (bus_lookups own_lookups.now own_names.now own_tuples.now) in refusal result ≡ table_refusal (tables_of s.all) s.own }
 {
     let n = own_lookups.len() / LOOKUP_WORDS;
     let ordered = order(own_lookups, own_names, false);
@@ -129,10 +121,8 @@ fn table_verdict(
 
 // Refusal 6 over all tables (`check_bus_widths`).
 pub fn bus_widths(lookups: &[u32], names: &[u8], tuples: &[u32], sizes: &[u32]) -> Verdict
-    ghost l: { BusTables }
-    requires sizes_value { lent_bus_tables lookups.now names.now tuples.now sizes.now ≡ l }
-    requires bus_tables_fit { BusTablesFit l }
-    ensures { refusal result ≡ widths_refusal (tables_of l) }
+    requires { let l : BusTables = lent_bus_tables lookups.now names.now tuples.now sizes.now in BusTablesFit l }
+    ensures { let l : BusTables = lent_bus_tables lookups.now names.now tuples.now sizes.now in refusal result ≡ widths_refusal (tables_of l) }
 {
     let n = sizes.len() / BUS_SIZES;
     let mut verdict = Verdict::Accepted;
@@ -162,10 +152,8 @@ pub fn bus_widths(lookups: &[u32], names: &[u8], tuples: &[u32], sizes: &[u32]) 
 
 // The widest bus tuple of one table.
 fn widest_in_table(lookups: &[u32], names: &[u8], tuples: &[u32]) -> u32
-    ghost l: { Lookups }
-    requires tuples_value { bus_lookups lookups.now names.now tuples.now ≡ l }
-    requires bus_lists { BusLists l.lookups l.names l.tuples }
-    ensures { result ≡ widest_in_table l }
+    requires { let l : Lookups = bus_lookups lookups.now names.now tuples.now in BusLists l.lookups l.names l.tuples }
+    ensures { let l : Lookups = bus_lookups lookups.now names.now tuples.now in result ≡ widest_in_table l }
 {
     let n = lookups.len() / LOOKUP_WORDS;
     let mut top = 0;
@@ -180,10 +168,8 @@ fn widest_in_table(lookups: &[u32], names: &[u8], tuples: &[u32]) -> u32
 
 // The widest bus tuple of all.
 pub fn widest(lookups: &[u32], names: &[u8], tuples: &[u32], sizes: &[u32]) -> u32
-    ghost l: { BusTables }
-    requires sizes_value { lent_bus_tables lookups.now names.now tuples.now sizes.now ≡ l }
-    requires bus_tables_fit { BusTablesFit l }
-    ensures { result ≡ widest (tables_of l) }
+    requires { let l : BusTables = lent_bus_tables lookups.now names.now tuples.now sizes.now in BusTablesFit l }
+    ensures { let l : BusTables = lent_bus_tables lookups.now names.now tuples.now sizes.now in result ≡ widest (tables_of l) }
 {
     let n = sizes.len() / BUS_SIZES;
     let mut top = 0;

@@ -57,10 +57,8 @@ fn fill(p: u32, alpha: Ext, gamma: Ext, count: usize, out: &mut [u32])
 }
 
 fn write(p: u32, w: u32, alpha: &[u32], beta: &[u32], width: usize, count: usize, out: &mut [u32])
-    ghost l: { ChallengeLists }
-    requires out_value { challenge_lists alpha.now beta.now out.old ≡ l }
-    requires known_prime { KnownPrime p × (w < p) × Writable p l.alpha l.beta width count l.out }
-    ensures { out.new ≡ joined (prefix p w l.alpha l.beta width) 0 count ++ drop (4 * count) l.out }
+    requires { let l : ChallengeLists = challenge_lists alpha.now beta.now out.old in KnownPrime p × (w < p) × Writable p l.alpha l.beta width count l.out }
+    ensures { let l : ChallengeLists = challenge_lists alpha.now beta.now out.old in out.new ≡ joined (prefix p w l.alpha l.beta width) 0 count ++ drop (4 * count) l.out }
 {
     let gamma = power(p, w, load(beta, 0), width as u32);
     fill(p, load(alpha, 0), gamma, count, out);
@@ -77,10 +75,8 @@ pub fn prefixes(
     count: usize,
     out: &mut [u32],
 ) -> Verdict
-    ghost l: { ChallengeLists }
-    requires out_value { challenge_lists alpha.now beta.now out.old ≡ l }
-    requires sane { Sane limits × KnownPrime p × (w < p) }
-    ensures { (refusal result ≡ prefixes_refusal limits p l.alpha l.beta width count l.out)
+    requires { Sane limits × KnownPrime p × (w < p) }
+    ensures { let l : ChallengeLists = challenge_lists alpha.now beta.now out.old in (refusal result ≡ prefixes_refusal limits p l.alpha l.beta width count l.out)
         × (out.new ≡ prefixes_after (refusal result) p w l.alpha l.beta width count l.out) }
 {
     if !fits(limits, alpha, beta, width, count, out.len() / 4) {

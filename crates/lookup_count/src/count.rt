@@ -18,13 +18,13 @@ const CONSTANT_KIND: u32 = 0;
 
 const NEGATION_KIND: u32 = 12;
 
-#[derive(Drop)]
+#[derive(Clone, Copy)]
 pub struct Count {
     pub node: u32,
     pub weight: u32,
 }
 
-#[derive(Drop)]
+#[derive(Clone, Copy)]
 pub enum Counted {
     Added(Count),
     Refused(Refusal),
@@ -84,10 +84,8 @@ pub fn constant(
     minus: bool,
     magnitude: u32,
 ) -> Counted
-    ghost before: { List ℕ }
-    requires nodes_value { nodes.old ≡ before }
-    requires known_prime { KnownPrime p × (limits.nodes ≤ 1024) }
-    ensures { (result ≡ counted (count_refusal limits before used) used magnitude)
+    requires { KnownPrime p × (limits.nodes ≤ 1024) }
+    ensures { let before : List ℕ = nodes.old in (result ≡ counted (count_refusal limits before used) used magnitude)
         × (nodes.new ≡ nodes_after (count_refusal limits before used) before used constant_kind (residue p minus magnitude)) }
 {
     let room = nodes.len() / NODE_WORDS;
@@ -131,10 +129,8 @@ pub fn from_i32(choices: Choices, nodes: &mut [u32], used: usize, x: i32) -> Cou
 
 // The count with the other sign.
 pub fn negation(limits: Limits, nodes: &mut [u32], used: usize, count: Count) -> Counted
-    ghost before: { List ℕ }
-    requires nodes_value { nodes.old ≡ before }
-    requires nodes_bound { limits.nodes ≤ 1024 }
-    ensures { (result ≡ counted (negation_refusal limits before used count.node) used count.weight)
+    requires { limits.nodes ≤ 1024 }
+    ensures { let before : List ℕ = nodes.old in (result ≡ counted (negation_refusal limits before used count.node) used count.weight)
         × (nodes.new ≡ nodes_after (negation_refusal limits before used count.node) before used negation_kind count.node) }
 {
     let room = nodes.len() / NODE_WORDS;

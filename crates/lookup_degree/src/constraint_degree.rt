@@ -17,7 +17,7 @@ use field::modulus::prime_of;
 use lookup::refusals::{Columns, form_refusal};
 use lookup::types::LOOKUP_WORDS;
 
-#[derive(Drop)]
+#[derive(Clone, Copy)]
 pub enum DegreeAnswer {
     Degree(u64),
     Refused(Refusal),
@@ -36,10 +36,8 @@ fn degree_of(
     i: usize,
     t: u32,
 ) -> u64
-    ghost l: { Lookups }
-    requires elements_value { lent_lookups lookups.now names.now tuples.now multiplicities.now flags.now elements.now ≡ l }
-    requires formed { Formed limits nodes.now l × (i < lookup_count l.lookups) × (t ≤ 1) }
-    ensures { result ≡ lookup_degree (node_degrees t nodes.now) (lookup_at l i) }
+    requires { let l : Lookups = lent_lookups lookups.now names.now tuples.now multiplicities.now flags.now elements.now in Formed limits nodes.now l × (i < lookup_count l.lookups) × (t ≤ 1) }
+    ensures { let l : Lookups = lent_lookups lookups.now names.now tuples.now multiplicities.now flags.now elements.now in result ≡ lookup_degree (node_degrees t nodes.now) (lookup_at l i) }
 {
     let mut of_nodes = [0u32; 1024];
     let _low = fill_degrees(

@@ -83,10 +83,8 @@ pub fn flagged_counts(
     first: usize,
     n: usize,
 ) -> u64
-    ghost degrees: { List ℕ }
-    requires nodes_value { nodes.now ≡ degrees }
-    requires n_bound { (n ≤ 64) × (first ≤ 64) × (start ≤ 64) }
-    ensures { result ≡ greatest (λ k. word degrees (word flags.now (start + k)) + word degrees (word multiplicities.now (first + k))) n }
+    requires { (n ≤ 64) × (first ≤ 64) × (start ≤ 64) }
+    ensures { let degrees : List ℕ = nodes.now in result ≡ greatest (λ k. word degrees (word flags.now (start + k)) + word degrees (word multiplicities.now (first + k))) n }
 {
     let mut top: u64 = 0;
     let mut k = 0;

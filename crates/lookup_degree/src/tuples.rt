@@ -31,10 +31,8 @@ fn tuple_degree(degrees: &[u32], nodes: &[u32]) -> u32
 
 // The degree of each tuple of a table.
 pub fn tuple_degrees(degrees: &[u32], tuples: &[u32], elements: &[u32]) -> [u32; 64]
-    ghost widths: { List ℕ }
-    requires tuples_value { tuples.now ≡ widths }
-    requires widths_len_bound { (length widths ≤ 64) × (element_start widths (length widths) ≤ length elements.now) }
-    ensures { result ≡ tab (tuple_degree_at (word degrees.now) widths elements.now) 0 (length widths) ++ drop (length widths) (replicate 64 0) }
+    requires { let widths : List ℕ = tuples.now in (length widths ≤ 64) × (element_start widths (length widths) ≤ length elements.now) }
+    ensures { let widths : List ℕ = tuples.now in result ≡ tab (tuple_degree_at (word degrees.now) widths elements.now) 0 (length widths) ++ drop (length widths) (replicate 64 0) }
 {
     let mut out = [0u32; 64];
     let mut start: usize = 0;

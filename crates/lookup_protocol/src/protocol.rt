@@ -65,9 +65,7 @@ fn terminal_below(p: u32, terminals: &[u32], i: usize) -> bool
 }
 
 fn all_below(p: u32, terminals: &[u32]) -> bool
-    ghost ts: { List ℕ }
-    requires { terminals.now ≡ ts }
-    ensures { result ≡ every (terminal_below p ts) (terminal_count ts) }
+    ensures { let ts : List ℕ = terminals.now in result ≡ every (terminal_below p ts) (terminal_count ts) }
 {
     let n = terminals.len() / TERMINAL_WORDS;
     let mut ok = true;
@@ -92,10 +90,8 @@ fn with_terminal(p: u32, sum: Ext, terminals: &[u32], i: usize) -> Ext
 }
 
 fn terminal_sum(p: u32, terminals: &[u32]) -> Ext
-    ghost ts: { List ℕ }
-    requires terminals_value { terminals.now ≡ ts }
-    requires known_prime { KnownPrime p × (every (terminal_below p ts) (terminal_count ts) ≡ true) }
-    ensures { ext_words result ≡ terminal_sum p ts (terminal_count ts) }
+    requires { let ts : List ℕ = terminals.now in KnownPrime p × (every (terminal_below p ts) (terminal_count ts) ≡ true) }
+    ensures { let ts : List ℕ = terminals.now in ext_words result ≡ terminal_sum p ts (terminal_count ts) }
 {
     let n = terminals.len() / TERMINAL_WORDS;
     let mut sum = Ext {
@@ -164,10 +160,8 @@ fn tables_within(limits: Limits, counts: &[u32], heights: &[u32]) -> bool
 
 // Each table's lookups show no size over a limit.
 fn all_small(limits: Limits, lookups: &[u32], counts: &[u32]) -> bool
-    ghost l: { HeightLists }
-    requires counts_value { height_lists lookups.now counts.now [] ≡ l }
-    requires lookups_counted { LookupsCounted l.lookups l.counts }
-    ensures { result ≡ every (λ t. lookups_small limits (table_lookups l.lookups l.counts t)) (length l.counts) }
+    requires { let l : HeightLists = height_lists lookups.now counts.now [] in LookupsCounted l.lookups l.counts }
+    ensures { let l : HeightLists = height_lists lookups.now counts.now [] in result ≡ every (λ t. lookups_small limits (table_lookups l.lookups l.counts t)) (length l.counts) }
 {
     let mut ok = true;
     let mut at: usize = 0;
@@ -204,10 +198,8 @@ fn tables_fit(limits: Limits, lookups: &[u32], counts: &[u32], heights: &[u32]) 
 
 // The weights of one table: at most 2^32 - 1 for each of 64 lookups, and again for each of 64 tuples.
 fn weight_sum(lookups: &[u32]) -> u64
-    ghost l: { List ℕ }
-    requires lookups_value { lookups.now ≡ l }
-    requires few_weights { FewWeights l }
-    ensures { (result ≡ weight_sum l) × (result ≤ 549755813760) }
+    requires { let l : List ℕ = lookups.now in FewWeights l }
+    ensures { let l : List ℕ = lookups.now in (result ≡ weight_sum l) × (result ≤ 549755813760) }
 {
     let n = lookups.len() / LOOKUP_WORDS;
     let mut sum: u64 = 0;
@@ -228,11 +220,9 @@ fn table_weight(lookups: &[u32], height: u32) -> u64
 }
 
 fn height_sum(lookups: &[u32], counts: &[u32], heights: &[u32]) -> u64
-    ghost l: { HeightLists }
-    requires heights_value { height_lists lookups.now counts.now heights.now ≡ l }
-    requires lookups_counted { LookupsCounted l.lookups l.counts × ((t : ℕ) → t < length l.counts → FewWeights (table_lookups l.lookups l.counts t)) }
-    requires heights_len { (length l.heights ≡ length l.counts) × ((t : ℕ) → word l.heights t ≤ 1048576) }
-    ensures { result ≡ height_sum l.lookups l.counts l.heights }
+    requires lookups_counted { let l : HeightLists = height_lists lookups.now counts.now heights.now in LookupsCounted l.lookups l.counts × ((t : ℕ) → t < length l.counts → FewWeights (table_lookups l.lookups l.counts t)) }
+    requires heights_len { let l : HeightLists = height_lists lookups.now counts.now heights.now in (length l.heights ≡ length l.counts) × ((t : ℕ) → word l.heights t ≤ 1048576) }
+    ensures { let l : HeightLists = height_lists lookups.now counts.now heights.now in result ≡ height_sum l.lookups l.counts l.heights }
 {
     let mut sum: u64 = 0;
     let mut at: usize = 0;

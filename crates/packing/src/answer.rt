@@ -2,7 +2,7 @@
 use expression::refusal::Refusal;
 
 // How many words were written into each list.
-#[derive(Drop)]
+#[derive(Clone, Copy)]
 pub struct Counts {
     pub lookups: usize,
     pub names: usize,
@@ -12,7 +12,7 @@ pub struct Counts {
     pub elements: usize,
 }
 
-#[derive(Drop)]
+#[derive(Clone, Copy)]
 pub enum PackingAnswer {
     Packed(Counts),
     Refused(Refusal),

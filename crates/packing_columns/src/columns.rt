@@ -22,7 +22,7 @@ use lookup_degree::sums::largest;
 
 // A column: its first lookup, the degree of its denominators, the larger of that and its numerator's, its weight, and how many
 // tuples, multiplicities and flags it has. 64 bits hold the sums of any 64 lookups.
-#[derive(Drop)]
+#[derive(Clone, Copy)]
 pub struct OpenColumn {
     pub head: usize,
     pub sum: u64,
@@ -34,14 +34,14 @@ pub struct OpenColumn {
 }
 
 // A column, and the place in the order where the next one begins.
-#[derive(Drop)]
+#[derive(Clone, Copy)]
 pub struct NextColumn {
     pub column: OpenColumn,
     pub end: usize,
 }
 
 // The order of the lookups, the first lookup of each column, the columns' words, their number, and whether a bus column's weight is over 2^32 - 1.
-#[derive(Drop)]
+#[derive(Clone, Copy)]
 pub struct Plan {
     pub order: [u32; 64],
     pub heads: [u32; 64],
@@ -117,10 +117,8 @@ fn fits(
     i: usize,
     merged: OpenColumn,
 ) -> bool
-    ghost l: { Lookups }
-    requires names_value { bus_lookups lookups.now names.now [] ≡ l }
-    requires bus_names { BusNames l.lookups l.names × (head < lookup_count l.lookups) × (i < lookup_count l.lookups) × (merged.sum ≤ 70368744177664) }
-    ensures { result ≡ fits l.lookups l.names limit head i merged }
+    requires { let l : Lookups = bus_lookups lookups.now names.now [] in BusNames l.lookups l.names × (head < lookup_count l.lookups) × (i < lookup_count l.lookups) × (merged.sum ≤ 70368744177664) }
+    ensures { let l : Lookups = bus_lookups lookups.now names.now [] in result ≡ fits l.lookups l.names limit head i merged }
 {
     same_bus(lookups, names, true, head, i) & (column_degree(merged) <= limit)
 }
@@ -136,10 +134,8 @@ fn next_column(
     order: &[u32],
     k: usize,
 ) -> NextColumn
-    ghost s: { PlanSource }
-    requires limit_value { plan_source nodes.now degrees.now lookups.now names.now multiplicities.now limit ≡ s }
-    requires plan_inputs { PlanInputs s.nodes s.lookups s.names × LookupNumbers (lookup_count s.lookups) order.now × (k < length order.now) }
-    ensures { ColumnTaken s order.now k result }
+    requires { let s : PlanSource = plan_source nodes.now degrees.now lookups.now names.now multiplicities.now limit in PlanInputs s.nodes s.lookups s.names × LookupNumbers (lookup_count s.lookups) order.now × (k < length order.now) }
+    ensures { let s : PlanSource = plan_source nodes.now degrees.now lookups.now names.now multiplicities.now limit in ColumnTaken s order.now k result }
 {
     let first = to_usize(order[k]);
     let mut open = opened(nodes, degrees, lookups, multiplicities, first);
@@ -199,10 +195,8 @@ pub fn make_plan(
     multiplicities: &[u32],
     limit: u64,
 ) -> Plan
-    ghost s: { PlanSource }
-    requires limit_value { plan_source nodes.now degrees.now lookups.now names.now multiplicities.now limit ≡ s }
-    requires plan_inputs { PlanInputs s.nodes s.lookups s.names }
-    ensures { Planned s result }
+    requires { let s : PlanSource = plan_source nodes.now degrees.now lookups.now names.now multiplicities.now limit in PlanInputs s.nodes s.lookups s.names }
+    ensures { let s : PlanSource = plan_source nodes.now degrees.now lookups.now names.now multiplicities.now limit in Planned s result }
 {
     let n = lookups.len() / LOOKUP_WORDS;
     let order = order(lookups, names, true);

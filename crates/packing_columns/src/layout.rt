@@ -30,10 +30,8 @@ pub fn plan_of(
     flags: &[u32],
     elements: &[u32],
 ) -> Plan
-    ghost l: { Lookups }
-    requires elements_value { lent_lookups lookups.now names.now tuples.now multiplicities.now flags.now elements.now ≡ l }
-    requires formed { Formed limits nodes.now l }
-    ensures { Layout limit nodes.now l result }
+    requires { let l : Lookups = lent_lookups lookups.now names.now tuples.now multiplicities.now flags.now elements.now in Formed limits nodes.now l }
+    ensures { let l : Lookups = lent_lookups lookups.now names.now tuples.now multiplicities.now flags.now elements.now in Layout limit nodes.now l result }
 {
     let mut of_nodes = [0u32; 1024];
     let _low = fill_degrees(
@@ -85,10 +83,8 @@ pub fn counts_hold(own: Counts, lent: Counts) -> bool
 
 // Refusal 6 of one table.
 fn table_widths(lookups: &[u32], names: &[u8], tuples: &[u32]) -> Verdict
-    ghost l: { Lookups }
-    requires tuples_value { bus_lookups lookups.now names.now tuples.now ≡ l }
-    requires lists_exact { ListsExact l.lookups l.names l.tuples }
-    ensures { refusal result ≡ widths_refusal (single_table l) }
+    requires { let l : Lookups = bus_lookups lookups.now names.now tuples.now in ListsExact l.lookups l.names l.tuples }
+    ensures { let l : Lookups = bus_lookups lookups.now names.now tuples.now in refusal result ≡ widths_refusal (single_table l) }
 {
     let sizes = [
         (lookups.len() / LOOKUP_WORDS) as u32,
@@ -100,10 +96,8 @@ fn table_widths(lookups: &[u32], names: &[u8], tuples: &[u32]) -> Verdict
 
 // The refusals after 1 to 5: 6 and 7.
 pub fn plan_refusal(over: bool, lookups: &[u32], names: &[u8], tuples: &[u32]) -> Verdict
-    ghost l: { Lookups }
-    requires tuples_value { bus_lookups lookups.now names.now tuples.now ≡ l }
-    requires lists_exact { ListsExact l.lookups l.names l.tuples }
-    ensures { refusal result ≡ plan_refusal over l.lookups l.names l.tuples }
+    requires { let l : Lookups = bus_lookups lookups.now names.now tuples.now in ListsExact l.lookups l.names l.tuples }
+    ensures { let l : Lookups = bus_lookups lookups.now names.now tuples.now in refusal result ≡ plan_refusal over l.lookups l.names l.tuples }
 {
     let verdict = table_widths(lookups, names, tuples);
     match verdict {
@@ -134,11 +128,10 @@ pub fn write_all(
     flags_out: &mut [u32],
     elements_out: &mut [u32],
 )
-    ghost s: { PackLists }
-    requires elements_out_value { pack_lists (lent_lookups lookups.now names.now tuples.now multiplicities.now flags.now elements.now)
-        (lent_lookups lookups_out.old names_out.old tuples_out.old multiplicities_out.old flags_out.old elements_out.old) ≡ s }
-    requires outputs_hold { OutputsHold plan s.own s.lent }
-    ensures { lent_lookups lookups_out.new names_out.new tuples_out.new multiplicities_out.new flags_out.new elements_out.new
+    requires { let s : PackLists = pack_lists (lent_lookups lookups.now names.now tuples.now multiplicities.now flags.now elements.now)
+        (lent_lookups lookups_out.old names_out.old tuples_out.old multiplicities_out.old flags_out.old elements_out.old) in OutputsHold plan s.own s.lent }
+    ensures { let s : PackLists = pack_lists (lent_lookups lookups.now names.now tuples.now multiplicities.now flags.now elements.now)
+        (lent_lookups lookups_out.old names_out.old tuples_out.old multiplicities_out.old flags_out.old elements_out.old) in lent_lookups lookups_out.new names_out.new tuples_out.new multiplicities_out.new flags_out.new elements_out.new
         ≡ all_written (plan_words plan s.own) s.lent }
 {
     let n = lookups.len() / LOOKUP_WORDS;

@@ -12,7 +12,7 @@ use expression::words::to_usize;
 use lookup::starts::{element_start, flag_start, multiplicity_start, name_start, tuple_start};
 
 // Which of the lists of a table: each lookup has a part of it.
-#[derive(Drop)]
+#[derive(Clone, Copy)]
 pub enum LookupList {
     Names,
     Tuples,
@@ -37,10 +37,8 @@ fn list_start(list: LookupList, lookups: &[u32], tuples: &[u32], i: usize) -> us
 
 // How many words of that list these lookups have.
 pub fn list_total(list: LookupList, lookups: &[u32], tuples: &[u32], order: &[u32]) -> usize
-    ghost is: { List ℕ }
-    requires order_value { order.now ≡ is }
-    requires few_tuples { FewTuples lookups.now × LookupNumbers (lookup_count lookups.now) is }
-    ensures { result ≡ total (λ t. list_length list lookups.now tuples.now (word is t)) (length is) }
+    requires { let is : List ℕ = order.now in FewTuples lookups.now × LookupNumbers (lookup_count lookups.now) is }
+    ensures { let is : List ℕ = order.now in result ≡ total (λ t. list_length list lookups.now tuples.now (word is t)) (length is) }
 {
     let mut sum: usize = 0;
     let mut t = 0;
@@ -87,11 +85,9 @@ pub fn write_list(
     src: &[u32],
     out: &mut [u32],
 )
-    ghost words: { List ℕ }
-    requires order_value { list_parts list lookups.now tuples.now src.now order.now ≡ words }
-    requires few_tuples { FewTuples lookups.now × LookupNumbers (lookup_count lookups.now) order.now
+    requires { let words : List ℕ = list_parts list lookups.now tuples.now src.now order.now in FewTuples lookups.now × LookupNumbers (lookup_count lookups.now) order.now
         × (list_start list lookups.now tuples.now (lookup_count lookups.now) ≤ length src.now) × (length words ≤ length out.old) }
-    ensures { out.new ≡ written words out.old }
+    ensures { let words : List ℕ = list_parts list lookups.now tuples.now src.now order.now in out.new ≡ written words out.old }
 {
     let mut end: usize = 0;
     let mut t = 0;
@@ -108,11 +104,9 @@ pub fn write_list(
 
 // The names of these lookups, likewise.
 pub fn write_names(lookups: &[u32], order: &[u32], src: &[u8], out: &mut [u8])
-    ghost words: { List ℕ }
-    requires order_value { list_parts Names lookups.now [] src.now order.now ≡ words }
-    requires few_tuples { FewTuples lookups.now × LookupNumbers (lookup_count lookups.now) order.now
+    requires { let words : List ℕ = list_parts Names lookups.now [] src.now order.now in FewTuples lookups.now × LookupNumbers (lookup_count lookups.now) order.now
         × (list_start Names lookups.now [] (lookup_count lookups.now) ≤ length src.now) × (length words ≤ length out.old) }
-    ensures { out.new ≡ written words out.old }
+    ensures { let words : List ℕ = list_parts Names lookups.now [] src.now order.now in out.new ≡ written words out.old }
 {
     let none = [0u32; 0];
     let mut end: usize = 0;

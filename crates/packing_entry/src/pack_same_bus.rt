@@ -32,11 +32,10 @@ fn pack_formed(
     flags_out: &mut [u32],
     elements_out: &mut [u32],
 ) -> PackingAnswer
-    ghost s: { PackSource }
-    requires elements_out_value { pack_source nodes.now (lent_lookups lookups.now names.now tuples.now multiplicities.now flags.now elements.now)
-        (lent_lookups lookups_out.old names_out.old tuples_out.old multiplicities_out.old flags_out.old elements_out.old) ≡ s }
-    requires formed { Formed limits s.nodes s.own × ListsExact s.own.lookups s.own.names s.own.tuples × (holds s.lent s.own ≡ true) }
-    ensures { (result ≡ (formed_outcome limit s.nodes s.own s.lent).answer)
+    requires { let s : PackSource = pack_source nodes.now (lent_lookups lookups.now names.now tuples.now multiplicities.now flags.now elements.now)
+        (lent_lookups lookups_out.old names_out.old tuples_out.old multiplicities_out.old flags_out.old elements_out.old) in Formed limits s.nodes s.own × ListsExact s.own.lookups s.own.names s.own.tuples × (holds s.lent s.own ≡ true) }
+    ensures { let s : PackSource = pack_source nodes.now (lent_lookups lookups.now names.now tuples.now multiplicities.now flags.now elements.now)
+        (lent_lookups lookups_out.old names_out.old tuples_out.old multiplicities_out.old flags_out.old elements_out.old) in (result ≡ (formed_outcome limit s.nodes s.own s.lent).answer)
         × (lent_lookups lookups_out.new names_out.new tuples_out.new multiplicities_out.new flags_out.new elements_out.new
         ≡ (formed_outcome limit s.nodes s.own s.lent).lists) }
 {
@@ -96,11 +95,9 @@ pub fn pack_within(
     flags_out: &mut [u32],
     elements_out: &mut [u32],
 ) -> PackingAnswer
-    ghost s: { PackSource }
-    requires elements_out_value { pack_source nodes.now (lent_lookups lookups.now names.now tuples.now multiplicities.now flags.now elements.now)
-        (lent_lookups lookups_out.old names_out.old tuples_out.old multiplicities_out.old flags_out.old elements_out.old) ≡ s }
-    requires sane { Sane limits }
-    ensures { (result ≡ (packing limits p limit columns s.nodes s.own s.lent).answer)
+    requires { Sane limits }
+    ensures { let s : PackSource = pack_source nodes.now (lent_lookups lookups.now names.now tuples.now multiplicities.now flags.now elements.now)
+        (lent_lookups lookups_out.old names_out.old tuples_out.old multiplicities_out.old flags_out.old elements_out.old) in (result ≡ (packing limits p limit columns s.nodes s.own s.lent).answer)
         × (lent_lookups lookups_out.new names_out.new tuples_out.new multiplicities_out.new flags_out.new elements_out.new
         ≡ (packing limits p limit columns s.nodes s.own s.lent).lists) }
 {

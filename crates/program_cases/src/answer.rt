@@ -2,7 +2,7 @@
 use expression::words::to_u64;
 
 // What a function answered, and whether that and its outputs are what the case says.
-#[derive(Drop)]
+#[derive(Clone, Copy)]
 pub struct Answer {
     pub number: u64,
     pub first: u64,

@@ -17,7 +17,7 @@ use lookup::buses::same_bytes;
 use std::num::wrapping_add_u64;
 
 // How far the arrays of words and bytes are filled, and the counts so far.
-#[derive(Drop)]
+#[derive(Clone, Copy)]
 struct State {
     words: usize,
     bytes: usize,

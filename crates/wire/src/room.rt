@@ -6,7 +6,7 @@ ghost use Rattle.wire.specs.inner.Place.{placed, word_count, less, all_less, fil
 use crate::words::decode;
 
 // What is left of a room after some lists: whether they fit so far, and how many words. Sizes alone, so that nothing is lent for the test.
-#[derive(Drop)]
+#[derive(Clone, Copy)]
 pub struct Left {
     pub fits: bool,
     pub words: usize,
@@ -53,7 +53,7 @@ pub fn fill(bytes: &[u8], room: &mut [u32], at: usize) -> usize
 }
 
 // Where each of five lists ends.
-#[derive(Drop)]
+#[derive(Clone, Copy)]
 pub struct Ends {
     pub first: usize,
     pub second: usize,

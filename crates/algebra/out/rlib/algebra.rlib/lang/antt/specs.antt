@@ -1,5 +1,0 @@
-pub mod Ring
-pub mod Field
-pub mod Prime
-pub mod Power
-pub mod laws
