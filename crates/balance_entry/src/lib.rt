@@ -1,2 +1,5 @@
 // Balance (`check_lookups`): the entry point.
+
+#![tactic(auto)]
+
 pub mod debug_util;

@@ -3,6 +3,9 @@
 // the call are of that field. `profile` is 1, the limits of the cabinet. `rule`, of generation and constraints, is 1, the tuple rule. Any
 // other number is refusal 1, before anything else is read. Powers and inverses have no limits and take the field alone; what refuses nothing
 // (a row of a trace, a count by its node) takes none of them.
+
+#![tactic(auto)]
+
 pub mod challenges;
 pub mod check_lookups;
 pub mod count;

@@ -1,4 +1,7 @@
 // Answers as numbers, for the exported functions: number, three details, and what else there is (SPECIFICATION, section 14.1).
+
+#![tactic(auto)]
+
 pub mod answer;
 pub mod built;
 pub mod count;

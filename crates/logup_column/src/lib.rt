@@ -2,6 +2,9 @@
 // fault (column), and where its own parts begin (starts); and what generation and the constraints have in common before the rows: the tests of
 // refusals 1 to 5 (refusals), and the elements in the order of the rule (rule).
 // These functions serve the crates above: they require what those crates have tested.
+
+#![tactic(auto)]
+
 pub mod column;
 pub mod powers;
 pub mod refusals;

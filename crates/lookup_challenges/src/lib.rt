@@ -1,2 +1,5 @@
 // Prefixes that keep buses apart.
+
+#![tactic(auto)]
+
 pub mod challenges;

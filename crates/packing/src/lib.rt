@@ -1,2 +1,5 @@
 // Packing, same-bus lookups share columns: the definitions, their laws, and the answers.
+
+#![tactic(auto)]
+
 pub mod answer;

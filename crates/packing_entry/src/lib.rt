@@ -1,2 +1,5 @@
 // Packing: the entry point.
+
+#![tactic(auto)]
+
 pub mod pack_same_bus;

@@ -1,5 +1,8 @@
 // Replays a text of cases, given on standard input, against the exported functions, and prints what it ran and how many answers there were.
 // The functions are proved; that this program reads the text aright and compares every answer is not: it is proved safe, and that it ends.
+
+#![tactic(auto)]
+
 mod answer;
 mod build;
 mod counts;

@@ -1,4 +1,7 @@
 // Generates the trace of a small table and prints its rows and its terminal.
+
+#![tactic(auto)]
+
 use expression::choices::{CABINET_NUMBER, Choices, RULE_1};
 use expression::numbers;
 use expression::sizes::Shape;

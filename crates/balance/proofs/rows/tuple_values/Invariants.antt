@@ -1,0 +1,11 @@
+use Rattle.balance.proofs.RowsLoops.{TupleValuesLoop, value-begins, value_turn, value-ends}
+use lib.ListN.{length}
+use Prim.Native.Nat.{◌-◌}
+use borrow.Author.Rules.{rules}
+use Rattle.balance.proofs.rows.tuple_values.Given as goal
+
+abbrev pub invariant-loop-j : goal.invariant-loop-j
+invariant-loop-j l = TupleValuesLoop l.vals l.nodes l.j l.out
+
+abbrev pub decreases-loop-j : goal.decreases-loop-j
+decreases-loop-j l = length l.nodes - l.j

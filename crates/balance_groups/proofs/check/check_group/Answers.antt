@@ -1,0 +1,20 @@
+use lib.ListN.{length}
+use mathlib.Core.Path.{refl}
+use native.Mathlib.Omega.{arith}
+use Rattle.balance_groups.specs.laws.Visits.{entered, left}
+use borrow.Author.Rules.{rules}
+use Rattle.balance_groups.proofs.check.check_group.Goals as goal
+
+pub accumulate_group-u-requires : goal.accumulate_group-u-requires
+accumulate_group-u-requires c =
+    (c.requires.0, c.requires.1, omega arith)
+
+pub group_refusal-verdict-requires : goal.group_refusal-verdict-requires
+group_refusal-verdict-requires c = (
+  (entered _ _ c.requires.0 _ (length c.args.workspace.now) c.clear.ensures c.accumulate_group-u.ensures).room_in,
+  (entered _ _ c.requires.0 _ (length c.args.workspace.now) c.clear.ensures c.accumulate_group-u.ensures).widths,
+)
+
+pub returns : goal.returns
+returns c =
+    left _ _ c.requires.0 _ _ c.group_refusal-verdict.result _ (entered _ _ c.requires.0 _ _ c.clear.ensures c.accumulate_group-u.ensures) c.group_refusal-verdict.ensures refl

@@ -1,0 +1,139 @@
+use native.Mathlib.Omega.{arith}
+use Rattle.balance_groups.specs.laws.Ranges.{lies}
+use Rattle.balance_groups.proofs.TestsLoops.{verdict_is}
+use Rattle.balance_groups.proofs.tests.verdict_at.Goals as goal
+
+pub shape_of-shape-requires : goal.shape_of-shape-requires
+shape_of-shape-requires c = let start = c.requires in (start.2, start.1.tables)
+
+pub table_ranges-ranges-requires : goal.table_ranges-ranges-requires
+table_ranges-ranges-requires c =
+    (c.requires.2, c.requires.1.tables)
+
+pub slice_bounds-table_verdict-count : goal.slice_bounds-table_verdict-count
+slice_bounds-table_verdict-count c =
+    (lies c.requires.1 c.requires.2 c.table_ranges-ranges.ensures).main
+
+pub slice_bounds-table_verdict-start : goal.slice_bounds-table_verdict-start
+slice_bounds-table_verdict-start c =
+    (lies c.requires.1 c.requires.2 c.table_ranges-ranges.ensures).main
+
+pub slice_bounds-table_verdict-end : goal.slice_bounds-table_verdict-end
+slice_bounds-table_verdict-end c =
+    (lies c.requires.1 c.requires.2 c.table_ranges-ranges.ensures).main_end
+
+pub slice_bounds-table_verdict-count-2 : goal.slice_bounds-table_verdict-count-2
+slice_bounds-table_verdict-count-2 c =
+    (lies c.requires.1 c.requires.2 c.table_ranges-ranges.ensures).preprocessed
+
+pub slice_bounds-table_verdict-start-2 : goal.slice_bounds-table_verdict-start-2
+slice_bounds-table_verdict-start-2 c =
+    (lies c.requires.1 c.requires.2 c.table_ranges-ranges.ensures).preprocessed
+
+pub slice_bounds-table_verdict-end-2 : goal.slice_bounds-table_verdict-end-2
+slice_bounds-table_verdict-end-2 c =
+    (lies c.requires.1 c.requires.2 c.table_ranges-ranges.ensures).preprocessed_end
+
+pub slice_bounds-table_verdict-count-3 : goal.slice_bounds-table_verdict-count-3
+slice_bounds-table_verdict-count-3 c =
+    (lies c.requires.1 c.requires.2 c.table_ranges-ranges.ensures).public_values
+
+pub slice_bounds-table_verdict-start-3 : goal.slice_bounds-table_verdict-start-3
+slice_bounds-table_verdict-start-3 c =
+    (lies c.requires.1 c.requires.2 c.table_ranges-ranges.ensures).public_values
+
+pub slice_bounds-table_verdict-end-3 : goal.slice_bounds-table_verdict-end-3
+slice_bounds-table_verdict-end-3 c =
+    (lies c.requires.1 c.requires.2 c.table_ranges-ranges.ensures).public_values_end
+
+pub slice_bounds-table_verdict-count-4 : goal.slice_bounds-table_verdict-count-4
+slice_bounds-table_verdict-count-4 c =
+    (lies c.requires.1 c.requires.2 c.table_ranges-ranges.ensures).nodes
+
+pub slice_bounds-table_verdict-start-4 : goal.slice_bounds-table_verdict-start-4
+slice_bounds-table_verdict-start-4 c =
+    (lies c.requires.1 c.requires.2 c.table_ranges-ranges.ensures).nodes
+
+pub slice_bounds-table_verdict-end-4 : goal.slice_bounds-table_verdict-end-4
+slice_bounds-table_verdict-end-4 c =
+    (lies c.requires.1 c.requires.2 c.table_ranges-ranges.ensures).nodes_end
+
+pub slice_bounds-table_verdict-count-5 : goal.slice_bounds-table_verdict-count-5
+slice_bounds-table_verdict-count-5 c =
+    (lies c.requires.1 c.requires.2 c.table_ranges-ranges.ensures).lookups
+
+pub slice_bounds-table_verdict-start-5 : goal.slice_bounds-table_verdict-start-5
+slice_bounds-table_verdict-start-5 c =
+    (lies c.requires.1 c.requires.2 c.table_ranges-ranges.ensures).lookups
+
+pub slice_bounds-table_verdict-end-5 : goal.slice_bounds-table_verdict-end-5
+slice_bounds-table_verdict-end-5 c =
+    (lies c.requires.1 c.requires.2 c.table_ranges-ranges.ensures).lookups_end
+
+pub slice_bounds-table_verdict-count-6 : goal.slice_bounds-table_verdict-count-6
+slice_bounds-table_verdict-count-6 c =
+    (lies c.requires.1 c.requires.2 c.table_ranges-ranges.ensures).names
+
+pub slice_bounds-table_verdict-start-6 : goal.slice_bounds-table_verdict-start-6
+slice_bounds-table_verdict-start-6 c =
+    (lies c.requires.1 c.requires.2 c.table_ranges-ranges.ensures).names
+
+pub slice_bounds-table_verdict-end-6 : goal.slice_bounds-table_verdict-end-6
+slice_bounds-table_verdict-end-6 c =
+    (lies c.requires.1 c.requires.2 c.table_ranges-ranges.ensures).names_end
+
+pub slice_bounds-table_verdict-count-7 : goal.slice_bounds-table_verdict-count-7
+slice_bounds-table_verdict-count-7 c =
+    (lies c.requires.1 c.requires.2 c.table_ranges-ranges.ensures).tuples
+
+pub slice_bounds-table_verdict-start-7 : goal.slice_bounds-table_verdict-start-7
+slice_bounds-table_verdict-start-7 c =
+    (lies c.requires.1 c.requires.2 c.table_ranges-ranges.ensures).tuples
+
+pub slice_bounds-table_verdict-end-7 : goal.slice_bounds-table_verdict-end-7
+slice_bounds-table_verdict-end-7 c =
+    (lies c.requires.1 c.requires.2 c.table_ranges-ranges.ensures).tuples_end
+
+pub slice_bounds-table_verdict-count-8 : goal.slice_bounds-table_verdict-count-8
+slice_bounds-table_verdict-count-8 c =
+    (lies c.requires.1 c.requires.2 c.table_ranges-ranges.ensures).multiplicities
+
+pub slice_bounds-table_verdict-start-8 : goal.slice_bounds-table_verdict-start-8
+slice_bounds-table_verdict-start-8 c =
+    (lies c.requires.1 c.requires.2 c.table_ranges-ranges.ensures).multiplicities
+
+pub slice_bounds-table_verdict-end-8 : goal.slice_bounds-table_verdict-end-8
+slice_bounds-table_verdict-end-8 c =
+    (lies c.requires.1 c.requires.2 c.table_ranges-ranges.ensures).multiplicities_end
+
+pub slice_bounds-table_verdict-count-9 : goal.slice_bounds-table_verdict-count-9
+slice_bounds-table_verdict-count-9 c =
+    (lies c.requires.1 c.requires.2 c.table_ranges-ranges.ensures).flags
+
+pub slice_bounds-table_verdict-start-9 : goal.slice_bounds-table_verdict-start-9
+slice_bounds-table_verdict-start-9 c =
+    (lies c.requires.1 c.requires.2 c.table_ranges-ranges.ensures).flags
+
+pub slice_bounds-table_verdict-end-9 : goal.slice_bounds-table_verdict-end-9
+slice_bounds-table_verdict-end-9 c =
+    (lies c.requires.1 c.requires.2 c.table_ranges-ranges.ensures).flags_end
+
+pub slice_bounds-table_verdict-count-10 : goal.slice_bounds-table_verdict-count-10
+slice_bounds-table_verdict-count-10 c =
+    (lies c.requires.1 c.requires.2 c.table_ranges-ranges.ensures).elements
+
+pub slice_bounds-table_verdict-start-10 : goal.slice_bounds-table_verdict-start-10
+slice_bounds-table_verdict-start-10 c =
+    (lies c.requires.1 c.requires.2 c.table_ranges-ranges.ensures).elements
+
+pub slice_bounds-table_verdict-end-10 : goal.slice_bounds-table_verdict-end-10
+slice_bounds-table_verdict-end-10 c =
+    (lies c.requires.1 c.requires.2 c.table_ranges-ranges.ensures).elements_end
+
+pub table_verdict-requires : goal.table_verdict-requires
+table_verdict-requires c =
+    c.requires.0
+
+pub returns : goal.returns
+returns c =
+    verdict_is _ _ (lies c.requires.1 c.requires.2 c.table_ranges-ranges.ensures) c.shape_of-shape.ensures c.table_verdict.ensures

@@ -1,0 +1,11 @@
+use Rattle.balance_slots.proofs.GroupRefusalLoops.{LeastLoop, least_loop_begins, least_loop_turn, least_loop_ends}
+use Prim.Native.Nat.{◌-◌}
+use native.Mathlib.Omega.{arith}
+use borrow.Author.Rules.{rules}
+use Rattle.balance_slots.proofs.group_refusal.least.Given as goal
+
+abbrev pub invariant-loop-k : goal.invariant-loop-k
+invariant-loop-k l = LeastLoop l.workspace l.n l.k l.b
+
+abbrev pub decreases-loop-k : goal.decreases-loop-k
+decreases-loop-k l = l.n - l.k

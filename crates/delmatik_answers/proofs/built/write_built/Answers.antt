@@ -1,0 +1,5 @@
+use borrow.Author.Rules.{rules}
+use Rattle.delmatik_answers.proofs.built.write_built.Goals as goal
+
+pub returns-in-Built : goal.returns-in-Built
+returns-in-Built c = rw c.a-1.given.1

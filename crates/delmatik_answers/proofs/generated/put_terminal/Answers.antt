@@ -1,0 +1,5 @@
+use borrow.Author.Rules.{rules}
+use Rattle.delmatik_answers.proofs.generated.put_terminal.Goals as goal
+
+pub returns-in-Terminal : goal.returns-in-Terminal
+returns-in-Terminal c = rw c.g-1.given.1

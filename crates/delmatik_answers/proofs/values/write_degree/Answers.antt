@@ -1,0 +1,5 @@
+use borrow.Author.Rules.{rules}
+use Rattle.delmatik_answers.proofs.values.write_degree.Goals as goal
+
+pub returns-in-Degree : goal.returns-in-Degree
+returns-in-Degree c = rw c.a-1.given.1

@@ -1,0 +1,7 @@
+use Rattle.expression.specs.Node.{node}
+use borrow.Author.Rules.{rules}
+use Rattle.expression.proofs.node.node_at.Goals as goal
+
+pub returns : goal.returns
+unfolding node
+returns c = c.decode.ensures

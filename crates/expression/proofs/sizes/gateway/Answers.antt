@@ -1,0 +1,7 @@
+use Rattle.expression.specs.Limits.{gateway}
+use borrow.Author.Rules.{rules}
+use Rattle.expression.proofs.sizes.gateway.Goals as goal
+
+pub returns : goal.returns
+unfolding gateway
+returns c = rw c.cabinet.ensures

@@ -1,0 +1,18 @@
+use mathlib.Core.Path.{refl}
+use lib.ListN.{length}
+use lib.Dec.{ltb}
+use Prim.Native.Nat.{◌-◌}
+use Rattle.expression.specs.Words.{word, all_below}
+use Rattle.lists.specs.laws.Turns.{Testing, test_begins, test_turn, test_ends}
+use borrow.Author.Rules.{rules}
+use Rattle.expression.proofs.words.all_below.Goals as goal
+
+pub loop-i-init : goal.loop-i-init
+loop-i-init c = test_begins
+
+pub loop-i-preserved : goal.loop-i-preserved
+loop-i-preserved c = test_turn c.loop-i.invariant (search rules) refl
+
+pub returns : goal.returns
+unfolding all_below
+returns c = test_ends c.loop-i.invariant (search rules)

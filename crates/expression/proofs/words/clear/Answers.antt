@@ -1,0 +1,19 @@
+use native.Mathlib.Omega.{arith}
+use Prim.Native.Nat.{◌-◌}
+use lib.ListN.{length}
+use Rattle.expression.proofs.ClearLoops.{Cleared, clear_begins, clear_turn, clear_ends}
+use borrow.Author.Rules.{rules}
+use Rattle.expression.proofs.words.clear.Goals as goal
+
+pub loop-i-init : goal.loop-i-init
+loop-i-init c = clear_begins
+
+pub loop-i-preserved : goal.loop-i-preserved
+loop-i-preserved c = clear_turn c.loop-i.invariant (omega (arith, c.loop-i-test.true, c.loop-i.invariant.out≡.len))
+
+pub returns : goal.returns
+returns c = clear_ends c.loop-i.invariant (omega (arith, c.loop-i-test.false, c.loop-i.invariant.out≡.len))
+
+-- LOST (no need same_length / same-length):
+-- same_length : tie.Need-same-length invariant-loop decreases-loop
+-- same_length c = omega (arith, c.before.loop.invariant.out≡.len)

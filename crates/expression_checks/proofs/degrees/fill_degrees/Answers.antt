@@ -1,0 +1,14 @@
+use Rattle.expression_checks.proofs.DegreesLoops.{Rating, begins, turn, ends}
+use Prim.Native.Nat.{◌-◌}
+use borrow.Author.Rules.{rules}
+use Rattle.expression_checks.proofs.degrees.fill_degrees.Goals as goal
+
+pub loop-i-init : goal.loop-i-init
+loop-i-init c = begins (search rules) (search rules)
+
+pub loop-i-preserved : goal.loop-i-preserved
+loop-i-preserved c =
+    turn c.node_at.result c.node_degree-d.result c.at_most.result c.loop-i.invariant (search rules) c.node_at.ensures c.node_degree-d.ensures c.at_most.ensures
+
+pub returns : goal.returns
+returns c = ends c.loop-i.invariant (search rules)

@@ -1,0 +1,19 @@
+use Rattle.expression_eval.proofs.EvaluateLoops.{Filling, begins, turn, ends}
+use Rattle.expression.specs.Node.{node_count}
+use Rattle.expression.specs.Window.{lent_traces, window}
+use Rattle.expression.specs.Values.{row_values}
+use Rattle.expression.specs.laws.Window.{node-readable}
+use Rattle.expression_eval.specs.laws.Window.{row-ahead}
+use native.Mathlib.Omega.{arith}
+use Prim.Native.Nat.{◌-◌}
+use mathlib.Core.Path.{refl}
+use lib.Dec.{lit<}
+use borrow.Author.Rules.{rules}
+use Rattle.expression_eval.proofs.traits.pair_values.Given as goal
+
+abbrev pub invariant-loop-i : goal.invariant-loop-i
+invariant-loop-i l = Filling l.p l.nodes (window (lent_traces l.shape l.main l.preprocessed l.public_values) l.r) (node_count l.nodes) l.vals l.i
+    × Filling l.p l.nodes (window (lent_traces l.shape l.main l.preprocessed l.public_values) l.next) (node_count l.nodes) l.next_vals l.i
+
+abbrev pub decreases-loop-i : goal.decreases-loop-i
+decreases-loop-i l = l.n - l.i

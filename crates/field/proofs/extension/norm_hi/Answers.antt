@@ -1,0 +1,10 @@
+use Rattle.field.specs.laws.Norm.{norm2_hi}
+use Rattle.field.specs.Ext.{ext_words}
+use borrow.Author.Rules.{rules}
+use Rattle.field.proofs.extension.norm_hi.Goals as goal
+
+pub returns : goal.returns
+returns c = (
+  c.dot4.ensures.0,
+  norm2_hi _ _ c.requires.2 (ext_words c.args.a) _ _ _ _ c.mul-v3.ensures.1 c.neg-minus1.ensures.1 c.neg-minus3.ensures.1 c.dot4.ensures.1,
+)

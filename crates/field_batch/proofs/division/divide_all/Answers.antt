@@ -1,0 +1,23 @@
+use mathlib.Core.Path.{ap, ◌∙◌}
+use native.Mathlib.Omega.{arith}
+use lib.ListN.{replicate}
+use Rattle.field.specs.Word.{mul_m}
+use Rattle.field.specs.laws.Known.{modulus}
+use Rattle.field_batch.specs.laws.Quotients.{all_inverted}
+use Rattle.field_batch.proofs.DivisionLoops.{again_in, again_is}
+use borrow.Author.Rules.{rules}
+use Rattle.field_batch.proofs.division.divide_all.Goals as goal
+
+pub slice_bounds-quotients-end : goal.slice_bounds-quotients-end
+slice_bounds-quotients-end c =
+    again_in (replicate 1024 0) _ _ _ _ _ c.products-product.ensures.2 (omega (arith, c.requires.1))
+
+pub quotients-requires : goal.quotients-requires
+quotients-requires c =
+    let t = c.requires.0 in let r = c.products-product in let v = c.inv-inverse in (
+      t,
+      v.ensures.0,
+      again_is (replicate 1024 0) _ _ _ _ _ r.ensures.2,
+      ap
+          (mul_m _ _) v.ensures.1 ∙ all_inverted _ _ t.certificate (modulus t.modulus) _ _ _ r.ensures.1,
+    )

@@ -1,0 +1,16 @@
+use Prim.Native.Nat.{◌-◌}
+use mathlib.Core.Path.{refl}
+use Rattle.logup_column.proofs.FlagsLoops.{FlagsLoop, flags_loop_begins, flags_loop_turn, flags_loop_ends}
+use borrow.Author.Rules.{rules}
+use Rattle.logup_column.proofs.column.read_flags.Goals as goal
+
+pub loop-k-init : goal.loop-k-init
+loop-k-init c = flags_loop_begins refl (search rules)
+
+pub loop-k-preserved : goal.loop-k-preserved
+loop-k-preserved c =
+    flags_loop_turn c.loop-k.invariant c.loop-k-test.true c.value-f.ensures c.either-over.ensures
+    c.one_if-ones.ensures c.pick-chosen.ensures
+
+pub returns : goal.returns
+returns c = flags_loop_ends c.loop-k.invariant (search rules)

@@ -1,0 +1,11 @@
+use Prim.Native.Nat.{◌-◌}
+use mathlib.Core.Path.{refl}
+use Rattle.logup_column.proofs.FlagsLoops.{FlagsLoop, flags_loop_begins, flags_loop_turn, flags_loop_ends}
+use borrow.Author.Rules.{rules}
+use Rattle.logup_column.proofs.column.read_flags.Given as goal
+
+abbrev pub invariant-loop-k : goal.invariant-loop-k
+invariant-loop-k l = FlagsLoop l.flags l.vals l.n l.over l.ones l.chosen l.k
+
+abbrev pub decreases-loop-k : goal.decreases-loop-k
+decreases-loop-k l = l.n - l.k

@@ -1,0 +1,11 @@
+use Rattle.logup_column.proofs.FlagsLoops.{start_loop_in, StartLoop, start_loop_begins, start_loop_turn, start_loop_ends}
+use native.Mathlib.Omega.{arith}
+use Prim.Native.Nat.{◌-◌}
+use borrow.Author.Rules.{rules}
+use Rattle.logup_column.proofs.column.start_of.Given as goal
+
+abbrev pub invariant-loop-j : goal.invariant-loop-j
+invariant-loop-j l = StartLoop l.widths l.nodes l.to l.at l.j
+
+abbrev pub decreases-loop-j : goal.decreases-loop-j
+decreases-loop-j l = l.to - l.j

@@ -1,0 +1,28 @@
+use Rattle.logup_column.specs.laws.Lookup.{element-word}
+use native.Mathlib.Omega.{arith}
+use Prim.Native.Nat.{◌-◌}
+use Rattle.logup_column.proofs.TableLoops.{TableLoop, table_loop_begins, table_loop_part, table_loop_turn, table_loop_ends}
+use borrow.Author.Rules.{rules}
+use Rattle.logup_column.proofs.powers.write_table.Goals as goal
+
+pub loop-i-init : goal.loop-i-init
+loop-i-init c = table_loop_begins (search rules) (search rules) c.requires.2 c.requires.3
+
+pub write_powers-requires : goal.write_powers-requires
+write_powers-requires c = (
+  c.requires.0.modulus,
+  c.requires.0.low,
+  element-word _ c.requires.1 c.load-beta.ensures,
+  table_loop_part c.loop-i.invariant c.loop-i-test.true,
+)
+
+pub loop-i-preserved : goal.loop-i-preserved
+loop-i-preserved c =
+    table_loop_turn _ c.loop-i.invariant c.loop-i-test.true c.load-beta.ensures c.write_powers.ensures
+
+pub returns : goal.returns
+returns c = table_loop_ends c.loop-i.invariant (search rules)
+
+-- LOST (no need same_length / same-length):
+-- same_length : tie.Need-same-length invariant-loop decreases-loop
+-- same_length c = omega (arith, c.before.loop.invariant.len)

@@ -1,0 +1,19 @@
+use Rattle.expression.specs.laws.Tested.{limits_sane}
+use Rattle.logup_column.specs.laws.Tested.{field_of}
+use Rattle.logup_generation.proofs.Finishing.{choice_unknown, choices_known}
+use borrow.Author.Rules.{rules}
+use Rattle.logup_generation.proofs.generate_permutation.generate.Goals as goal
+
+pub returns-then-not-known-known_rule : goal.returns-then-not-known-known_rule
+returns-then-not-known-known_rule c = choice_unknown _ _ _ _ _ c.known.ensures c.known_rule.ensures c.if-not-known-known_rule.true
+
+pub generate_permutation-requires : goal.generate_permutation-requires
+generate_permutation-requires c = (
+  rw c.limits_of.ensures (limits_sane _),
+  rw (c.prime_of.ensures, c.w_of.ensures) (field_of _),
+)
+
+pub returns : goal.returns
+returns c =
+    choices_known _ _ _ _ _ c.known.ensures c.known_rule.ensures c.if-not-known-known_rule.false
+    c.limits_of.ensures c.prime_of.ensures c.w_of.ensures c.generate_permutation.ensures

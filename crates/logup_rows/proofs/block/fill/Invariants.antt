@@ -1,0 +1,23 @@
+use lib.ListN.{replicate}
+use mathlib.Core.List.{[]}
+use mathlib.Core.Logic.{⊎_elim}
+use mathlib.Core.Path.{◌≡◌, refl, sym, ap, ◌∙◌}
+use native.Mathlib.Omega.{arith}
+use Prim.Native.Nat.{◌-◌}
+use Rattle.lists.specs.Count.{or_else}
+use Rattle.expression.specs.Refusal.{refusal}
+use Rattle.logup_column.specs.inner.Requires.{lent_values}
+use Rattle.lookup.specs.Lookups.{lent_lookups}
+use Rattle.logup_column.specs.laws.Values.{vals_are, vals-below, values-within, cleared}
+use Rattle.logup_rows.proofs.WriteRowLoops.{next-values, nothing_refused}
+use Rattle.logup_rows.proofs.FillLoops.{FillLoop, fill_loop_begins, ms_in, ds_in, ms_part, ds_part, fill_loop_turn, fill_loop_ends}
+use borrow.Author.Rules.{rules}
+use Rattle.logup_rows.proofs.block.fill.Given as goal
+
+abbrev pub invariant-loop-j : goal.invariant-loop-j
+invariant-loop-j l = FillLoop l.p l.w (lent_lookups l.lookups [] l.tuples l.multiplicities l.flags l.elements)
+    l.challenges (lent_values l.p l.shape l.main l.preprocessed l.public_values l.nodes) l.size l.from l.k l.initial.term_multiplicities l.initial.term_denominators l.term_multiplicities l.term_denominators l.verdict l.at l.j × (l.vals ≡ replicate 1024 0) ×
+    (l.next_vals ≡ replicate 1024 0)
+
+abbrev pub decreases-loop-j : goal.decreases-loop-j
+decreases-loop-j l = l.k - l.j

@@ -1,0 +1,12 @@
+use Rattle.logup_rows.proofs.SumLoops.{WriteRowsLoop, write_rows-begins, write_rows_in, write_rows-part, write_rows-start, write_rows-room, write_rows_turn, write_rows-ends}
+use Prim.Native.Nat.{◌-◌}
+use native.Mathlib.Omega.{arith}
+use mathlib.Core.Path.{refl}
+use borrow.Author.Rules.{rules}
+use Rattle.logup_rows.proofs.writing.write_rows.Given as goal
+
+abbrev pub invariant-loop-j : goal.invariant-loop-j
+invariant-loop-j l = WriteRowsLoop l.p l.lookups l.quotients l.size l.k l.initial.accumulator l.width l.initial.out l.out l.accumulator l.start l.at l.j
+
+abbrev pub decreases-loop-j : goal.decreases-loop-j
+decreases-loop-j l = l.k - l.j

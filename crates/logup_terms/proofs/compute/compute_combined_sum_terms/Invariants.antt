@@ -1,0 +1,12 @@
+use native.Mathlib.Omega.{arith}
+use Prim.Native.Nat.{◌<◌, ℕ, ◌-◌}
+use mathlib.Core.Path.{refl, sym, subst, ◌∙◌}
+use Rattle.logup_terms.proofs.TermsLoops.{AdditiveLoop, additive_turn, additive-end, adding_begins, adding_none, tuples_loop_begins, tuples_loop_in, tuples_loop_few}
+use borrow.Author.Rules.{rules}
+use Rattle.logup_terms.proofs.compute.compute_combined_sum_terms.Given as goal
+
+abbrev pub invariant-loop-k : goal.invariant-loop-k
+invariant-loop-k l = AdditiveLoop l.p l.w l.powers l.alpha l.own l.widths l.multiplicities l.nodes l.vals l.n l.t l.at l.k
+
+abbrev pub decreases-loop-k : goal.decreases-loop-k
+decreases-loop-k l = l.n - l.k

@@ -1,0 +1,12 @@
+use native.Mathlib.Omega.{arith}
+use Prim.Native.Nat.{◌<◌, ℕ, ◌-◌}
+use mathlib.Core.Path.{refl, sym, subst, ◌∙◌}
+use Rattle.logup_terms.proofs.TermsLoops.{ExclusiveLoop, exclusive_turn, exclusive-end, summed-begins, tuples_loop_begins, tuples_loop_in, tuples_loop_few}
+use borrow.Author.Rules.{rules}
+use Rattle.logup_terms.proofs.compute.sum_branches.Given as goal
+
+abbrev pub invariant-loop-k : goal.invariant-loop-k
+invariant-loop-k l = ExclusiveLoop l.p l.w l.powers l.alpha l.own l.widths l.multiplicities l.flags l.nodes l.vals l.n l.t l.at l.k
+
+abbrev pub decreases-loop-k : goal.decreases-loop-k
+decreases-loop-k l = l.n - l.k

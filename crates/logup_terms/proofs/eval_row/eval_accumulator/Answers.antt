@@ -1,0 +1,16 @@
+use mathlib.Core.Path.{ap, ◌∙◌}
+use mathlib.Core.List.{List}
+use Prim.Native.Nat.{ℕ}
+use Rattle.field.specs.Ext.{ext_words}
+use Rattle.logup_terms.specs.inner.ConstraintRow.{accumulator_verdict}
+use Rattle.logup_terms.proofs.EvalRowsLoops.{accumulator_is}
+use borrow.Author.Rules.{rules}
+use Rattle.logup_terms.proofs.eval_row.eval_accumulator.Goals as goal
+
+pub returns : goal.returns
+returns c =
+    let args = c.args in
+    accumulator_is _ _ _ _ _ _ _ c.sub.ensures.1 c.sub-rest.ensures.1 c.first_row.ensures
+    c.last_place.ensures c.must_vanish.ensures c.first.ensures
+    ∙ ap (λ (due : List ℕ). accumulator_verdict args.p (ext_words args.accumulator) due (ext_words args.sum) args.n args.r args.height)
+    c.next_accumulator-due.ensures.1

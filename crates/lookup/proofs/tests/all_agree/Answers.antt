@@ -1,0 +1,14 @@
+use Prim.Native.Nat.{◌-◌}
+use Rattle.lookup.specs.Tests.{lengths_agree}
+use Rattle.lists.specs.laws.Turns.{Testing, test_begins, test_turn, test_ends}
+use borrow.Author.Rules.{rules}
+use Rattle.lookup.proofs.tests.all_agree.Goals as goal
+
+pub loop-i-init : goal.loop-i-init
+loop-i-init c = test_begins
+
+pub loop-i-preserved : goal.loop-i-preserved
+loop-i-preserved c = test_turn c.loop-i.invariant (search rules) (rw c.lengths_agree-ok.ensures)
+
+pub returns : goal.returns
+returns c = test_ends c.loop-i.invariant (search rules)

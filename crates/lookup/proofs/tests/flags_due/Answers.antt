@@ -1,0 +1,9 @@
+use mathlib.Core.Path.{sym}
+use borrow.Author.Rules.{rules}
+use Rattle.lookup.proofs.tests.flags_due.Goals as goal
+
+pub returns-then-exclusive : goal.returns-then-exclusive
+returns-then-exclusive c = rw (sym c.exclusive.ensures, c.if-exclusive.true) c.tuple_count.ensures
+
+pub returns-else-exclusive : goal.returns-else-exclusive
+returns-else-exclusive c = rw (sym c.exclusive.ensures, c.if-exclusive.false)

@@ -1,0 +1,18 @@
+use Prim.Native.Nat.{◌-◌}
+use lib.Dec.{eqb}
+use mathlib.Core.Path.{◌∙◌}
+use Rattle.lookup.specs.Lookups.{column}
+use Rattle.lookup.specs.Tests.{in_position}
+use Rattle.lists.specs.laws.Turns.{Testing, test_begins, test_turn, test_ends}
+use borrow.Author.Rules.{rules}
+use Rattle.lookup.proofs.tests.in_position.Goals as goal
+
+pub loop-i-init : goal.loop-i-init
+loop-i-init c = test_begins
+
+pub loop-i-preserved : goal.loop-i-preserved
+loop-i-preserved c = test_turn c.loop-i.invariant (search rules) (rw (c.to_u64.ensures.0 ∙ c.column.ensures))
+
+pub returns : goal.returns
+unfolding in_position
+returns c = test_ends c.loop-i.invariant (search rules)

@@ -1,0 +1,5 @@
+use borrow.Author.Rules.{rules}
+use Rattle.lookup.proofs.types.on_bus.Goals as goal
+
+pub returns : goal.returns
+returns c = rw c.lookup_word.ensures

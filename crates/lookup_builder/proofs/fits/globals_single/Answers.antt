@@ -1,0 +1,16 @@
+use mathlib.Core.Path.{refl}
+use Prim.Native.Nat.{◌+◌, ◌-◌}
+use lib.Dec.{eqb}
+use Rattle.lookup_builder.specs.Building.{tuple_number}
+use Rattle.lists.specs.laws.Turns.{Testing, test_begins, test_turn, test_ends}
+use borrow.Author.Rules.{rules}
+use Rattle.lookup_builder.proofs.fits.globals_single.Goals as goal
+
+pub loop-j-init : goal.loop-j-init
+loop-j-init c = test_begins
+
+pub loop-j-preserved : goal.loop-j-preserved
+loop-j-preserved c = test_turn c.loop-j.invariant (search rules) refl
+
+pub returns : goal.returns
+returns c = test_ends c.loop-j.invariant (search rules)

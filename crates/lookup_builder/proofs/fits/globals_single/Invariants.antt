@@ -1,0 +1,13 @@
+use mathlib.Core.Path.{refl}
+use Prim.Native.Nat.{◌+◌, ◌-◌}
+use lib.Dec.{eqb}
+use Rattle.lookup_builder.specs.Building.{tuple_number}
+use Rattle.lists.specs.laws.Turns.{Testing, test_begins, test_turn, test_ends}
+use borrow.Author.Rules.{rules}
+use Rattle.lookup_builder.proofs.fits.globals_single.Given as goal
+
+abbrev pub invariant-loop-j : goal.invariant-loop-j
+invariant-loop-j l = Testing (λ l.j. eqb (tuple_number l.interactions (l.kinds.locals + l.j)) 1) l.kinds.globals l.j l.ok
+
+abbrev pub decreases-loop-j : goal.decreases-loop-j
+decreases-loop-j l = l.kinds.globals - l.j

@@ -1,0 +1,11 @@
+use Prim.Native.Nat.{◌+◌, ◌-◌}
+use Rattle.expression.specs.Words.{word}
+use Rattle.lists.specs.laws.Turns.{Summing, sum-begins, sum_turn, sum-ends}
+use borrow.Author.Rules.{rules}
+use Rattle.lookup_builder.proofs.weights.sum_of.Given as goal
+
+abbrev pub invariant-loop-k : goal.invariant-loop-k
+invariant-loop-k l = Summing (λ l.k. word l.weights (l.start + l.k)) 4294967295 l.n l.k l.sum
+
+abbrev pub decreases-loop-k : goal.decreases-loop-k
+decreases-loop-k l = l.n - l.k

@@ -1,0 +1,10 @@
+use Rattle.lookup_buses.proofs.Loops.{Arranging, arranging_begins, arranging_fits, arranging_turn, arranging_ends}
+use Prim.Native.Nat.{◌+◌, ◌-◌}
+use borrow.Author.Rules.{rules}
+use Rattle.lookup_buses.proofs.order.arrange.Given as goal
+
+abbrev pub invariant-loop-k : goal.invariant-loop-k
+invariant-loop-k l = Arranging l.places l.n l.k l.end l.initial.order l.order
+
+abbrev pub decreases-loop-k : goal.decreases-loop-k
+decreases-loop-k l = (l.n + 1) - l.k

@@ -1,0 +1,16 @@
+use Rattle.lookup_buses.proofs.Loops.{Placing, placing_begins, placing_turn, placing_ends}
+use Rattle.lookup_buses.specs.Order.{place}
+use Rattle.lookup.specs.Lookups.{lookup_count}
+use Rattle.lookup.specs.Buses.{alone_at, name_at}
+use Prim.Native.Nat.{◌-◌}
+use borrow.Author.Rules.{rules}
+use Rattle.lookup_buses.proofs.order.places.Goals as goal
+
+pub loop-i-init : goal.loop-i-init
+loop-i-init c = placing_begins
+
+pub loop-i-preserved : goal.loop-i-preserved
+loop-i-preserved c = placing_turn c.loop-i.invariant (search rules) (search rules) c.place_of-place.ensures
+
+pub returns : goal.returns
+returns c = placing_ends c.loop-i.invariant (search rules)

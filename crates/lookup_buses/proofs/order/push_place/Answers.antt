@@ -1,0 +1,17 @@
+use Rattle.lookup_buses.proofs.Loops.{Pushing, pushing_begins, pushing_room, pushing_yes, pushing_no, pushing_ends}
+use mathlib.Core.Logic.{⊎_elim}
+use Prim.Native.Nat.{◌-◌}
+use borrow.Author.Rules.{rules}
+use Rattle.lookup_buses.proofs.order.push_place.Goals as goal
+
+pub loop-i-init : goal.loop-i-init
+loop-i-init c = pushing_begins (search rules)
+
+pub bounds-order-end : goal.bounds-order-end
+bounds-order-end c = pushing_room c.loop-i.invariant (search rules) c.if-places-i.true
+
+pub loop-i-preserved : goal.loop-i-preserved
+loop-i-preserved c = ⊎_elim (λ w. pushing_yes c.loop-i.invariant (search rules) w.0.taken w.1 w.2) (λ w. pushing_no c.loop-i.invariant (search rules) w.0.left w.1 w.2) c.if-places-i.branch
+
+pub returns : goal.returns
+returns c = pushing_ends c.loop-i.invariant (search rules)

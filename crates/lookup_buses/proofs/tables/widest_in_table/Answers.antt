@@ -1,0 +1,16 @@
+use Rattle.lookup_degree.specs.laws.Rising.{Rising, rise_begins, rise_turn, rise_ends}
+use Rattle.lookup_buses.specs.Widths.{widest_in_lookup, widest_in_table}
+use Rattle.lookup.specs.Lookups.{lookup_count, bus_lookups}
+use Prim.Native.Nat.{◌-◌}
+use borrow.Author.Rules.{rules}
+use Rattle.lookup_buses.proofs.tables.widest_in_table.Goals as goal
+
+pub loop-i-init : goal.loop-i-init
+loop-i-init c = rise_begins
+
+pub loop-i-preserved : goal.loop-i-preserved
+loop-i-preserved c = rise_turn c.widest_in_lookup-width.result c.loop-i.invariant (search rules) c.larger-top.ensures c.widest_in_lookup-width.ensures
+
+pub returns : goal.returns
+unfolding widest_in_table
+returns c = rise_ends c.loop-i.invariant (search rules)

@@ -1,0 +1,7 @@
+use Rattle.lookup_challenges.specs.Prefixes.{prefixes_fit}
+use borrow.Author.Rules.{rules}
+use Rattle.lookup_challenges.proofs.challenges.fits.Goals as goal
+
+pub returns : goal.returns
+unfolding prefixes_fit
+returns c = rw c.to_usize.ensures.0

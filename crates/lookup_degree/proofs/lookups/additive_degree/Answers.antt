@@ -1,0 +1,9 @@
+use Rattle.lookup_degree.specs.inner.At.{additive_at}
+use Prim.Native.Nat.{ℕ, ◌+◌, max}
+use mathlib.Core.Path.{◌∙◌, ap₂}
+use borrow.Author.Rules.{rules}
+use Rattle.lookup_degree.proofs.lookups.additive_degree.Goals as goal
+
+pub returns : goal.returns
+unfolding additive_at
+returns c = c.largest.ensures ∙ ap₂ (λ (a b : ℕ). max (1 + a) b) c.denominator_of-sum.ensures.0 c.numerator_of-top.ensures

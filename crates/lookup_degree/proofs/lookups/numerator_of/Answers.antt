@@ -1,0 +1,18 @@
+use Rattle.lookup_degree.proofs.Calls.{numerator_asks, numerator_is}
+use Rattle.lookup_degree.specs.inner.At.{denominator_at, numerator_at}
+use Rattle.expression.specs.Words.{word}
+use Rattle.lists.specs.Count.{total}
+use Prim.Native.Nat.{ℕ, ◌+◌, ◌-◌, ◌≤◌}
+use native.Mathlib.Omega.{arith}
+use mathlib.Core.Path.{◌∙◌, ap, ap₂, sym}
+use borrow.Author.Rules.{rules}
+use Rattle.lookup_degree.proofs.lookups.numerator_of.Goals as goal
+
+pub numerator-requires : goal.numerator-requires
+numerator-requires c =
+    numerator_asks c.args.tuples.now c.args.lookups.now c.args.i c.requires c.tuple_start-first.ensures.0 c.multiplicity_start-start.ensures.0 (c.to_usize-n.ensures.0 ∙ c.tuple_count.ensures) c.denominator_of-sum.ensures
+
+pub returns : goal.returns
+returns c =
+    numerator_is c.args.nodes.now c.args.tuples.now c.args.lookups.now c.args.multiplicities.now c.args.i
+    c.tuple_start-first.ensures.0 c.multiplicity_start-start.ensures.0 (c.to_usize-n.ensures.0 ∙ c.tuple_count.ensures) c.denominator_of-sum.ensures.0 c.numerator.ensures

@@ -1,0 +1,17 @@
+use Rattle.lookup_degree.specs.laws.Rising.{Rising, rise_begins, rise_turn, rise_ends}
+use Rattle.expression.specs.Words.{word}
+use Prim.Native.Nat.{ℕ, ◌+◌, ◌-◌, ◌≤◌}
+use native.Mathlib.Omega.{arith}
+use mathlib.Core.Path.{◌∙◌, ap, ap₂}
+use borrow.Author.Rules.{rules}
+use Rattle.lookup_degree.proofs.sums.flagged_counts.Goals as goal
+
+pub loop-k-init : goal.loop-k-init
+loop-k-init c = rise_begins
+
+pub loop-k-preserved : goal.loop-k-preserved
+loop-k-preserved c =
+    rise_turn _ c.loop-k.invariant (search rules) c.largest-top.ensures (ap₂ ◌+◌ (c.to_u64-flag.ensures.0 ∙ c.word_at-in-loop-k-3.ensures ∙ ap (word c.args.nodes.now) (c.to_usize-in-loop-k.ensures.0 ∙ c.word_at-in-loop-k-2.ensures)) (c.to_u64-multiplicity.ensures.0 ∙ c.word_at-in-loop-k.ensures ∙ ap (word c.args.nodes.now) (c.to_usize.ensures.0 ∙ c.word_at.ensures)))
+
+pub returns : goal.returns
+returns c = rise_ends c.loop-k.invariant (search rules)

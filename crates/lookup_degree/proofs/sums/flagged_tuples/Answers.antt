@@ -1,0 +1,25 @@
+use Rattle.lookup_degree.specs.laws.Rising.{Rising, rise_begins, rise_turn, rise_ends}
+use Rattle.expression.specs.Words.{word}
+use Prim.Native.Nat.{ℕ, ◌+◌, ◌-◌, ◌≤◌}
+use native.Mathlib.Omega.{arith}
+use mathlib.Core.Path.{◌∙◌, ap, ap₂}
+use borrow.Author.Rules.{rules}
+use Rattle.lookup_degree.proofs.sums.flagged_tuples.Goals as goal
+
+pub loop-k-init : goal.loop-k-init
+loop-k-init c = (rise_begins, search rules)
+
+pub loop-k-preserved : goal.loop-k-preserved
+loop-k-preserved c = (
+  rise_turn _ c.loop-k.invariant.0 (search rules) c.largest-top.ensures (ap₂ ◌+◌ (c.to_u64-flag.ensures.0 ∙ c.word_at-in-loop-k-2.ensures ∙ ap (word c.args.nodes.now) (c.to_usize.ensures.0 ∙ c.word_at-in-loop-k.ensures)) (c.to_u64-tuple.ensures.0 ∙ c.word_at.ensures)),
+  omega (
+    arith,
+    c.largest-top.ensures,
+    c.loop-k.invariant.1,
+    c.to_u64-flag.ensures.1,
+    c.to_u64-tuple.ensures.1,
+  ),
+)
+
+pub returns : goal.returns
+returns c = (rise_ends c.loop-k.invariant.0 (search rules), c.loop-k.invariant.1)

@@ -1,0 +1,12 @@
+use Rattle.lookup_degree.proofs.Loops.{Topping, topping_begins, topping_turn, topping_ends}
+use Rattle.expression.specs.Words.{word}
+use lib.ListN.{length}
+use Prim.Native.Nat.{◌-◌}
+use borrow.Author.Rules.{rules}
+use Rattle.lookup_degree.proofs.tuples.tuple_degree.Given as goal
+
+abbrev pub invariant-loop-i : goal.invariant-loop-i
+invariant-loop-i l = Topping (word l.degrees) l.nodes l.i l.top
+
+abbrev pub decreases-loop-i : goal.decreases-loop-i
+decreases-loop-i l = length l.nodes - l.i

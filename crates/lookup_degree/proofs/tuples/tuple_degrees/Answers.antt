@@ -1,0 +1,25 @@
+use Rattle.lookup_degree.proofs.Loops.{Degreed, degreed_begins, degreed_room, degreed_turn, degreed_ends}
+use Rattle.expression.specs.Words.{word}
+use lib.ListN.{length}
+use Prim.Native.Nat.{◌-◌}
+use native.Mathlib.Omega.{arith}
+use borrow.Author.Rules.{rules}
+use Rattle.lookup_degree.proofs.tuples.tuple_degrees.Goals as goal
+
+pub loop-j-init : goal.loop-j-init
+loop-j-init c = degreed_begins
+
+pub overflow_add-end : goal.overflow_add-end
+overflow_add-end c =
+    omega (arith, degreed_room c.loop-j.invariant c.loop-j-test.true c.to_usize.ensures.0 c.requires.1)
+
+pub slice_bounds-tuple_degree-end : goal.slice_bounds-tuple_degree-end
+slice_bounds-tuple_degree-end c =
+    degreed_room c.loop-j.invariant c.loop-j-test.true c.to_usize.ensures.0 c.requires.1
+
+pub loop-j-preserved : goal.loop-j-preserved
+loop-j-preserved c =
+    degreed_turn c.loop-j.invariant (search rules) (search rules) c.to_usize.ensures.0 c.tuple_degree-degree.ensures
+
+pub returns : goal.returns
+returns c = degreed_ends c.loop-j.invariant (search rules)

@@ -1,0 +1,13 @@
+use Rattle.lookup_degree.proofs.Loops.{Degreed, degreed_begins, degreed_room, degreed_turn, degreed_ends}
+use Rattle.expression.specs.Words.{word}
+use lib.ListN.{length}
+use Prim.Native.Nat.{◌-◌}
+use native.Mathlib.Omega.{arith}
+use borrow.Author.Rules.{rules}
+use Rattle.lookup_degree.proofs.tuples.tuple_degrees.Given as goal
+
+abbrev pub invariant-loop-j : goal.invariant-loop-j
+invariant-loop-j l = Degreed (word l.degrees) l.tuples l.elements l.j l.start l.initial.out l.out
+
+abbrev pub decreases-loop-j : goal.decreases-loop-j
+decreases-loop-j l = length l.tuples - l.j

@@ -1,0 +1,50 @@
+use borrow.Author.Tests.{not-true, not-false, lt-ltb, le-ltb}
+use Rattle.lookup_protocol.specs.laws.Height.{counted-tested}
+use Rattle.lookup_protocol.specs.Height.{height_refusal}
+use borrow.Author.Rules.{rules}
+use Rattle.lookup_protocol.proofs.protocol.height_refusal.Goals as goal
+
+pub returns-then-not-tables_fit : goal.returns-then-not-tables_fit
+unfolding height_refusal
+returns-then-not-tables_fit c = rw (← c.tables_fit.ensures, not-true c.tables_fit.result c.if-not-tables_fit.true)
+
+pub returns-then-not-all_agree : goal.returns-then-not-all_agree
+unfolding height_refusal
+returns-then-not-all_agree c =
+    rw (
+      ← c.tables_fit.ensures,
+      not-false c.tables_fit.result c.if-not-tables_fit.false,
+      ← c.all_agree.ensures,
+      not-true c.all_agree.result c.if-not-all_agree.true,
+    )
+
+pub height_sum-sum-requires : goal.height_sum-sum-requires
+height_sum-sum-requires c =
+    counted-tested c.args.lookups.now c.args.counts.now c.args.heights.now c.requires c.tables_fit.ensures
+    (not-false c.tables_fit.result c.if-not-tables_fit.false)
+
+pub returns-then-sum-to_u64 : goal.returns-then-sum-to_u64
+unfolding height_refusal
+returns-then-sum-to_u64 c =
+    rw (
+      ← c.tables_fit.ensures,
+      not-false c.tables_fit.result c.if-not-tables_fit.false,
+      ← c.all_agree.ensures,
+      not-false c.all_agree.result c.if-not-all_agree.false,
+      ← c.height_sum-sum.ensures,
+      ← c.to_u64.ensures.0,
+      lt-ltb _ _ c.if-sum-to_u64.true,
+    )
+
+pub returns-else-sum-to_u64 : goal.returns-else-sum-to_u64
+unfolding height_refusal
+returns-else-sum-to_u64 c =
+    rw (
+      ← c.tables_fit.ensures,
+      not-false c.tables_fit.result c.if-not-tables_fit.false,
+      ← c.all_agree.ensures,
+      not-false c.all_agree.result c.if-not-all_agree.false,
+      ← c.height_sum-sum.ensures,
+      ← c.to_u64.ensures.0,
+      le-ltb _ _ c.if-sum-to_u64.false,
+    )

@@ -1,0 +1,24 @@
+use mathlib.Core.Path.{refl}
+use lib.ListN.{length}
+use Prim.Native.Nat.{◌-◌}
+use Rattle.lookup_protocol.specs.laws.Height.{WeightSoFar, weight_none, weight-next, weight-all, part_in, part-weights}
+use borrow.Author.Rules.{rules}
+use Rattle.lookup_protocol.proofs.protocol.height_sum.Goals as goal
+
+pub loop-t-init : goal.loop-t-init
+loop-t-init c = weight_none
+
+pub slice_bounds-table_weight-end : goal.slice_bounds-table_weight-end
+slice_bounds-table_weight-end c =
+    part_in c.requires.0.0 c.loop-t.invariant.start (search rules) c.size.ensures.0
+
+pub table_weight-sum-requires : goal.table_weight-sum-requires
+table_weight-sum-requires c =
+    (part-weights _ _ c.requires.0.1 c.loop-t.invariant.start (search rules) c.size.ensures.0 refl, c.requires.1.1 _)
+
+pub loop-t-preserved : goal.loop-t-preserved
+loop-t-preserved c =
+    weight-next c.requires.0.0.few c.loop-t.invariant (search rules) c.size.ensures.0 c.table_weight-sum.ensures
+
+pub returns : goal.returns
+returns c = weight-all c.loop-t.invariant (search rules)

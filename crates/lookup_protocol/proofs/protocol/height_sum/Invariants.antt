@@ -1,0 +1,12 @@
+use mathlib.Core.Path.{refl}
+use lib.ListN.{length}
+use Prim.Native.Nat.{◌-◌}
+use Rattle.lookup_protocol.specs.laws.Height.{WeightSoFar, weight_none, weight-next, weight-all, part_in, part-weights}
+use borrow.Author.Rules.{rules}
+use Rattle.lookup_protocol.proofs.protocol.height_sum.Given as goal
+
+abbrev pub invariant-loop-t : goal.invariant-loop-t
+invariant-loop-t l = WeightSoFar l.lookups l.counts l.heights l.t l.at l.sum
+
+abbrev pub decreases-loop-t : goal.decreases-loop-t
+decreases-loop-t l = length l.counts - l.t

@@ -1,0 +1,7 @@
+use Rattle.lookup_protocol.specs.Terminals.{terminal_below}
+use borrow.Author.Rules.{rules}
+use Rattle.lookup_protocol.proofs.protocol.terminal_below.Goals as goal
+
+pub returns : goal.returns
+unfolding terminal_below
+returns c = rw c.present.ensures

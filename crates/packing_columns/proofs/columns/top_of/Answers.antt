@@ -1,0 +1,7 @@
+use Rattle.packing_columns.proofs.ColumnsLoops.{top_is}
+use borrow.Author.Rules.{rules}
+use Rattle.packing_columns.proofs.columns.top_of.Goals as goal
+
+pub returns : goal.returns
+returns c =
+    top_is _ _ _ _ _ c.requires.1 c.denominator_of-sum.ensures c.numerator_of-top.ensures c.largest.ensures

@@ -1,0 +1,42 @@
+use Rattle.packing_entry.proofs.Answers.{held, whole, answer-small, answer-refused, answer_formed}
+use Rattle.lookup_degree.specs.Formed.{Formed}
+use Rattle.lookup_degree.specs.laws.Formed.{formed}
+use Rattle.lookup.specs.Lookups.{lent_lookups}
+use Rattle.expression.specs.Refusal.{refusal}
+use mathlib.Core.Path.{◌∙◌, sym, ap}
+use borrow.Author.Rules.{rules}
+use Rattle.packing_entry.proofs.pack_same_bus.pack_within.Goals as goal
+
+pub returns-then-not-counts_hold : goal.returns-then-not-counts_hold
+returns-then-not-counts_hold c =
+    let args = c.args in
+    let lent = lent_lookups args.lookups-out.now args.names-out.now args.tuples-out.now args.multiplicities-out.now args.flags-out.now args.elements-out.now in
+    let own = lent_lookups args.lookups.now args.names.now args.tuples.now args.multiplicities.now args.flags.now args.elements.now in
+    answer-small args.limits args.p args.limit args.columns args.nodes.now own lent c.counts_hold.ensures c.if-not-counts_hold.true
+
+pub pack_formed-requires : goal.pack_formed-requires
+pack_formed-requires c =
+    let args = c.args in
+    let lent = lent_lookups args.lookups-out.now args.names-out.now args.tuples-out.now args.multiplicities-out.now args.flags-out.now args.elements-out.now in
+    let own = lent_lookups args.lookups.now args.names.now args.tuples.now args.multiplicities.now args.flags.now args.elements.now in
+    let none_refused = sym c.form_refusal-verdict.ensures ∙ ap refusal c.enum_told-1.given.1 in
+    let f : Formed args.limits args.nodes.now own = formed args.limits args.p args.columns args.nodes.now own c.requires none_refused in (
+      f,
+      whole args.limits args.p args.columns args.nodes.now own c.requires f none_refused,
+      held own lent c.counts_hold.ensures c.if-not-counts_hold.false,
+    )
+
+pub returns-in-Refused : goal.returns-in-Refused
+returns-in-Refused c =
+    let args = c.args in
+    let lent = lent_lookups args.lookups-out.now args.names-out.now args.tuples-out.now args.multiplicities-out.now args.flags-out.now args.elements-out.now in
+    let own = lent_lookups args.lookups.now args.names.now args.tuples.now args.multiplicities.now args.flags.now args.elements.now in
+    answer-refused args.limits args.p args.limit args.columns args.nodes.now own lent c.counts_hold.ensures c.if-not-counts_hold.false c.form_refusal-verdict.ensures c.verdict-1.given.1
+
+pub returns-in-Accepted : goal.returns-in-Accepted
+returns-in-Accepted c =
+    let args = c.args in
+    let lent = lent_lookups args.lookups-out.now args.names-out.now args.tuples-out.now args.multiplicities-out.now args.flags-out.now args.elements-out.now in
+    let own = lent_lookups args.lookups.now args.names.now args.tuples.now args.multiplicities.now args.flags.now args.elements.now in
+    answer_formed args.limits args.p args.limit args.columns args.nodes.now own lent c.counts_hold.ensures c.if-not-counts_hold.false
+    c.form_refusal-verdict.ensures c.enum_told-1.given.1 c.pack_formed.ensures

@@ -1,0 +1,10 @@
+use Prim.Native.Nat.{◌-◌}
+use Rattle.wire.proofs.Loops.{Decoding, decode-begins, decode_turn, decode-ends}
+use borrow.Author.Rules.{rules}
+use Rattle.wire.proofs.words.decode.Given as goal
+
+abbrev pub invariant-loop-i : goal.invariant-loop-i
+invariant-loop-i l = Decoding l.bytes l.initial.out l.n l.out l.i
+
+abbrev pub decreases-loop-i : goal.decreases-loop-i
+decreases-loop-i l = l.n - l.i

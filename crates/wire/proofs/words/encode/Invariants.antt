@@ -1,0 +1,14 @@
+use mathlib.Core.Path.{refl, ap, ◌∙◌}
+use Prim.Native.Nat.{◌-◌}
+use lib.ListN.{length, get_or}
+use Rattle.lists.specs.laws.Writing.{Writing, begins, turn, ends}
+use Rattle.wire.specs.Wire.{word_bytes, bytes_of}
+use Rattle.wire.specs.laws.Trip.{four}
+use borrow.Author.Rules.{rules}
+use Rattle.wire.proofs.words.encode.Given as goal
+
+abbrev pub invariant-loop-i : goal.invariant-loop-i
+invariant-loop-i l = Writing (λ j. word_bytes (get_or l.words j 0)) 4 (length l.words) l.initial.out l.i l.out
+
+abbrev pub decreases-loop-i : goal.decreases-loop-i
+decreases-loop-i l = l.n - l.i
