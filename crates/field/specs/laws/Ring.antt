@@ -43,7 +43,7 @@ module _ (p : ℕ) (pos : 0 < p) where
         mul_assoc = λ a b c. eq (mod-mul-mod (a.0 * b.0) c.0 p ∙ ap (λ (n : ℕ). n % p) (mul_assoc a.0 b.0 c.0) ∙ sym (mul-mod-mod a.0 (b.0 * c.0) p));
         mul_comm = λ a b. ap mk (mul_comm a.0 b.0);
         mul_u = λ a. eq (mul-mod-mod a.0 1 p ∙ ap (λ (n : ℕ). n % p) (mul-one a.0) ∙ mod-eq_of_lt a.1);
-        mul-add =
+        mul_add =
             λ a b c.
             eq
             (mul-mod-mod a.0 (b.0 + c.0) p ∙ ap (λ (n : ℕ). n % p) (mul-add a.0 b.0 c.0)

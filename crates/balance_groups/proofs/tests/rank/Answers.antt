@@ -3,4 +3,4 @@ use borrow.Author.Rules.{rules}
 use Rattle.balance_groups.proofs.tests.rank.Goals as goal
 
 pub returns-in-Refused : goal.returns-in-Refused
-returns-in-Refused c = rw c.v-1.given.1 (c.to_u64.ensures.0 ∙ c.number.ensures)
+returns-in-Refused c = rw c.in-Refused.is (c.to_u64.ensures.0 ∙ c.number.ensures)

@@ -13,7 +13,3 @@ loop-j-preserved c = put_slot_loop_turn c.loop-j.invariant (search rules) c.word
 
 pub returns : goal.returns
 returns c = put_slot_loop_ends _ c.loop-j.invariant (search rules)
-
--- LOST (no need same_length / same-length):
--- same_length : tie.Need-same-length invariant-loop decreases-loop
--- same_length c = simp length-set (omega (arith, c.before.loop.invariant.long))

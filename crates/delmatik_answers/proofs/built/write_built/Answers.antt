@@ -2,4 +2,4 @@ use borrow.Author.Rules.{rules}
 use Rattle.delmatik_answers.proofs.built.write_built.Goals as goal
 
 pub returns-in-Built : goal.returns-in-Built
-returns-in-Built c = rw c.a-1.given.1
+returns-in-Built c = rw c.in-Built.is

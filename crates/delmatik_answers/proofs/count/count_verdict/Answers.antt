@@ -2,4 +2,4 @@ use borrow.Author.Rules.{rules}
 use Rattle.delmatik_answers.proofs.count.count_verdict.Goals as goal
 
 pub returns-in-Refused : goal.returns-in-Refused
-returns-in-Refused c = rw c.a-1.given.1
+returns-in-Refused c = rw c.in-Refused.is

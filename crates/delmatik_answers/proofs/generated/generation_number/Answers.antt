@@ -2,4 +2,4 @@ use borrow.Author.Rules.{rules}
 use Rattle.delmatik_answers.proofs.generated.generation_number.Goals as goal
 
 pub returns-in-Refused : goal.returns-in-Refused
-returns-in-Refused c = rw c.g-1.given.1 c.number.ensures
+returns-in-Refused c = rw c.in-Refused.is c.number.ensures

@@ -2,4 +2,4 @@ use borrow.Author.Rules.{rules}
 use Rattle.delmatik_answers.proofs.generated.put_terminal.Goals as goal
 
 pub returns-in-Terminal : goal.returns-in-Terminal
-returns-in-Terminal c = rw c.g-1.given.1
+returns-in-Terminal c = rw c.in-Terminal.is

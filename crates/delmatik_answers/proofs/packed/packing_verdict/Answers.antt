@@ -2,7 +2,7 @@ use borrow.Author.Rules.{rules}
 use Rattle.delmatik_answers.proofs.packed.packing_verdict.Goals as goal
 
 pub returns-in-Packed : goal.returns-in-Packed
-returns-in-Packed c = rw c.enum_told-1.given.1
+returns-in-Packed c = rw c.in-Packed.is
 
 pub returns-in-Refused : goal.returns-in-Refused
-returns-in-Refused c = rw c.a-1.given.1
+returns-in-Refused c = rw c.in-Refused.is

@@ -2,4 +2,4 @@ use borrow.Author.Rules.{rules}
 use Rattle.delmatik_answers.proofs.values.write_degree.Goals as goal
 
 pub returns-in-Degree : goal.returns-in-Degree
-returns-in-Degree c = rw c.a-1.given.1
+returns-in-Degree c = rw c.in-Degree.is

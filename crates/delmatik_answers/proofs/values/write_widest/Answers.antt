@@ -2,4 +2,4 @@ use borrow.Author.Rules.{rules}
 use Rattle.delmatik_answers.proofs.values.write_widest.Goals as goal
 
 pub returns-in-Widest : goal.returns-in-Widest
-returns-in-Widest c = rw c.a-1.given.1
+returns-in-Widest c = rw c.in-Widest.is

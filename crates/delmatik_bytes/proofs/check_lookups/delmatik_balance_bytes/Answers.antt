@@ -107,16 +107,3 @@ returns c =
     (given_back c.check_in-verdict.new.1.1.1.1.1.1.0 start.args.workspace.now
     (one_still_fits start.args.workspace.now start.args.workspace_room.now c.check_in-verdict.new.1.1.1.1.1.1.0 (both-fit at-if2).1 (c.workspace_room-2-1.given ∙ c.workspace_room-1.given)) c.encode.ensures)
     c.write_answer-2.ensures
-
--- LOST (no need same-length-2 / same-length-2):
--- same-length-2 : tie.Need-same-length-2
--- same-length-2 c =
---     let at-room2 = c.before.before.before.before.before.before.before.before.before.before.before.before.before.before.before.before.before.before in
---     let at_room = c.before.before.before.before.before.before.before.before.before.before.before.before.before.before.before.before.before.before.before.before.before.before in
---     at-room2.room2.given ∙ at_room.room.given
--- LOST (no need same-length-3 / same-length-3):
--- same-length-3 : tie.Need-same-length-3
--- same-length-3 c =
---     let at-workspace-room2 = c.before.before.before.before.before.before.before.before in
---     let at-workspace-room = c.before.before.before.before.before.before.before.before.before.before.before.before.before in
---     at-workspace-room2.workspace-room2.given ∙ at-workspace-room.workspace_room.given

@@ -117,16 +117,3 @@ returns c =
     (given_back c.generate_in-answer.new.1.1.1.1.1.1.1.0 start.args.trace.now
     (one_still_fits start.args.trace.now start.args.trace_room.now c.generate_in-answer.new.1.1.1.1.1.1.1.0 (both-fit at-if2).1 (c.trace_room-2-1.given ∙ c.trace_room-1.given)) c.encode.ensures)
     c.tell_generated-2.ensures
-
--- LOST (no need same-length-2 / same-length-2):
--- same-length-2 : tie.Need-same-length-2
--- same-length-2 c =
---     let at-room2 = c.before.before.before.before.before.before.before.before.before.before.before.before.before.before.before.before.before.before.before in
---     let at_room = c.before.before.before.before.before.before.before.before.before.before.before.before.before.before.before.before.before.before.before.before.before.before.before in
---     at-room2.room2.given ∙ at_room.room.given
--- LOST (no need same-length-3 / same-length-3):
--- same-length-3 : tie.Need-same-length-3
--- same-length-3 c =
---     let at-trace-room2 = c.before.before.before.before.before.before.before.before.before in
---     let at-trace-room = c.before.before.before.before.before.before.before.before.before.before.before.before.before.before in
---     at-trace-room2.trace-room2.given ∙ at-trace-room.trace_room.given

@@ -89,29 +89,3 @@ returns c =
     ∷ part-given c.args.room.now c.args.multiplicities_out.now c.requires.0.third c.requires.0.third_in c.requires.1.multiplicities_size c.encode-3.ensures i
     ∷ part-given c.args.room.now c.args.flags_out.now c.requires.0.fourth c.requires.0.fourth_in c.requires.1.flags_size c.encode-4.ensures i
     ∷ part-given c.args.room.now c.args.elements_out.now c.requires.0.fifth c.requires.0.fifth_in c.requires.1.elements_size c.encode-5.ensures i ∷ []
-
--- LOST (no need same_length / same-length):
--- same_length : tie.Need-same-length
--- same_length c =
---     let at-lookups-out = c.before.before.before.before.before.before.before.before.before.before.before.before.before.before.before.before.before.before.before.before.before in
---     at-lookups-out.lookups-out.given
--- LOST (no need same-length-2 / same-length-2):
--- same-length-2 : tie.Need-same-length-2
--- same-length-2 c =
---     let at-tuples-out = c.before.before.before.before.before.before.before.before.before.before.before.before.before.before.before.before in
---     at-tuples-out.tuples-out.given
--- LOST (no need same-length-3 / same-length-3):
--- same-length-3 : tie.Need-same-length-3
--- same-length-3 c =
---     let at-multiplicities-out = c.before.before.before.before.before.before.before.before.before.before.before in
---     at-multiplicities-out.multiplicities-out.given
--- LOST (no need same-length-4 / same-length-4):
--- same-length-4 : tie.Need-same-length-4
--- same-length-4 c =
---     let at-flags-out = c.before.before.before.before.before.before in
---     at-flags-out.flags-out.given
--- LOST (no need same-length-5 / same-length-5):
--- same-length-5 : tie.Need-same-length-5
--- same-length-5 c =
---     let at-elements-out = c.before in
---     at-elements-out.elements-out.given

@@ -42,22 +42,11 @@ write_in-requires c = (
 
 pub returns-in-Refused : goal.returns-in-Refused
 returns-in-Refused c =
-    let q = refused_is c.args.limit c.args.nodes.now (given start) (lent start) c.plan_of-plan.ensures c.plan_refusal-v.result (refused-so at-plan-refusal) c.v-1.given.1 in
+    let q = refused_is c.args.limit c.args.nodes.now (given start) (lent start) c.plan_of-plan.ensures c.plan_refusal-v.result (refused-so at-plan-refusal) c.in-Refused.is in
     λ i. record { answer = q.0 i; lists = q.1 i }
 
 pub returns-in-Accepted : goal.returns-in-Accepted
 returns-in-Accepted c =
-    let none_refused = accepted_is c.args.limit c.args.nodes.now (given start) (lent start) c.plan_of-plan.ensures c.plan_refusal-v.result (refused-so at-plan-refusal) c.enum_told-1.given.1 in
+    let none_refused = accepted_is c.args.limit c.args.nodes.now (given start) (lent start) c.plan_of-plan.ensures c.plan_refusal-v.result (refused-so at-plan-refusal) c.in-Accepted.is in
     let q = packed_is c.args.limit c.args.nodes.now (given start) (lent start) c.plan_of-plan.ensures c.counts_of-counts.ensures none_refused c.write_in.ensures in
     λ i. record { answer = q.0 i; lists = q.1 i }
-
--- LOST (no need same_length / same-length):
--- same_length : tie.Need-same-length
--- same_length c =
---     let at-names-out = c.before.before.before in
---     at-names-out.names-out.given
--- LOST (no need same-length-2 / same-length-2):
--- same-length-2 : tie.Need-same-length-2
--- same-length-2 c =
---     let at_room = c.before in
---     at_room.room.given

@@ -156,7 +156,7 @@ form_refusal-v-requires c =
 pub pack_formed-requires : goal.pack_formed-requires
 pack_formed-requires c =
     let sane = limits_sane c.args.choices.profile in
-    let none_refused = sym (refused-is at-form-refusal) ∙ ap refusal c.enum_told-1.given.1 in
+    let none_refused = sym (refused-is at-form-refusal) ∙ ap refusal c.in-Accepted.is in
     let form = formed (limits start) (prime start) c.args.columns (nodes start) (given start) sane none_refused in (
       rw c.limits_of-limits.ensures form,
       whole (limits start) (prime start) c.args.columns (nodes start) (given start) sane form none_refused,
@@ -166,23 +166,12 @@ pack_formed-requires c =
 
 pub returns-in-Refused : goal.returns-in-Refused
 returns-in-Refused c =
-    let q = answer-refused (limits start) (prime start) c.args.limit c.args.columns (nodes start) (given start) (lent start) (held-so ?REC (After-counts_hold)) c.if-not-counts_hold.false (refused-is at-form-refusal) c.v-1.given.1 in
+    let q = answer-refused (limits start) (prime start) c.args.limit c.args.columns (nodes start) (given start) (lent start) (held-so ?REC (After-counts_hold)) c.if-not-counts_hold.false (refused-is at-form-refusal) c.in-Refused.is in
     λ i. record { answer = q.0 i; lists = q.1 i }
 
 pub returns-in-Accepted : goal.returns-in-Accepted
 returns-in-Accepted c =
     let o = c.pack_formed.ensures in
-    let q = answer_formed (limits start) (prime start) c.args.limit c.args.columns (nodes start) (given start) (lent start) (held-so ?REC (After-counts_hold)) c.if-not-counts_hold.false (refused-is at-form-refusal) c.enum_told-1.given.1
+    let q = answer_formed (limits start) (prime start) c.args.limit c.args.columns (nodes start) (given start) (lent start) (held-so ?REC (After-counts_hold)) c.if-not-counts_hold.false (refused-is at-form-refusal) c.in-Accepted.is
     (ap (λ (z : Outcome). z.answer) o, ap (λ (z : Outcome). z.lists) o) in
     λ i. record { answer = q.0 i; lists = q.1 i }
-
--- LOST (no need same_length / same-length):
--- same_length : tie.Need-same-length
--- same_length c =
---     let at-names-out = c.before.before.before in
---     at-names-out.names-out.given
--- LOST (no need same-length-2 / same-length-2):
--- same-length-2 : tie.Need-same-length-2
--- same-length-2 c =
---     let at-out-room = c.before in
---     at-out-room.out_room.given

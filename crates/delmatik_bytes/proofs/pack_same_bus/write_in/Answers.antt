@@ -111,18 +111,3 @@ returns c =
     refl c.write_at.ensures c.write_at-2.ensures c.write_at-3.ensures c.write_at-4.ensures
     (front-short c.args.plan.words c.requires.0.lookups) c.requires.0.tuples c.requires.0.multiplicities c.requires.0.flags c.requires.0.elements
     c.copy.ensures refl refl refl refl c.write_names.ensures
-
--- LOST (no need same_length / same-length):
--- same_length : tie.Need-same-length
--- same_length c =
---     let at-names-out = c.before.before.before.before.before.before.before.before.before.before.before.before.before.before.before.before.before in
---     at-names-out.names-out.given
--- LOST (no need same-length-2 / same-length-2):
--- same-length-2 : tie.Need-same-length-2
--- same-length-2 c =
---     let at-room5 = c.before in
---     let at-room4 = c.before.before.before.before.before in
---     let at-room3 = c.before.before.before.before.before.before.before.before.before in
---     let at-room2 = c.before.before.before.before.before.before.before.before.before.before.before.before.before in
---     let at_room = c.before.before.before.before.before.before.before.before.before.before.before.before.before.before.before.before.before.before.before.before.before.before.before in
---     at-room5.room5.given ∙ at-room4.room4.given ∙ at-room3.room3.given ∙ at-room2.room2.given ∙ at_room.room.given.1

@@ -2,61 +2,61 @@ use borrow.Author.Rules.{rules}
 use Rattle.expression.proofs.numbers.number.Goals as goal
 
 pub returns-in-SizeAtOdds : goal.returns-in-SizeAtOdds
-returns-in-SizeAtOdds c = rw c.enum_told-1.given.1
+returns-in-SizeAtOdds c = rw c.in-SizeAtOdds.is
 
 pub returns-in-WordTooLarge : goal.returns-in-WordTooLarge
-returns-in-WordTooLarge c = rw c.enum_told-in-WordTooLarge-1.given.1
+returns-in-WordTooLarge c = rw c.in-WordTooLarge.is
 
 pub returns-in-NodeInvalid : goal.returns-in-NodeInvalid
-returns-in-NodeInvalid c = rw c.enum_told-in-NodeInvalid-1.given.1
+returns-in-NodeInvalid c = rw c.in-NodeInvalid.is
 
 pub returns-in-DegreeTooHigh : goal.returns-in-DegreeTooHigh
-returns-in-DegreeTooHigh c = rw c.enum_told-in-DegreeTooHigh-1.given.1
+returns-in-DegreeTooHigh c = rw c.in-DegreeTooHigh.is
 
 pub returns-in-LookupInvalid : goal.returns-in-LookupInvalid
-returns-in-LookupInvalid c = rw c.enum_told-in-LookupInvalid-1.given.1
+returns-in-LookupInvalid c = rw c.in-LookupInvalid.is
 
 pub returns-in-WidthsDiffer : goal.returns-in-WidthsDiffer
-returns-in-WidthsDiffer c = rw c.enum_told-in-WidthsDiffer-1.given.1
+returns-in-WidthsDiffer c = rw c.in-WidthsDiffer.is
 
 pub returns-in-WeightTooLarge : goal.returns-in-WeightTooLarge
-returns-in-WeightTooLarge c = rw c.enum_told-in-WeightTooLarge-1.given.1
+returns-in-WeightTooLarge c = rw c.in-WeightTooLarge.is
 
 pub returns-in-ChallengesMissing : goal.returns-in-ChallengesMissing
-returns-in-ChallengesMissing c = rw c.enum_told-in-ChallengesMissing-1.given.1
+returns-in-ChallengesMissing c = rw c.in-ChallengesMissing.is
 
 pub returns-in-RowsMissing : goal.returns-in-RowsMissing
-returns-in-RowsMissing c = rw c.enum_told-in-RowsMissing-1.given.1
+returns-in-RowsMissing c = rw c.in-RowsMissing.is
 
 pub returns-in-TraceTooSmall : goal.returns-in-TraceTooSmall
-returns-in-TraceTooSmall c = rw c.enum_told-in-TraceTooSmall-1.given.1
+returns-in-TraceTooSmall c = rw c.in-TraceTooSmall.is
 
 pub returns-in-TerminalMisplaced : goal.returns-in-TerminalMisplaced
-returns-in-TerminalMisplaced c = rw c.enum_told-in-TerminalMisplaced-1.given.1
+returns-in-TerminalMisplaced c = rw c.in-TerminalMisplaced.is
 
 pub returns-in-WidthZero : goal.returns-in-WidthZero
-returns-in-WidthZero c = rw c.enum_told-in-WidthZero-1.given.1
+returns-in-WidthZero c = rw c.in-WidthZero.is
 
 pub returns-in-FlagNotBinary : goal.returns-in-FlagNotBinary
-returns-in-FlagNotBinary c = rw c.enum_told-in-FlagNotBinary-1.given.1
+returns-in-FlagNotBinary c = rw c.in-FlagNotBinary.is
 
 pub returns-in-TwoFlags : goal.returns-in-TwoFlags
-returns-in-TwoFlags c = rw c.enum_told-in-TwoFlags-1.given.1
+returns-in-TwoFlags c = rw c.in-TwoFlags.is
 
 pub returns-in-DenominatorZero : goal.returns-in-DenominatorZero
-returns-in-DenominatorZero c = rw c.enum_told-in-DenominatorZero-1.given.1
+returns-in-DenominatorZero c = rw c.in-DenominatorZero.is
 
 pub returns-in-WorkspaceFull : goal.returns-in-WorkspaceFull
-returns-in-WorkspaceFull c = rw c.enum_told-in-WorkspaceFull-1.given.1
+returns-in-WorkspaceFull c = rw c.in-WorkspaceFull.is
 
 pub returns-in-ConstraintNotZero : goal.returns-in-ConstraintNotZero
-returns-in-ConstraintNotZero c = rw c.enum_told-in-ConstraintNotZero-1.given.1
+returns-in-ConstraintNotZero c = rw c.in-ConstraintNotZero.is
 
 pub returns-in-NetNotZero : goal.returns-in-NetNotZero
-returns-in-NetNotZero c = rw c.enum_told-in-NetNotZero-1.given.1
+returns-in-NetNotZero c = rw c.in-NetNotZero.is
 
 pub returns-in-HeightSumTooLarge : goal.returns-in-HeightSumTooLarge
-returns-in-HeightSumTooLarge c = rw c.enum_told-in-HeightSumTooLarge-1.given.1
+returns-in-HeightSumTooLarge c = rw c.in-HeightSumTooLarge.is
 
 pub returns-in-TerminalsNotZero : goal.returns-in-TerminalsNotZero
-returns-in-TerminalsNotZero c = rw c.enum_told-in-TerminalsNotZero-1.given.1
+returns-in-TerminalsNotZero c = rw c.in-TerminalsNotZero.is

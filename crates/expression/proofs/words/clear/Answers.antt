@@ -13,7 +13,3 @@ loop-i-preserved c = clear_turn c.loop-i.invariant (omega (arith, c.loop-i-test.
 
 pub returns : goal.returns
 returns c = clear_ends c.loop-i.invariant (omega (arith, c.loop-i-test.false, c.loop-i.invariant.out≡.len))
-
--- LOST (no need same_length / same-length):
--- same_length : tie.Need-same-length invariant-loop decreases-loop
--- same_length c = omega (arith, c.before.loop.invariant.out≡.len)

@@ -11,66 +11,66 @@ use Rattle.expression_eval.proofs.traits.node_value.Goals as goal
 pub bounds-rows-to_usize : goal.bounds-rows-to_usize
 bounds-rows-to_usize c =
     let t = c.requires.0 in
-    omega (arith, (rw c.n-in-Main-1.given.1 at t.readable).0, c.to_usize.ensures.0)
+    omega (arith, (rw c.in-Main.is at t.readable).0, c.to_usize.ensures.0)
 
 pub read-requires : goal.read-requires
 read-requires c =
     let t = c.requires in
-    let there = rw c.n-in-Main-1.given.1 at t.0.readable in
+    let there = rw c.in-Main.is at t.0.readable in
     let ahead = row-ahead _ _ _ t.0.inside there.0 t.1 c.to_usize.ensures.0 in
     (t.0.inside, ahead.0, ahead.1, t.0.rows.main_fits, there.1)
 
 pub bounds-rows-to_usize-in-Preprocessed : goal.bounds-rows-to_usize-in-Preprocessed
 bounds-rows-to_usize-in-Preprocessed c =
     let t = c.requires.0 in
-    omega (arith, (rw c.n-in-Preprocessed-1.given.1 at t.readable).0, c.to_usize-in-Preprocessed.ensures.0)
+    omega (arith, (rw c.in-Preprocessed.is at t.readable).0, c.to_usize-in-Preprocessed.ensures.0)
 
 pub read-requires-in-Preprocessed : goal.read-requires-in-Preprocessed
 read-requires-in-Preprocessed c =
     let t = c.requires in
-    let there = rw c.n-in-Preprocessed-1.given.1 at t.0.readable in
+    let there = rw c.in-Preprocessed.is at t.0.readable in
     let ahead = row-ahead _ _ _ t.0.inside there.0 t.1 c.to_usize-in-Preprocessed.ensures.0 in
     (t.0.inside, ahead.0, ahead.1, t.0.rows.pre_fits, there.1)
 
 pub bounds-public_values-to_usize : goal.bounds-public_values-to_usize
 bounds-public_values-to_usize c =
-    omega (arith, rw c.n-in-PublicValue-1.given.1 at c.requires.0.readable, c.to_usize-in-PublicValue.ensures.0)
+    omega (arith, rw c.in-PublicValue.is at c.requires.0.readable, c.to_usize-in-PublicValue.ensures.0)
 
 pub value-requires : goal.value-requires
-value-requires c = (rw c.n-in-Sum-1.given.1 at c.requires.0.readable).0
+value-requires c = (rw c.in-Sum.is at c.requires.0.readable).0
 
 pub value-requires-in-Sum : goal.value-requires-in-Sum
 value-requires-in-Sum c =
-    (rw c.n-in-Sum-1.given.1 at c.requires.0.readable).1
+    (rw c.in-Sum.is at c.requires.0.readable).1
 
 pub add-requires : goal.add-requires
 add-requires c =
     (c.requires.0.modulus, rw c.value.ensures (c.requires.2.below.each _), rw c.value-in-Sum.ensures (c.requires.2.below.each _))
 
 pub value-requires-in-Difference : goal.value-requires-in-Difference
-value-requires-in-Difference c = (rw c.n-in-Difference-1.given.1 at c.requires.0.readable).0
+value-requires-in-Difference c = (rw c.in-Difference.is at c.requires.0.readable).0
 
 pub value-requires-in-Difference-2 : goal.value-requires-in-Difference-2
 value-requires-in-Difference-2 c =
-    (rw c.n-in-Difference-1.given.1 at c.requires.0.readable).1
+    (rw c.in-Difference.is at c.requires.0.readable).1
 
 pub sub-requires : goal.sub-requires
 sub-requires c =
     (c.requires.0.modulus, rw c.value-in-Difference.ensures (c.requires.2.below.each _), rw c.value-in-Difference-2.ensures (c.requires.2.below.each _))
 
 pub value-requires-in-Product : goal.value-requires-in-Product
-value-requires-in-Product c = (rw c.n-in-Product-1.given.1 at c.requires.0.readable).0
+value-requires-in-Product c = (rw c.in-Product.is at c.requires.0.readable).0
 
 pub value-requires-in-Product-2 : goal.value-requires-in-Product-2
 value-requires-in-Product-2 c =
-    (rw c.n-in-Product-1.given.1 at c.requires.0.readable).1
+    (rw c.in-Product.is at c.requires.0.readable).1
 
 pub mul-requires : goal.mul-requires
 mul-requires c =
     (c.requires.0.modulus, rw c.value-in-Product.ensures (c.requires.2.below.each _), rw c.value-in-Product-2.ensures (c.requires.2.below.each _))
 
 pub value-requires-in-Negation : goal.value-requires-in-Negation
-value-requires-in-Negation c = (rw c.n-in-Negation-1.given.1 at c.requires.0.readable)
+value-requires-in-Negation c = (rw c.in-Negation.is at c.requires.0.readable)
 
 pub neg-requires : goal.neg-requires
 neg-requires c =
@@ -78,66 +78,66 @@ neg-requires c =
 
 pub returns-in-Constant : goal.returns-in-Constant
 unfolding node_value window
-returns-in-Constant c = (rw c.n-1.given.1 at c.requires.0.readable, rw c.n-1.given.1)
+returns-in-Constant c = (rw c.in-Constant.is at c.requires.0.readable, rw c.in-Constant.is)
 
 pub returns-in-Main : goal.returns-in-Main
 unfolding node_value window
 returns-in-Main c =
     let t = c.requires.0 in
-    (rw c.read.ensures ((below_row _ _ t.rows.main_below).each _), rw c.n-in-Main-1.given.1 c.read.ensures)
+    (rw c.read.ensures ((below_row _ _ t.rows.main_below).each _), rw c.in-Main.is c.read.ensures)
 
 pub returns-in-Preprocessed : goal.returns-in-Preprocessed
 unfolding node_value window
 returns-in-Preprocessed c =
     let t = c.requires.0 in
-    (rw c.read-in-Preprocessed.ensures ((below_row _ _ t.rows.pre_below).each _), rw c.n-in-Preprocessed-1.given.1 c.read-in-Preprocessed.ensures)
+    (rw c.read-in-Preprocessed.ensures ((below_row _ _ t.rows.pre_below).each _), rw c.in-Preprocessed.is c.read-in-Preprocessed.ensures)
 
 pub returns-in-PublicValue : goal.returns-in-PublicValue
 unfolding node_value window
 returns-in-PublicValue c =
-    (c.requires.0.rows.public_below.each _, rw (c.n-in-PublicValue-1.given.1, c.to_usize-in-PublicValue.ensures.0))
+    (c.requires.0.rows.public_below.each _, rw (c.in-PublicValue.is, c.to_usize-in-PublicValue.ensures.0))
 
 pub returns-in-FirstRow : goal.returns-in-FirstRow
 unfolding node_value window
 returns-in-FirstRow c =
-    (omega (arith, c.requires.0.modulus.big, c.bit.ensures.0), rw c.enum_told-1.given.1 c.bit.ensures.1)
+    (omega (arith, c.requires.0.modulus.big, c.bit.ensures.0), rw c.in-FirstRow.is c.bit.ensures.1)
 
 pub returns-in-LastRow : goal.returns-in-LastRow
 unfolding node_value window
 returns-in-LastRow c =
-    (omega (arith, c.requires.0.modulus.big, c.bit-in-LastRow.ensures.0), rw c.enum_told-in-LastRow-1.given.1 c.bit-in-LastRow.ensures.1)
+    (omega (arith, c.requires.0.modulus.big, c.bit-in-LastRow.ensures.0), rw c.in-LastRow.is c.bit-in-LastRow.ensures.1)
 
 pub returns-in-Transition : goal.returns-in-Transition
 unfolding node_value window
 returns-in-Transition c =
-    (omega (arith, c.requires.0.modulus.big, c.bit-in-Transition.ensures.0), rw c.enum_told-in-Transition-1.given.1 c.bit-in-Transition.ensures.1)
+    (omega (arith, c.requires.0.modulus.big, c.bit-in-Transition.ensures.0), rw c.in-Transition.is c.bit-in-Transition.ensures.1)
 
 pub returns-in-Sum : goal.returns-in-Sum
 unfolding node_value window
 returns-in-Sum c = (
   c.add.ensures.0,
-  rw c.n-in-Sum-1.given.1 (c.add.ensures.1 ∙ ap₂ (add_m c.args.p) c.value.ensures c.value-in-Sum.ensures),
+  rw c.in-Sum.is (c.add.ensures.1 ∙ ap₂ (add_m c.args.p) c.value.ensures c.value-in-Sum.ensures),
 )
 
 pub returns-in-Difference : goal.returns-in-Difference
 unfolding node_value window
 returns-in-Difference c = (
   c.sub.ensures.0,
-  rw c.n-in-Difference-1.given.1 (c.sub.ensures.1 ∙ ap₂ (sub_m c.args.p) c.value-in-Difference.ensures c.value-in-Difference-2.ensures),
+  rw c.in-Difference.is (c.sub.ensures.1 ∙ ap₂ (sub_m c.args.p) c.value-in-Difference.ensures c.value-in-Difference-2.ensures),
 )
 
 pub returns-in-Product : goal.returns-in-Product
 unfolding node_value window
 returns-in-Product c = (
   c.mul.ensures.0,
-  rw c.n-in-Product-1.given.1 (c.mul.ensures.1 ∙ ap₂ (mul_m c.args.p) c.value-in-Product.ensures c.value-in-Product-2.ensures),
+  rw c.in-Product.is (c.mul.ensures.1 ∙ ap₂ (mul_m c.args.p) c.value-in-Product.ensures c.value-in-Product-2.ensures),
 )
 
 pub returns-in-Negation : goal.returns-in-Negation
 unfolding node_value window
 returns-in-Negation c =
-    (c.neg.ensures.0, rw c.n-in-Negation-1.given.1 (c.neg.ensures.1 ∙ ap (neg_m c.args.p) c.value-in-Negation.ensures))
+    (c.neg.ensures.0, rw c.in-Negation.is (c.neg.ensures.1 ∙ ap (neg_m c.args.p) c.value-in-Negation.ensures))
 
 pub returns-in-Unknown : goal.returns-in-Unknown
 unfolding node_value window
-returns-in-Unknown c = (omega (arith, c.requires.0.modulus.big), rw c.enum_told-in-Unknown-1.given.1)
+returns-in-Unknown c = (omega (arith, c.requires.0.modulus.big), rw c.in-Unknown.is)

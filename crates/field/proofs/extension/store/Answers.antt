@@ -15,7 +15,3 @@ bounds-out-3 c = simp length-set (omega arith)
 
 pub returns : goal.returns
 returns c = four-set c.args.out.now c.args.a.c0 c.args.a.c1 c.args.a.c2 c.args.a.c3 c.requires
-
--- LOST (no need same_length / same-length):
--- same_length : tie.Need-same-length
--- same_length c = simp length-set

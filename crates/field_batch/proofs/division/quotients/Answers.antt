@@ -5,22 +5,17 @@ use borrow.Author.Rules.{rules}
 use Rattle.field_batch.proofs.division.quotients.Goals as goal
 
 pub loop-i-init : goal.loop-i-init
-loop-i-init c = c.requires in dividing_begins t.0 (search rules) refl t.2 t.1 t.3
+loop-i-init c = let t = c.requires in dividing_begins t.0 (search rules) refl t.2 t.1 t.3
 
 pub step-s-requires : goal.step-s-requires
 step-s-requires c = let t = c.requires.0 in let s = c.loop-i.invariant in let k = dividing_step s c.loop-i-test.true refl c.load-d.ensures c.load-k.ensures in (t.modulus, t.low, t.certificate, k.0, k.1, k.2, s.below, k.3, k.4)
 
 pub store-requires : goal.store-requires
-store-requires c = 
-    
+store-requires c =
     dividing_part c.loop-i.invariant c.loop-i-test.true
 
 pub loop-i-preserved : goal.loop-i-preserved
-loop-i-preserved c = 
-    
-    
-    
-    
+loop-i-preserved c =
     dividing_turn c.loop-i.invariant c.loop-i-test.true refl c.load-d.ensures c.load-k.ensures _ c.step-s.ensures c.store.ensures
 
 pub returns : goal.returns

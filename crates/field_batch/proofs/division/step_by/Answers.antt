@@ -3,7 +3,7 @@ use borrow.Author.Rules.{rules}
 use Rattle.field_batch.proofs.division.step_by.Goals as goal
 
 pub returns-then-m-eq0 : goal.returns-then-m-eq0
-returns-then-m-eq0 c = ?REC(Start) in let e = step-out s.args.p s.args.w s.args.m s.args.inverse s.args.d s.args.k s.requires.6 c.if-m-eq0.true s.requires.7 s.requires.8 in (s.requires.6, e.0, e.1)
+returns-then-m-eq0 c = let e = step-out c.args.p c.args.w c.args.m c.args.inverse c.args.d c.args.k c.requires.6 c.if-m-eq0.true c.requires.7 c.requires.8 in (c.requires.6, e.0, e.1)
 
 pub cofactor_times-requires : goal.cofactor_times-requires
 cofactor_times-requires c = let e = words-kept c.args.p c.args.w c.args.m _ c.args.d c.args.k c.if-m-eq0.false c.requires.7 in (c.requires.0, c.requires.1, c.requires.2, c.requires.4, c.requires.5.w0, c.requires.5.w1, c.times-t.ensures.0, e.0, e.1)

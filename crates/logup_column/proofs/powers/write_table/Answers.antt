@@ -22,7 +22,3 @@ loop-i-preserved c =
 
 pub returns : goal.returns
 returns c = table_loop_ends c.loop-i.invariant (search rules)
-
--- LOST (no need same_length / same-length):
--- same_length : tie.Need-same-length invariant-loop decreases-loop
--- same_length c = omega (arith, c.before.loop.invariant.len)

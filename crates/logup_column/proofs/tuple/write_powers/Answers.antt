@@ -21,7 +21,3 @@ loop-e-preserved c =
 
 pub returns : goal.returns
 returns c = powers_loop_ends c.loop-e.invariant (search rules)
-
--- LOST (no need same_length / same-length):
--- same_length : tie.Need-same-length invariant-loop decreases-loop
--- same_length c = omega (arith, c.before.loop.invariant.len, c.before.before.before.requires.3)

@@ -4,8 +4,8 @@ use borrow.Author.Rules.{rules}
 use Rattle.logup_constraints.proofs.eval_all.terminal_below.Goals as goal
 
 pub returns-in-Absent : goal.returns-in-Absent
-returns-in-Absent c = rw c.enum_told-1.given.1
+returns-in-Absent c = rw c.in-Absent.is
 
 pub returns-in-Given : goal.returns-in-Given
 unfolding all_below every
-returns-in-Given c = rw c.terminal-1.given.1
+returns-in-Given c = rw c.in-Given.is

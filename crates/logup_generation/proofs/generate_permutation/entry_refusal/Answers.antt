@@ -6,15 +6,15 @@ use Rattle.logup_generation.proofs.generate_permutation.entry_refusal.Goals as g
 
 pub trace_refusal-requires : goal.trace_refusal-requires
 trace_refusal-requires c =
-    let s = tested _ _ _ _ _ (sym (accepted-answer c.enum_told-1.given.1 c.table_refusal-verdict.ensures)) in
+    let s = tested _ _ _ _ _ (sym (accepted-answer c.in-Accepted.is c.table_refusal-verdict.ensures)) in
     (tested-height c.requires s, tested-lookups c.requires s)
 
 pub returns-in-Refused : goal.returns-in-Refused
 returns-in-Refused c =
-    entry-some _ _ _ _ _ _ refl c.all_below.ensures _ (refused-answer _ c.verdict-1.given.1
+    entry-some _ _ _ _ _ _ refl c.all_below.ensures _ (refused-answer _ c.in-Refused.is
     c.table_refusal-verdict.ensures)
 
 pub returns-in-Accepted : goal.returns-in-Accepted
 returns-in-Accepted c =
-    entry_none _ _ _ _ _ _ refl c.all_below.ensures (accepted-answer c.enum_told-1.given.1
+    entry_none _ _ _ _ _ _ refl c.all_below.ensures (accepted-answer c.in-Accepted.is
     c.table_refusal-verdict.ensures) c.trace_refusal.ensures

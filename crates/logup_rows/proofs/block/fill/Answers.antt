@@ -128,9 +128,3 @@ returns c = fill_loop_ends c.loop-j.invariant.0 (search rules)
 -- LOST (no need enum-told-2 / enum-told-2):
 -- enum-told-2 : tie.Need-enum-told-2 invariant-loop decreases-loop
 -- enum-told-2 c = c.match.keys2
--- LOST (no need same_length / same-length):
--- same_length : tie.Need-same-length invariant-loop decreases-loop
--- same_length c = c.before.loop.invariant.0.ms_len
--- LOST (no need same-length-2 / same-length-2):
--- same-length-2 : tie.Need-same-length-2 invariant-loop decreases-loop
--- same-length-2 c = c.before.loop.invariant.0.ds_len

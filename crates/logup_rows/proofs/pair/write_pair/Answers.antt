@@ -83,26 +83,3 @@ returns c =
     c.write_row_terms-fault.ensures in
     two_rows t c.if-n-lt2.false c.requires.5 _ c.write_row_terms-other.result c.write_row_terms-other.ensures c.write_row_terms-fault.result
     c.first.result c.write_row_terms-fault.ensures.fault≡ c.first.ensures
-
--- LOST (no need same-length-3 / same-length-3):
--- same-length-3 : tie.Need-same-length-3
--- same-length-3 c =
---     let at_5 = c.before.before.before.before.before in
---     let at_8 = at_5.before.before.before in
---     let at-13 = at_8.before.before.before.before.before in
---     let at-27 = at-13.before.before.before.before.before.before.before.before.before.before.before.before.before.before in
---     let t = first-row _ _ at-13.write-row-terms.result (lent at-27.args.term-multiplicities.now at-27.args.term-denominators.now
---     (omega (arith, at-27.well-formed)) at-27.requires.4 at-27.requires.6 at-27.requires.7) at-27.requires.0.lists.fitting.tuples
---     at-13.write-row-terms.ensures in
---     ms_back t at_8.if1.false at-27.requires.5 _ at_5.write-row-terms2.result at_5.write-row-terms2.ensures
--- LOST (no need same-length-4 / same-length-4):
--- same-length-4 : tie.Need-same-length-4
--- same-length-4 c =
---     let at_5 = c.before.before.before.before.before in
---     let at_8 = at_5.before.before.before in
---     let at-13 = at_8.before.before.before.before.before in
---     let at-27 = at-13.before.before.before.before.before.before.before.before.before.before.before.before.before.before in
---     let t = first-row _ _ at-13.write-row-terms.result (lent at-27.args.term-multiplicities.now at-27.args.term-denominators.now
---     (omega (arith, at-27.well-formed)) at-27.requires.4 at-27.requires.6 at-27.requires.7) at-27.requires.0.lists.fitting.tuples
---     at-13.write-row-terms.ensures in
---     ds_back t at_8.if1.false at-27.requires.5 _ at_5.write-row-terms2.result at_5.write-row-terms2.ensures

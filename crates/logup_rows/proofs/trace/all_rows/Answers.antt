@@ -56,7 +56,3 @@ loop-r-preserved c =
 
 pub returns : goal.returns
 returns c = rows_loop_ends c.loop-r.invariant (search rules)
-
--- LOST (no need same_length / same-length):
--- same_length : tie.Need-same-length invariant-loop decreases-loop
--- same_length c = omega (arith, c.before.loop.invariant.len)

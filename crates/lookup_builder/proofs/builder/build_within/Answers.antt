@@ -47,11 +47,11 @@ returns-in-Refused c =
     let args = c.args in
     let given = lent_interactions args.interactions.now args.weights.now args.names.now args.tuples.now args.multiplicities.now args.flags.now args.elements.now in
     answer-refused args.limits args.p args.columns args.nodes.now args.kinds given args.lookups.now c.building_fits.ensures
-    c.if-not-building_fits.false c.built_verdict-verdict.ensures c.verdict-1.given.1
+    c.if-not-building_fits.false c.built_verdict-verdict.ensures c.in-Refused.is
 
 pub returns-in-Accepted : goal.returns-in-Accepted
 returns-in-Accepted c =
     let args = c.args in
     let given = lent_interactions args.interactions.now args.weights.now args.names.now args.tuples.now args.multiplicities.now args.flags.now args.elements.now in
     answer-built args.limits args.p args.columns args.nodes.now args.kinds given args.lookups.now c.building_fits.ensures
-    c.if-not-building_fits.false c.built_verdict-verdict.ensures c.enum_told-1.given.1 c.interaction_count.ensures c.write_lookups.ensures
+    c.if-not-building_fits.false c.built_verdict-verdict.ensures c.in-Accepted.is c.interaction_count.ensures c.write_lookups.ensures

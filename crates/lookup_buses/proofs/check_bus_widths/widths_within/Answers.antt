@@ -27,10 +27,10 @@ pub returns-in-Accepted : goal.returns-in-Accepted
 returns-in-Accepted c =
     let args = c.args in
     let tables = lent_bus_tables args.lookups.now args.names.now args.tuples.now args.sizes.now in
-    answer-widest args.limits tables c.all_fit.ensures c.if-not-all_fit.false c.all_agree.ensures c.if-not-all_agree.false c.bus_widths-verdict.ensures c.enum_told-1.given.1 c.widest.ensures c.to_u64.ensures.0
+    answer-widest args.limits tables c.all_fit.ensures c.if-not-all_fit.false c.all_agree.ensures c.if-not-all_agree.false c.bus_widths-verdict.ensures c.in-Accepted.is c.widest.ensures c.to_u64.ensures.0
 
 pub returns-in-Refused : goal.returns-in-Refused
 returns-in-Refused c =
     let args = c.args in
     let tables = lent_bus_tables args.lookups.now args.names.now args.tuples.now args.sizes.now in
-    answer-refused args.limits tables c.all_fit.ensures c.if-not-all_fit.false c.all_agree.ensures c.if-not-all_agree.false c.bus_widths-verdict.ensures c.verdict-1.given.1
+    answer-refused args.limits tables c.all_fit.ensures c.if-not-all_fit.false c.all_agree.ensures c.if-not-all_agree.false c.bus_widths-verdict.ensures c.in-Refused.is

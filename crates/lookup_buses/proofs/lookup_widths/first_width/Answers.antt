@@ -2,4 +2,4 @@ use borrow.Author.Rules.{rules}
 use Rattle.lookup_buses.proofs.lookup_widths.first_width.Goals as goal
 
 pub returns-in-Width : goal.returns-in-Width
-returns-in-Width c = rw c.a-1.given.1
+returns-in-Width c = rw c.in-Width.is

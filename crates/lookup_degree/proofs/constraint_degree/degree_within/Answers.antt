@@ -15,7 +15,7 @@ degree_of-requires c =
     let args = c.args in
     let own = lent_lookups args.lookups.now args.names.now args.tuples.now args.multiplicities.now args.flags.now args.elements.now in (
       formed args.limits args.p args.columns args.nodes.now own c.requires (sym c.form_refusal-verdict.ensures ∙ ap refusal
-          c.enum_told-1.given.1),
+          c.in-Accepted.is),
       (degree_asked args.limits args.p args.columns args.nodes.now own args.i args.t c.if-not-t-i.false).0,
       (degree_asked args.limits args.p args.columns args.nodes.now own args.i args.t c.if-not-t-i.false).1,
     )
@@ -24,10 +24,10 @@ pub returns-in-Accepted : goal.returns-in-Accepted
 returns-in-Accepted c =
     let args = c.args in
     let own = lent_lookups args.lookups.now args.names.now args.tuples.now args.multiplicities.now args.flags.now args.elements.now in
-    degree-given args.limits args.p args.columns args.nodes.now own args.i args.t c.if-not-t-i.false c.form_refusal-verdict.ensures c.enum_told-1.given.1 c.degree_of.ensures
+    degree-given args.limits args.p args.columns args.nodes.now own args.i args.t c.if-not-t-i.false c.form_refusal-verdict.ensures c.in-Accepted.is c.degree_of.ensures
 
 pub returns-in-Refused : goal.returns-in-Refused
 returns-in-Refused c =
     let args = c.args in
     let own = lent_lookups args.lookups.now args.names.now args.tuples.now args.multiplicities.now args.flags.now args.elements.now in
-    degree_refused args.limits args.p args.columns args.nodes.now own args.i args.t c.if-not-t-i.false c.form_refusal-verdict.ensures c.verdict-1.given.1
+    degree_refused args.limits args.p args.columns args.nodes.now own args.i args.t c.if-not-t-i.false c.form_refusal-verdict.ensures c.in-Refused.is

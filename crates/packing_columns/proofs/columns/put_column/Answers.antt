@@ -24,7 +24,3 @@ bounds-out-8 c =
 pub returns : goal.returns
 returns c =
     column_put c.args.out.now c.args.lookups.now c.args.k c.args.column c.requires.0 c.on_bus.ensures c.mark-scope.ensures c.name_length-name.ensures c.low_half.ensures c.exclusive.ensures c.mark-exclusive.ensures c.saturate_u32.ensures c.saturate_u32-2.ensures c.saturate_u32-3.ensures c.high_half.ensures
-
--- LOST (no need same_length / same-length):
--- same_length : tie.Need-same-length
--- same_length c = simp length-set

@@ -5,14 +5,14 @@ use Rattle.packing_columns.proofs.layout.plan_refusal.Goals as goal
 pub returns-in-Refused : goal.returns-in-Refused
 returns-in-Refused c =
     let args = c.args in
-    refuse_widths args.over args.lookups.now args.names.now args.tuples.now c.table_widths-verdict.ensures c.verdict-1.given.1
+    refuse_widths args.over args.lookups.now args.names.now args.tuples.now c.table_widths-verdict.ensures c.in-Refused.is
 
 pub returns-then-over : goal.returns-then-over
 returns-then-over c =
     let args = c.args in
-    refuse_over args.over args.lookups.now args.names.now args.tuples.now c.table_widths-verdict.ensures c.enum_told-1.given.1 c.if-over.true
+    refuse_over args.over args.lookups.now args.names.now args.tuples.now c.table_widths-verdict.ensures c.in-Accepted.is c.if-over.true
 
 pub returns-else-over : goal.returns-else-over
 returns-else-over c =
     let args = c.args in
-    refuse_none args.over args.lookups.now args.names.now args.tuples.now c.table_widths-verdict.ensures c.enum_told-1.given.1 c.if-over.false
+    refuse_none args.over args.lookups.now args.names.now args.tuples.now c.table_widths-verdict.ensures c.in-Accepted.is c.if-over.false

@@ -65,9 +65,3 @@ write_list-requires-4 c =
 pub returns : goal.returns
 returns c =
     λ j. lent_lookups (c.copy.ensures j) (c.write_names.ensures j) (c.write_list.ensures j) (c.write_list-2.ensures j) (c.write_list-3.ensures j) (c.write_list-4.ensures j)
-
--- LOST (no need same_length / same-length):
--- same_length : tie.Need-same-length
--- same_length c =
---     let at-31 = c.before.before.before.before.before.before.before.before.before.before.before.before.before.before.before.before.before.before.before.before.before.before.before.before.before.before.before.before.before.before.before in
---     omega (arith, at-31.lookups-out.given)

@@ -12,17 +12,17 @@ element_start-requires c =
 pub returns-in-Names : goal.returns-in-Names
 unfolding list_start
 returns-in-Names c =
-    (rw c.enum_told-1.given.1 c.name_start.ensures.0, omega (arith, c.name_start.ensures.1, c.requires.0.few, c.requires.1))
+    (rw c.in-Names.is c.name_start.ensures.0, omega (arith, c.name_start.ensures.1, c.requires.0.few, c.requires.1))
 
 pub returns-in-Tuples : goal.returns-in-Tuples
 unfolding list_start
 returns-in-Tuples c =
-    (rw c.enum_told-in-Tuples-1.given.1 c.tuple_start.ensures.0, omega (arith, c.tuple_start.ensures.1, c.requires.0.few, c.requires.1))
+    (rw c.in-Tuples.is c.tuple_start.ensures.0, omega (arith, c.tuple_start.ensures.1, c.requires.0.few, c.requires.1))
 
 pub returns-in-Multiplicities : goal.returns-in-Multiplicities
 unfolding list_start
 returns-in-Multiplicities c = (
-  rw c.enum_told-in-Multiplicities-1.given.1 c.multiplicity_start.ensures.0,
+  rw c.in-Multiplicities.is c.multiplicity_start.ensures.0,
   omega (
     arith,
     c.multiplicity_start.ensures.1,
@@ -34,12 +34,12 @@ returns-in-Multiplicities c = (
 pub returns-in-Flags : goal.returns-in-Flags
 unfolding list_start
 returns-in-Flags c =
-    (rw c.enum_told-in-Flags-1.given.1 c.flag_start.ensures.0, omega (arith, c.flag_start.ensures.1, c.requires.0.few, c.requires.1))
+    (rw c.in-Flags.is c.flag_start.ensures.0, omega (arith, c.flag_start.ensures.1, c.requires.0.few, c.requires.1))
 
 pub returns-in-Elements : goal.returns-in-Elements
 unfolding list_start
 returns-in-Elements c = (
-  rw c.enum_told-in-Elements-1.given.1 (c.element_start.ensures.0 ∙ ap (element_start c.args.tuples.now) c.tuple_start-in-Elements.ensures.0),
+  rw c.in-Elements.is (c.element_start.ensures.0 ∙ ap (element_start c.args.tuples.now) c.tuple_start-in-Elements.ensures.0),
   omega (
     arith,
     c.element_start.ensures.1,

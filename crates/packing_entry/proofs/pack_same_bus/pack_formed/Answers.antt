@@ -16,11 +16,11 @@ returns-in-Refused c =
     let lent = lent_lookups args.lookups-out.now args.names-out.now args.tuples-out.now args.multiplicities-out.now args.flags-out.now args.elements-out.now in
     let own = lent_lookups args.lookups.now args.names.now args.tuples.now args.multiplicities.now args.flags.now args.elements.now in
     refused_is args.limit args.nodes.now own lent c.plan_of-plan.ensures c.plan_refusal-verdict.result (same-refusal
-    args.limit args.nodes.now own lent c.plan_of-plan.ensures c.plan_refusal-verdict.result c.plan_refusal-verdict.ensures) c.verdict-1.given.1
+    args.limit args.nodes.now own lent c.plan_of-plan.ensures c.plan_refusal-verdict.result c.plan_refusal-verdict.ensures) c.in-Refused.is
 
 pub returns-in-Accepted : goal.returns-in-Accepted
 returns-in-Accepted c =
     let args = c.args in
     let lent = lent_lookups args.lookups-out.now args.names-out.now args.tuples-out.now args.multiplicities-out.now args.flags-out.now args.elements-out.now in
     let own = lent_lookups args.lookups.now args.names.now args.tuples.now args.multiplicities.now args.flags.now args.elements.now in
-    packed_is args.limit args.nodes.now own lent c.plan_of-plan.ensures c.counts_of-counts.ensures (accepted_is args.limit args.nodes.now own lent c.plan_of-plan.ensures c.plan_refusal-verdict.result (same-refusal args.limit args.nodes.now own lent c.plan_of-plan.ensures c.plan_refusal-verdict.result c.plan_refusal-verdict.ensures) c.enum_told-1.given.1) c.write_all.ensures
+    packed_is args.limit args.nodes.now own lent c.plan_of-plan.ensures c.counts_of-counts.ensures (accepted_is args.limit args.nodes.now own lent c.plan_of-plan.ensures c.plan_refusal-verdict.result (same-refusal args.limit args.nodes.now own lent c.plan_of-plan.ensures c.plan_refusal-verdict.result c.plan_refusal-verdict.ensures) c.in-Accepted.is) c.write_all.ensures

@@ -19,7 +19,7 @@ pack_formed-requires c =
     let args = c.args in
     let lent = lent_lookups args.lookups-out.now args.names-out.now args.tuples-out.now args.multiplicities-out.now args.flags-out.now args.elements-out.now in
     let own = lent_lookups args.lookups.now args.names.now args.tuples.now args.multiplicities.now args.flags.now args.elements.now in
-    let none_refused = sym c.form_refusal-verdict.ensures ∙ ap refusal c.enum_told-1.given.1 in
+    let none_refused = sym c.form_refusal-verdict.ensures ∙ ap refusal c.in-Accepted.is in
     let f : Formed args.limits args.nodes.now own = formed args.limits args.p args.columns args.nodes.now own c.requires none_refused in (
       f,
       whole args.limits args.p args.columns args.nodes.now own c.requires f none_refused,
@@ -31,7 +31,7 @@ returns-in-Refused c =
     let args = c.args in
     let lent = lent_lookups args.lookups-out.now args.names-out.now args.tuples-out.now args.multiplicities-out.now args.flags-out.now args.elements-out.now in
     let own = lent_lookups args.lookups.now args.names.now args.tuples.now args.multiplicities.now args.flags.now args.elements.now in
-    answer-refused args.limits args.p args.limit args.columns args.nodes.now own lent c.counts_hold.ensures c.if-not-counts_hold.false c.form_refusal-verdict.ensures c.verdict-1.given.1
+    answer-refused args.limits args.p args.limit args.columns args.nodes.now own lent c.counts_hold.ensures c.if-not-counts_hold.false c.form_refusal-verdict.ensures c.in-Refused.is
 
 pub returns-in-Accepted : goal.returns-in-Accepted
 returns-in-Accepted c =
@@ -39,4 +39,4 @@ returns-in-Accepted c =
     let lent = lent_lookups args.lookups-out.now args.names-out.now args.tuples-out.now args.multiplicities-out.now args.flags-out.now args.elements-out.now in
     let own = lent_lookups args.lookups.now args.names.now args.tuples.now args.multiplicities.now args.flags.now args.elements.now in
     answer_formed args.limits args.p args.limit args.columns args.nodes.now own lent c.counts_hold.ensures c.if-not-counts_hold.false
-    c.form_refusal-verdict.ensures c.enum_told-1.given.1 c.pack_formed.ensures
+    c.form_refusal-verdict.ensures c.in-Accepted.is c.pack_formed.ensures
