@@ -15,8 +15,8 @@ loop-k-init c =
 pub loop-k-preserved : goal.loop-k-preserved
 loop-k-preserved c =
     elim c.if-same_group.branch [
-      then-same_group w ↦ group_loop_one c.loop-k.invariant c.loop-k-test.true c.same_group.ensures w.if-same_group.true w.accumulate_lookup-next.ensures w.workspace-is w.v-is (c.to_usize-at.ensures.0 ∙ c.name_length.ensures) c.to_usize-at.ensures.1
-    | else-same_group w ↦ group_loop_none c.loop-k.invariant c.loop-k-test.true c.same_group.ensures w.if-same_group.false w.workspace-is w.v-is (c.to_usize-at.ensures.0 ∙ c.name_length.ensures) c.to_usize-at.ensures.1
+      | then-same_group w ↦ group_loop_one c.loop-k.invariant c.loop-k-test.true c.same_group.ensures w.if-same_group.true w.accumulate_lookup-next.ensures w.workspace-is w.v-is (c.to_usize-at.ensures.0 ∙ c.name_length.ensures) c.to_usize-at.ensures.1
+      | else-same_group w ↦ group_loop_none c.loop-k.invariant c.loop-k-test.true c.same_group.ensures w.if-same_group.false w.workspace-is w.v-is (c.to_usize-at.ensures.0 ∙ c.name_length.ensures) c.to_usize-at.ensures.1
     ]
 
 pub returns : goal.returns

@@ -15,8 +15,8 @@ loop-m-init c =
 pub loop-m-preserved : goal.loop-m-preserved
 loop-m-preserved c =
     elim c.if-starts_group-accepted.branch [
-      then-starts_group-accepted w ↦ kind_loop_one c.loop-m.invariant c.loop-m-test.true c.starts_group.ensures c.accepted.ensures w.if-starts_group-accepted.true w.check_group-next.ensures w.check_group-next.auto.workspace w.workspace-is w.checked-is
-    | else-starts_group-accepted w ↦ kind_loop_none c.loop-m.invariant c.loop-m-test.true c.starts_group.ensures c.accepted.ensures w.if-starts_group-accepted.false w.workspace-is w.checked-is
+      | then-starts_group-accepted w ↦ kind_loop_one c.loop-m.invariant c.loop-m-test.true c.starts_group.ensures c.accepted.ensures w.if-starts_group-accepted.true w.check_group-next.ensures w.check_group-next.auto.workspace w.workspace-is w.checked-is
+      | else-starts_group-accepted w ↦ kind_loop_none c.loop-m.invariant c.loop-m-test.true c.starts_group.ensures c.accepted.ensures w.if-starts_group-accepted.false w.workspace-is w.checked-is
     ]
 
 pub returns : goal.returns
