@@ -86,6 +86,7 @@ module _ {A : Type 0} where
 
   pub position_in : {a : A} (f : A → Bool) (xs : List A) → Memᴰ a xs → f a ≡ true → position f xs < length xs
   unfolding position
+  position_in {a} f [] m t = elim m [ ]
   position_in {a} f (x ∷ xs) (Memᴰ.head e) t = rw (ap f (sym e) ∙ t) (omega arith)
   position_in {a} f (x ∷ xs) (Memᴰ.tail m) t = go (f x) (position_in f xs m t)
     where

@@ -33,6 +33,13 @@ pub slice_bounds-add_tuple-end : goal.slice_bounds-add_tuple-end
 slice_bounds-add_tuple-end c =
     ends_in c.requires.3 c.loop-k-test.true c.loop-k.invariant.here c.to_usize.ensures.0
 
+pub offset_bounds-elements-at : goal.offset_bounds-elements-at
+offset_bounds-elements-at c =
+    omega (
+      arith,
+      ends_in c.requires.3 c.loop-k-test.true c.loop-k.invariant.here c.to_usize.ensures.0,
+    )
+
 pub add_tuple-next-requires : goal.add_tuple-next-requires
 add_tuple-next-requires c =
     (search rules, part-narrow _ _ c.to_usize.ensures.0 (c.requires.3.narrow _), c.loop-k.invariant.ready)

@@ -1,6 +1,5 @@
 use lib.ListN.{replicate}
 use mathlib.Core.List.{[]}
-use mathlib.Core.Logic.{⊎_elim}
 use mathlib.Core.Path.{◌≡◌, refl, sym, ap, ◌∙◌}
 use native.Mathlib.Omega.{arith}
 use Prim.Native.Nat.{◌-◌}
@@ -13,6 +12,7 @@ use Rattle.logup_rows.proofs.WriteRowLoops.{next-values, nothing_refused}
 use Rattle.logup_rows.proofs.FillLoops.{FillLoop, fill_loop_begins, ms_in, ds_in, ms_part, ds_part, fill_loop_turn, fill_loop_ends}
 use borrow.Author.Rules.{rules}
 use Rattle.logup_rows.proofs.block.fill.Goals as goal
+use Rattle.logup_rows.proofs.block.fill.Goals.{in-Accepted, in-Refused}
 
 pub loop-j-init : goal.loop-j-init
 loop-j-init c = (
@@ -102,16 +102,18 @@ slice_bounds-next_vals-end c =
 
 pub overflow_add-j : goal.overflow_add-j
 overflow_add-j c =
-    omega (arith, c.loop-j.inv.0.low, c.pair_rows-n.ensures.2)
+    omega (arith, c.loop-j.invariant.0.low, c.pair_rows-n.ensures.2)
 
 pub loop-j-smaller : goal.loop-j-smaller
 loop-j-smaller c =
-    omega (arith, c.loop-j-test.taken, c.pair_rows-n.ensures.0)
+    omega (arith, c.loop-j-test.true, c.pair_rows-n.ensures.0)
 
 pub loop-j-preserved : goal.loop-j-preserved
 loop-j-preserved c =
-    let e : refusal c.match-fault.verdict ≡ or_else (refusal c.loop-j.verdict) (refusal c.write_pair-fault.result) = ⊎_elim
-    (λ w. ap refusal w.2 ∙ nothing_refused _ _ w.1.given.1) (λ w. ap refusal w.3 ∙ w.2.ensures) c.match-fault.branch in (
+    let e : refusal c.match-fault.verdict ≡ or_else (refusal c.loop-j.verdict) (refusal c.write_pair-fault.result) = elim c.match-fault.branch [
+      | in-Accepted w ↦ ap refusal w.verdict-is ∙ nothing_refused _ _ w.in-Accepted.is
+      | in-Refused w ↦ ap refusal w.verdict-is ∙ w.first-verdict.ensures
+    ] in (
       fill_loop_turn c.loop-j.invariant.0 c.pair_rows-n.result c.pair_rows-n.ensures.2 {verdict' = c.match-fault.verdict} _ _
           c.write_pair-fault.result (c.write_pair-fault.ensures _ (sym (vals_are _ _ _ _ c.pair_values.ensures.1)) (λ h. next-values _ _ _ _
           c.pair_values.ensures.3 (omega (arith, c.requires.2, c.pair_rows-n.ensures.2)))) e,
@@ -121,10 +123,3 @@ loop-j-preserved c =
 
 pub returns : goal.returns
 returns c = fill_loop_ends c.loop-j.invariant.0 (search rules)
-
--- LOST (no need enum_told / enum-told):
--- enum_told : tie.Need-enum-told invariant-loop decreases-loop
--- enum_told c = c.match.keys1
--- LOST (no need enum-told-2 / enum-told-2):
--- enum-told-2 : tie.Need-enum-told-2 invariant-loop decreases-loop
--- enum-told-2 c = c.match.keys2

@@ -2,7 +2,6 @@ use Rattle.logup_rows.proofs.RowLoops.{LookupsLoop, lookups_loop_begins, ms_part
 use native.Mathlib.Omega.{arith}
 use Prim.Native.Nat.{◌-◌}
 use mathlib.Core.Path.{◌≡◌, refl, ap, ◌∙◌}
-use mathlib.Core.Logic.{⊎_elim}
 use Rattle.lists.specs.Count.{or_else}
 use Rattle.expression.specs.Refusal.{refusal}
 use Rattle.logup.specs.Rows.{fault_refusal}

@@ -35,7 +35,7 @@ eval_accumulator-requires c = (
 )
 
 pub returns : goal.returns
-returns c =
+returns c values h =
     row_is _ _ _ _ values _ _ _ _ _ (refusal c.eval_fractions-fractions.result.verdict) (refusal c.eval_accumulator.result) c.requires.5
     (sym h) c.eval_fractions-fractions.ensures.sum≡ c.eval_fractions-fractions.ensures.verdict≡
     c.load-accumulator.ensures refl c.eval_accumulator.ensures c.first.ensures

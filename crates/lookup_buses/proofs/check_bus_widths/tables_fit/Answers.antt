@@ -48,6 +48,12 @@ pub slice_bounds-table_fits-end-in-loop-t-2 : goal.slice_bounds-table_fits-end-i
 slice_bounds-table_fits-end-in-loop-t-2 c =
     (lies c.requires.1 c.loop-t-test.true c.spans_of-s.ensures).tuples_end
 
+pub offset_bounds-lookups-lookups_start : goal.offset_bounds-lookups-lookups_start
+offset_bounds-lookups-lookups_start c = omega (arith, (lies c.requires.1 c.loop-t-test.true c.spans_of-s.ensures).lookups, (lies c.requires.1 c.loop-t-test.true c.spans_of-s.ensures).lookups_end)
+
+pub offset_bounds-tuples-tuples_start : goal.offset_bounds-tuples-tuples_start
+offset_bounds-tuples-tuples_start c = omega (arith, (lies c.requires.1 c.loop-t-test.true c.spans_of-s.ensures).tuples, (lies c.requires.1 c.loop-t-test.true c.spans_of-s.ensures).tuples_end)
+
 pub loop-t-preserved : goal.loop-t-preserved
 loop-t-preserved c =
     test_turn c.loop-t.invariant (search rules) (ap (λ (b : Bool). c.loop-t.ok && b) (c.table_fits-ok.ensures ∙ ap (table_fits c.args.limits)

@@ -11,7 +11,7 @@ use borrow.Author.Rules.{rules}
 use Rattle.lookup_buses.proofs.lookup_widths.tuples_verdict.Given as goal
 
 abbrev pub invariant-loop-k : goal.invariant-loop-k
-invariant-loop-k l = Finding (λ l.k. tuple_refusal l.i (width_option l.expected) (tuple_width l.lookups l.tuples l.i l.k)) l.n l.k (refusal l.verdict)
+invariant-loop-k l = Finding (λ k. tuple_refusal l.i (width_option l.expected) (tuple_width l.lookups l.tuples l.i k)) l.n l.k (refusal l.verdict)
 
 abbrev pub decreases-loop-k : goal.decreases-loop-k
 decreases-loop-k l = l.n - l.k

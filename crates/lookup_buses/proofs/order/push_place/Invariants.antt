@@ -1,5 +1,4 @@
 use Rattle.lookup_buses.proofs.Loops.{Pushing, pushing_begins, pushing_room, pushing_yes, pushing_no, pushing_ends}
-use mathlib.Core.Logic.{⊎_elim}
 use Prim.Native.Nat.{◌-◌}
 use borrow.Author.Rules.{rules}
 use Rattle.lookup_buses.proofs.order.push_place.Given as goal

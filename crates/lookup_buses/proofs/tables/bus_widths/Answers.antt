@@ -54,6 +54,12 @@ pub table_verdict-other-requires : goal.table_verdict-other-requires
 table_verdict-other-requires c =
     (c.requires, owned c.requires c.loop-t-test.true c.spans_of-s.ensures)
 
+pub offset_bounds-lookups-lookups_start : goal.offset_bounds-lookups-lookups_start
+offset_bounds-lookups-lookups_start c = omega (arith, (lies c.requires.spanned c.loop-t-test.true c.spans_of-s.ensures).lookups, (lies c.requires.spanned c.loop-t-test.true c.spans_of-s.ensures).lookups_end)
+
+pub offset_bounds-tuples-tuples_start : goal.offset_bounds-tuples-tuples_start
+offset_bounds-tuples-tuples_start c = omega (arith, (lies c.requires.spanned c.loop-t-test.true c.spans_of-s.ensures).tuples, (lies c.requires.spanned c.loop-t-test.true c.spans_of-s.ensures).tuples_end)
+
 pub loop-t-preserved : goal.loop-t-preserved
 loop-t-preserved c =
     let args = c.args in

@@ -12,7 +12,7 @@ use borrow.Author.Rules.{rules}
 use Rattle.lookup_buses.proofs.tables.bus_widths.Given as goal
 
 abbrev pub invariant-loop-t : goal.invariant-loop-t
-invariant-loop-t l = Finding (λ l.t. table_refusal (tables_of (lent_bus_tables l.lookups l.names l.tuples l.sizes)) (table_at (lent_bus_tables l.lookups l.names l.tuples l.sizes) l.t)) (table_count bus_sizes
+invariant-loop-t l = Finding (λ t. table_refusal (tables_of (lent_bus_tables l.lookups l.names l.tuples l.sizes)) (table_at (lent_bus_tables l.lookups l.names l.tuples l.sizes) t)) (table_count bus_sizes
     l.sizes) l.t (refusal l.verdict)
 
 abbrev pub decreases-loop-t : goal.decreases-loop-t

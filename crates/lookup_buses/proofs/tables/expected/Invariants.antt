@@ -12,7 +12,7 @@ use borrow.Author.Rules.{rules}
 use Rattle.lookup_buses.proofs.tables.expected.Given as goal
 
 abbrev pub invariant-loop-t : goal.invariant-loop-t
-invariant-loop-t l = Finding (λ l.t. width_in_table l.bus (table_at (lent_bus_tables l.lookups l.names l.tuples l.sizes) l.t)) (table_count bus_sizes l.sizes) l.t (width_option l.found)
+invariant-loop-t l = Finding (λ t. width_in_table l.bus (table_at (lent_bus_tables l.lookups l.names l.tuples l.sizes) t)) (table_count bus_sizes l.sizes) l.t (width_option l.found)
 
 abbrev pub decreases-loop-t : goal.decreases-loop-t
 decreases-loop-t l = table_count bus_sizes l.sizes - l.t

@@ -24,4 +24,4 @@ pub returns : goal.returns
 returns c =
     let args = c.args in
     let tables = lent_bus_tables args.lookups.now args.names.now args.tuples.now args.sizes.now in
-    verdict-bus (tables_of tables) args.own-lookups.now args.own-names.now args.own-tuples.now args.i c.on_bus.ensures c.if-not-on_bus.false (c.expected-width.ensures ∙ ap (λ (x : List ℕ). expected (tables_of tables) x) (name_is args.own-lookups.now args.own-names.now args.i c.name_start-start.ensures.0 (c.to_usize.ensures.0 ∙ c.name_length.ensures) refl)) c.tuples_verdict.ensures
+    verdict-bus (tables_of tables) args.own_lookups.now args.own_names.now args.own_tuples.now args.i c.on_bus.ensures c.if-not-on_bus.false (c.expected-width.ensures ∙ ap (λ (x : List ℕ). expected (tables_of tables) x) (name_is args.own_lookups.now args.own_names.now args.i c.name_start-start.ensures.0 (c.to_usize.ensures.0 ∙ c.name_length.ensures) refl)) c.tuples_verdict.ensures

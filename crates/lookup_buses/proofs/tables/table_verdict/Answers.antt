@@ -28,7 +28,7 @@ loop-k-preserved c =
     let args = c.args in
     let tables = lent_bus_tables args.lookups.now args.names.now args.tuples.now args.sizes.now in
     find_turn (refusal c.lookup_verdict-other.result) c.loop-k.invariant (search rules) c.first-verdict.ensures (c.lookup_verdict-other.ensures ∙
-    ap (lookup_refusal (tables_of tables) (bus_lookups args.own-lookups.now args.own-names.now args.own-tuples.now)) (bus_at args.own-lookups.now args.own-names.now args.own-tuples.now c.loop-k.k c.order-ordered.ensures c.to_usize-i.ensures.0))
+    ap (lookup_refusal (tables_of tables) (bus_lookups args.own_lookups.now args.own_names.now args.own_tuples.now)) (bus_at args.own_lookups.now args.own_names.now args.own_tuples.now c.loop-k.k c.order-ordered.ensures c.to_usize-i.ensures.0))
 
 pub returns : goal.returns
 unfolding table_refusal

@@ -11,8 +11,8 @@ use borrow.Author.Rules.{rules}
 use Rattle.lookup_buses.proofs.tables.table_verdict.Given as goal
 
 abbrev pub invariant-loop-k : goal.invariant-loop-k
-invariant-loop-k l = Finding (λ l.k. lookup_refusal (tables_of (lent_bus_tables l.lookups l.names l.tuples l.sizes)) (bus_lookups l.own_lookups l.own_names l.own_tuples) (word (by_bus (bus_lookups
-    l.own_lookups l.own_names l.own_tuples)) l.k)) (lookup_count l.own_lookups) l.k (refusal l.verdict)
+invariant-loop-k l = Finding (λ k. lookup_refusal (tables_of (lent_bus_tables l.lookups l.names l.tuples l.sizes)) (bus_lookups l.own_lookups l.own_names l.own_tuples) (word (by_bus (bus_lookups
+    l.own_lookups l.own_names l.own_tuples)) k)) (lookup_count l.own_lookups) l.k (refusal l.verdict)
 
 abbrev pub decreases-loop-k : goal.decreases-loop-k
 decreases-loop-k l = lookup_count l.own_lookups - l.k

@@ -53,6 +53,12 @@ pub widest_in_table-width-requires : goal.widest_in_table-width-requires
 widest_in_table-width-requires c =
     owned c.requires c.loop-t-test.true c.spans_of-s.ensures
 
+pub offset_bounds-lookups-lookups_start : goal.offset_bounds-lookups-lookups_start
+offset_bounds-lookups-lookups_start c = omega (arith, (lies c.requires.spanned c.loop-t-test.true c.spans_of-s.ensures).lookups, (lies c.requires.spanned c.loop-t-test.true c.spans_of-s.ensures).lookups_end)
+
+pub offset_bounds-tuples-tuples_start : goal.offset_bounds-tuples-tuples_start
+offset_bounds-tuples-tuples_start c = omega (arith, (lies c.requires.spanned c.loop-t-test.true c.spans_of-s.ensures).tuples, (lies c.requires.spanned c.loop-t-test.true c.spans_of-s.ensures).tuples_end)
+
 pub loop-t-preserved : goal.loop-t-preserved
 loop-t-preserved c =
     rise_turn c.widest_in_table-width.result c.loop-t.invariant (search rules) c.larger-top.ensures (c.widest_in_table-width.ensures ∙ ap

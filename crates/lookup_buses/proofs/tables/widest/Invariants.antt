@@ -11,7 +11,7 @@ use borrow.Author.Rules.{rules}
 use Rattle.lookup_buses.proofs.tables.widest.Given as goal
 
 abbrev pub invariant-loop-t : goal.invariant-loop-t
-invariant-loop-t l = Rising (λ l.t. widest_in_table (table_at (lent_bus_tables l.lookups l.names l.tuples l.sizes) l.t)) (table_count bus_sizes l.sizes) l.t l.top
+invariant-loop-t l = Rising (λ t. widest_in_table (table_at (lent_bus_tables l.lookups l.names l.tuples l.sizes) t)) (table_count bus_sizes l.sizes) l.t l.top
 
 abbrev pub decreases-loop-t : goal.decreases-loop-t
 decreases-loop-t l = table_count bus_sizes l.sizes - l.t

@@ -17,6 +17,10 @@ pub slice_bounds-tuple_degree-end : goal.slice_bounds-tuple_degree-end
 slice_bounds-tuple_degree-end c =
     degreed_room c.loop-j.invariant c.loop-j-test.true c.to_usize.ensures.0 c.requires.1
 
+pub offset_bounds-elements-start : goal.offset_bounds-elements-start
+offset_bounds-elements-start c =
+    omega (arith, degreed_room c.loop-j.invariant c.loop-j-test.true c.to_usize.ensures.0 c.requires.1)
+
 pub loop-j-preserved : goal.loop-j-preserved
 loop-j-preserved c =
     degreed_turn c.loop-j.invariant (search rules) (search rules) c.to_usize.ensures.0 c.tuple_degree-degree.ensures
