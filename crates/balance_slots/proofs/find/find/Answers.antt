@@ -14,6 +14,3 @@ pub loop-cur-preserved : goal.loop-cur-preserved
 loop-cur-preserved c =
     walk_turn c.loop-cur.invariant c.loop-cur-test.true refl c.older-next.ensures
     c.to_usize-cur-in-loop-cur.ensures.0
-
-pub returns : goal.returns
-returns c = walk_ends c.loop-cur.invariant c.loop-cur-test.false

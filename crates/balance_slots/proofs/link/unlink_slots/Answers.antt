@@ -8,6 +8,3 @@ loop-i-init c = unlink_begins (search rules)
 
 pub loop-i-preserved : goal.loop-i-preserved
 loop-i-preserved c = unlink_turn c.loop-i.invariant (search rules)
-
-pub returns : goal.returns
-returns c = unlink_ends c.loop-i.invariant (search rules)
