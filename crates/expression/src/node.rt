@@ -28,6 +28,7 @@ pub enum Node {
 }
 
 // The node of a kind, from its two words.
+#[tactic(auto, unfolding(crate::specs::Node::decode))]
 pub fn decode(k: u32, a: u32, b: u32) -> Node
     ensures { result ≡ decode k a b }
 {

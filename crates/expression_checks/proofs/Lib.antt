@@ -1,2 +1,1 @@
 pub mod DegreesLoops
-pub mod Rest

@@ -5,9 +5,8 @@ use Prim.Native.Nat.{ℕ, ◌+◌, ◌*◌, ◌/◌, ◌<◌, ◌≤◌, zero-le
 use native.Mathlib.Nat.{zero-add}
 use native.Mathlib.Omega.{arith}
 use lib.ListN.{length, drop, set, get_or}
-use Rattle.lists.specs.Count.{joined}
 use Rattle.lists.specs.Tab.{tab}
-use Rattle.lists.specs.laws.Tab.{tab_none, tab-one}
+use Rattle.lists.specs.laws.Tab.{tab-one}
 use Rattle.lists.specs.laws.Filled.{Filled, filled_none, filled-one}
 use Rattle.wire.specs.Wire.{word_of, word_at, words_of}
 

@@ -1,5 +1,4 @@
 use Rattle.expression.specs.Choices.{known}
-use borrow.Author.Rules.{rules}
 use Rattle.expression.proofs.choices.known.Goals as goal
 
 pub returns : goal.returns

@@ -1,6 +1,5 @@
 use Rattle.expression.specs.Choices.{limits_of}
 use borrow.Author.Tests.{eq-eqb, ne_eqb}
-use borrow.Author.Rules.{rules}
 use Rattle.expression.proofs.choices.limits_of.Goals as goal
 
 pub returns-then-profile-eq-GATEWAY_NUMBER : goal.returns-then-profile-eq-GATEWAY_NUMBER

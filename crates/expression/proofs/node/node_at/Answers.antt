@@ -1,5 +1,4 @@
 use Rattle.expression.specs.Node.{node}
-use borrow.Author.Rules.{rules}
 use Rattle.expression.proofs.node.node_at.Goals as goal
 
 pub returns : goal.returns

@@ -1,4 +1,3 @@
-use borrow.Author.Rules.{rules}
 use Rattle.expression.proofs.numbers.number.Goals as goal
 
 pub returns-in-SizeAtOdds : goal.returns-in-SizeAtOdds

@@ -1,5 +1,4 @@
 use Rattle.expression.specs.Limits.{gateway}
-use borrow.Author.Rules.{rules}
 use Rattle.expression.proofs.sizes.gateway.Goals as goal
 
 pub returns : goal.returns

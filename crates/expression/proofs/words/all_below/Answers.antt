@@ -1,9 +1,6 @@
 use mathlib.Core.Path.{refl}
-use lib.ListN.{length}
-use lib.Dec.{ltb}
-use Prim.Native.Nat.{◌-◌}
-use Rattle.expression.specs.Words.{word, all_below}
-use Rattle.lists.specs.laws.Turns.{Testing, test_begins, test_turn, test_ends}
+use Rattle.expression.specs.Words.{all_below}
+use Rattle.lists.specs.laws.Turns.{test_begins, test_turn, test_ends}
 use borrow.Author.Rules.{rules}
 use Rattle.expression.proofs.words.all_below.Goals as goal
 

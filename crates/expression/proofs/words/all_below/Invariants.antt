@@ -1,10 +1,8 @@
-use mathlib.Core.Path.{refl}
 use lib.ListN.{length}
 use lib.Dec.{ltb}
 use Prim.Native.Nat.{◌-◌}
-use Rattle.expression.specs.Words.{word, all_below}
-use Rattle.lists.specs.laws.Turns.{Testing, test_begins, test_turn, test_ends}
-use borrow.Author.Rules.{rules}
+use Rattle.expression.specs.Words.{word}
+use Rattle.lists.specs.laws.Turns.{Testing}
 use Rattle.expression.proofs.words.all_below.Given as goal
 
 abbrev pub invariant-loop-i : goal.invariant-loop-i

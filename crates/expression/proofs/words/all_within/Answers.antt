@@ -1,9 +1,6 @@
 use mathlib.Core.Path.{refl}
-use lib.ListN.{length}
-use lib.Dec.{leb}
-use Prim.Native.Nat.{◌-◌}
-use Rattle.expression.specs.Words.{word, all_within}
-use Rattle.lists.specs.laws.Turns.{Testing, test_begins, test_turn, test_ends}
+use Rattle.expression.specs.Words.{all_within}
+use Rattle.lists.specs.laws.Turns.{test_begins, test_turn, test_ends}
 use borrow.Author.Rules.{rules}
 use Rattle.expression.proofs.words.all_within.Goals as goal
 

@@ -1,8 +1,5 @@
 use native.Mathlib.Omega.{arith}
-use Prim.Native.Nat.{◌-◌}
-use lib.ListN.{length}
-use Rattle.expression.proofs.ClearLoops.{Cleared, clear_begins, clear_turn, clear_ends}
-use borrow.Author.Rules.{rules}
+use Rattle.expression.proofs.ClearLoops.{clear_begins, clear_turn, clear_ends}
 use Rattle.expression.proofs.words.clear.Goals as goal
 
 pub loop-i-init : goal.loop-i-init

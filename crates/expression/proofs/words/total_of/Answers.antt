@@ -1,7 +1,5 @@
-use Rattle.expression.specs.Words.{word}
-use Rattle.lists.specs.laws.Turns.{Summing, sum-begins, sum_turn, sum-ends}
+use Rattle.lists.specs.laws.Turns.{sum-begins, sum_turn, sum-ends}
 use Rattle.expression.proofs.TotalLoops.{record_small}
-use Prim.Native.Nat.{◌+◌, ◌*◌, ◌-◌}
 use native.Mathlib.Omega.{arith}
 use mathlib.Core.Path.{◌∙◌}
 use borrow.Author.Rules.{rules}

@@ -1,10 +1,6 @@
 use Rattle.expression.specs.Words.{word}
-use Rattle.lists.specs.laws.Turns.{Summing, sum-begins, sum_turn, sum-ends}
-use Rattle.expression.proofs.TotalLoops.{record_small}
+use Rattle.lists.specs.laws.Turns.{Summing}
 use Prim.Native.Nat.{◌+◌, ◌*◌, ◌-◌}
-use native.Mathlib.Omega.{arith}
-use mathlib.Core.Path.{◌∙◌}
-use borrow.Author.Rules.{rules}
 use Rattle.expression.proofs.words.total_of.Given as goal
 
 abbrev pub invariant-loop-i : goal.invariant-loop-i

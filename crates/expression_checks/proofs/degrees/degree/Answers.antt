@@ -1,7 +1,6 @@
 use lib.ListN.{get_or-eq_default}
 use mathlib.Core.Path.{sym}
 use native.Mathlib.Omega.{arith}
-use borrow.Author.Rules.{rules}
 use Rattle.expression_checks.proofs.degrees.degree.Goals as goal
 
 pub returns-then-i-lt1024 : goal.returns-then-i-lt1024

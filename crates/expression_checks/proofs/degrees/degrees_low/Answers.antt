@@ -1,5 +1,4 @@
 use Rattle.expression.specs.Tests.{degrees_low}
-use borrow.Author.Rules.{rules}
 use Rattle.expression_checks.proofs.degrees.degrees_low.Goals as goal
 
 pub returns : goal.returns

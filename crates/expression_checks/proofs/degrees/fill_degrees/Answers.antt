@@ -1,5 +1,4 @@
-use Rattle.expression_checks.proofs.DegreesLoops.{Rating, begins, turn, ends}
-use Prim.Native.Nat.{◌-◌}
+use Rattle.expression_checks.proofs.DegreesLoops.{begins, turn, ends}
 use borrow.Author.Rules.{rules}
 use Rattle.expression_checks.proofs.degrees.fill_degrees.Goals as goal
 

@@ -1,6 +1,5 @@
-use Rattle.expression_checks.proofs.DegreesLoops.{Rating, begins, turn, ends}
+use Rattle.expression_checks.proofs.DegreesLoops.{Rating}
 use Prim.Native.Nat.{◌-◌}
-use borrow.Author.Rules.{rules}
 use Rattle.expression_checks.proofs.degrees.fill_degrees.Given as goal
 
 abbrev pub invariant-loop-i : goal.invariant-loop-i

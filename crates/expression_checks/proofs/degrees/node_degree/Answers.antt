@@ -1,7 +1,6 @@
 use Rattle.expression.specs.Degree.{node_degree}
 use mathlib.Core.Path.{◌∙◌, ap₂}
 use Prim.Native.Nat.{◌+◌, max}
-use borrow.Author.Rules.{rules}
 use Rattle.expression_checks.proofs.degrees.node_degree.Goals as goal
 
 pub returns-in-Constant : goal.returns-in-Constant

@@ -1,7 +1,5 @@
-use Rattle.expression.specs.Tests.{constants_below, constant_below}
-use Rattle.expression.specs.Node.{node}
-use Rattle.lists.specs.laws.Turns.{Testing, test_begins, test_turn, test_ends}
-use Prim.Native.Nat.{◌-◌}
+use Rattle.expression.specs.Tests.{constants_below}
+use Rattle.lists.specs.laws.Turns.{test_begins, test_turn, test_ends}
 use borrow.Author.Rules.{rules}
 use Rattle.expression_checks.proofs.nodes.constants_below.Goals as goal
 

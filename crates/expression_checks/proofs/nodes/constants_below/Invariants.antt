@@ -1,8 +1,7 @@
-use Rattle.expression.specs.Tests.{constants_below, constant_below}
+use Rattle.expression.specs.Tests.{constant_below}
 use Rattle.expression.specs.Node.{node}
-use Rattle.lists.specs.laws.Turns.{Testing, test_begins, test_turn, test_ends}
+use Rattle.lists.specs.laws.Turns.{Testing}
 use Prim.Native.Nat.{◌-◌}
-use borrow.Author.Rules.{rules}
 use Rattle.expression_checks.proofs.nodes.constants_below.Given as goal
 
 abbrev pub invariant-loop-i : goal.invariant-loop-i

@@ -1,4 +1,3 @@
-use borrow.Author.Rules.{rules}
 use Rattle.expression_checks.proofs.nodes.node_known.Goals as goal
 
 pub returns-in-Main : goal.returns-in-Main

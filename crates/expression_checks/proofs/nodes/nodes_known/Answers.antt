@@ -1,7 +1,5 @@
-use Rattle.expression.specs.Tests.{nodes_known, node_known}
-use Rattle.expression.specs.Node.{node}
-use Rattle.lists.specs.laws.Turns.{Testing, test_begins, test_turn, test_ends}
-use Prim.Native.Nat.{◌-◌}
+use Rattle.expression.specs.Tests.{nodes_known}
+use Rattle.lists.specs.laws.Turns.{test_begins, test_turn, test_ends}
 use borrow.Author.Rules.{rules}
 use Rattle.expression_checks.proofs.nodes.nodes_known.Goals as goal
 

@@ -1,5 +1,4 @@
 use Rattle.expression.specs.Tests.{traces_below}
-use borrow.Author.Rules.{rules}
 use Rattle.expression_checks.proofs.nodes.traces_below.Goals as goal
 
 pub returns : goal.returns

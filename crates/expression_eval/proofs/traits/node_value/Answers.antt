@@ -5,7 +5,6 @@ use Rattle.expression.specs.Values.{node_value}
 use Rattle.field.specs.Word.{add_m, sub_m, mul_m, neg_m}
 use mathlib.Core.Path.{◌∙◌, ap, ap₂}
 use native.Mathlib.Omega.{arith}
-use borrow.Author.Rules.{rules}
 use Rattle.expression_eval.proofs.traits.node_value.Goals as goal
 
 pub bounds-rows-to_usize : goal.bounds-rows-to_usize

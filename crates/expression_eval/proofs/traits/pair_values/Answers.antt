@@ -1,11 +1,8 @@
-use Rattle.expression_eval.proofs.EvaluateLoops.{Filling, begins, turn, ends}
-use Rattle.expression.specs.Node.{node_count}
-use Rattle.expression.specs.Window.{lent_traces, window}
+use Rattle.expression_eval.proofs.EvaluateLoops.{begins, turn, ends}
 use Rattle.expression.specs.Values.{row_values}
 use Rattle.expression.specs.laws.Window.{node-readable}
 use Rattle.expression_eval.specs.laws.Window.{row-ahead}
 use native.Mathlib.Omega.{arith}
-use Prim.Native.Nat.{◌-◌}
 use mathlib.Core.Path.{refl}
 use lib.Dec.{lit<}
 use borrow.Author.Rules.{rules}

@@ -1,14 +1,7 @@
-use Rattle.expression_eval.proofs.EvaluateLoops.{Filling, begins, turn, ends}
+use Rattle.expression_eval.proofs.EvaluateLoops.{Filling}
 use Rattle.expression.specs.Node.{node_count}
 use Rattle.expression.specs.Window.{lent_traces, window}
-use Rattle.expression.specs.Values.{row_values}
-use Rattle.expression.specs.laws.Window.{node-readable}
-use Rattle.expression_eval.specs.laws.Window.{row-ahead}
-use native.Mathlib.Omega.{arith}
 use Prim.Native.Nat.{◌-◌}
-use mathlib.Core.Path.{refl}
-use lib.Dec.{lit<}
-use borrow.Author.Rules.{rules}
 use Rattle.expression_eval.proofs.traits.pair_values.Given as goal
 
 abbrev pub invariant-loop-i : goal.invariant-loop-i

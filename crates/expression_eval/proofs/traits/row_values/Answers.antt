@@ -1,10 +1,7 @@
-use Rattle.expression_eval.proofs.EvaluateLoops.{Filling, begins, turn, ends}
-use Rattle.expression.specs.Node.{node_count}
-use Rattle.expression.specs.Window.{lent_traces, window}
+use Rattle.expression_eval.proofs.EvaluateLoops.{begins, turn, ends}
 use Rattle.expression.specs.Values.{row_values}
 use Rattle.expression.specs.laws.Window.{node-readable}
 use native.Mathlib.Omega.{arith}
-use Prim.Native.Nat.{◌-◌}
 use borrow.Author.Rules.{rules}
 use Rattle.expression_eval.proofs.traits.row_values.Goals as goal
 

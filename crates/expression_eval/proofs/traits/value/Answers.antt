@@ -1,4 +1,3 @@
-use borrow.Author.Rules.{rules}
 use Rattle.expression_eval.proofs.traits.value.Goals as goal
 
 pub returns : goal.returns

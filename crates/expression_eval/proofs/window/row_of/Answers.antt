@@ -3,7 +3,6 @@ use Rattle.expression.specs.Window.{row_of}
 use lib.ListN.{length}
 use native.Mathlib.Omega.{arith}
 use native.Mathlib.Nat.{add-sub_cancel_left}
-use borrow.Author.Rules.{rules}
 use Rattle.expression_eval.proofs.window.row_of.Goals as goal
 
 pub overflow_mul-start : goal.overflow_mul-start

@@ -1,5 +1,4 @@
 use mathlib.Core.List.{[], ◌∷◌}
-use borrow.Author.Rules.{rules}
 use Rattle.expression_eval.specs.laws.Window.{row-after}
 use Rattle.expression_eval.proofs.window.rows_ahead.Goals as goal
 

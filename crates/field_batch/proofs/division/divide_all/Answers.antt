@@ -5,7 +5,6 @@ use Rattle.field.specs.Word.{mul_m}
 use Rattle.field.specs.laws.Known.{modulus}
 use Rattle.field_batch.specs.laws.Quotients.{all_inverted}
 use Rattle.field_batch.proofs.DivisionLoops.{again_in, again_is}
-use borrow.Author.Rules.{rules}
 use Rattle.field_batch.proofs.division.divide_all.Goals as goal
 
 pub slice_bounds-quotients-end : goal.slice_bounds-quotients-end

@@ -2,7 +2,6 @@ use mathlib.Core.Path.{sym}
 use Rattle.field.specs.Ext.{ext_words}
 use Rattle.field_batch.proofs.DivisionLoops.{keep_in}
 use Rattle.field_batch.specs.laws.Quotients.{kept_out}
-use borrow.Author.Rules.{rules}
 use Rattle.field_batch.proofs.division.keep_by.Goals as goal
 
 pub returns-then-m-eq0 : goal.returns-then-m-eq0

@@ -1,8 +1,7 @@
-use Prim.Native.Nat.{◌-◌}
 use mathlib.Core.Path.{refl, sym, subst}
 use Rattle.field.specs.laws.Slice.{word-element}
 use Rattle.field.specs.Element.{Word4}
-use Rattle.field_batch.proofs.DivisionLoops.{Multiplying, multiplying_begins, multiplying_part, multiplying_factor, multiplying_turn, multiplying_ends}
+use Rattle.field_batch.proofs.DivisionLoops.{multiplying_begins, multiplying_part, multiplying_factor, multiplying_turn, multiplying_ends}
 use borrow.Author.Rules.{rules}
 use Rattle.field_batch.proofs.division.products.Goals as goal
 

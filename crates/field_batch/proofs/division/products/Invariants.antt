@@ -1,9 +1,5 @@
 use Prim.Native.Nat.{◌-◌}
-use mathlib.Core.Path.{refl, sym, subst}
-use Rattle.field.specs.laws.Slice.{word-element}
-use Rattle.field.specs.Element.{Word4}
-use Rattle.field_batch.proofs.DivisionLoops.{Multiplying, multiplying_begins, multiplying_part, multiplying_factor, multiplying_turn, multiplying_ends}
-use borrow.Author.Rules.{rules}
+use Rattle.field_batch.proofs.DivisionLoops.{Multiplying}
 use Rattle.field_batch.proofs.division.products.Given as goal
 
 abbrev pub invariant-loop-j : goal.invariant-loop-j

@@ -1,6 +1,5 @@
-use Prim.Native.Nat.{◌-◌}
 use mathlib.Core.Path.{refl}
-use Rattle.field_batch.proofs.DivisionLoops.{Dividing, dividing_begins, dividing_part, dividing_step, dividing_turn, dividing_ends}
+use Rattle.field_batch.proofs.DivisionLoops.{dividing_begins, dividing_part, dividing_step, dividing_turn, dividing_ends}
 use borrow.Author.Rules.{rules}
 use Rattle.field_batch.proofs.division.quotients.Goals as goal
 

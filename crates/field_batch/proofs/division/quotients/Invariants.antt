@@ -1,7 +1,5 @@
 use Prim.Native.Nat.{◌-◌}
-use mathlib.Core.Path.{refl}
-use Rattle.field_batch.proofs.DivisionLoops.{Dividing, dividing_begins, dividing_part, dividing_step, dividing_turn, dividing_ends}
-use borrow.Author.Rules.{rules}
+use Rattle.field_batch.proofs.DivisionLoops.{Dividing}
 use Rattle.field_batch.proofs.division.quotients.Given as goal
 
 abbrev pub invariant-loop-i : goal.invariant-loop-i

@@ -1,5 +1,4 @@
 use Rattle.field_batch.proofs.DivisionLoops.{words-kept, step-out, step_in}
-use borrow.Author.Rules.{rules}
 use Rattle.field_batch.proofs.division.step_by.Goals as goal
 
 pub returns-then-m-eq0 : goal.returns-then-m-eq0

@@ -1,5 +1,4 @@
 use Rattle.field_batch.proofs.DivisionLoops.{times_one}
-use borrow.Author.Rules.{rules}
 use Rattle.field_batch.proofs.division.times.Goals as goal
 
 pub returns-then-a-eq1 : goal.returns-then-a-eq1

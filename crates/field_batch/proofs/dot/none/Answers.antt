@@ -1,6 +1,6 @@
 use mathlib.Core.Path.{◌≡◌}
 use mathlib.Core.List.{[], ◌∷◌}
-use Prim.Native.Nat.{ℕ, ◌%◌}
+use Prim.Native.Nat.{◌%◌}
 use native.Mathlib.Nat.{zero-mod}
 use borrow.Author.Rules.{rules}
 use Rattle.field_batch.proofs.dot.none.Goals as goal

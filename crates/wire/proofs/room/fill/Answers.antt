@@ -1,6 +1,5 @@
 use mathlib.Core.Path.{refl}
 use Rattle.wire.specs.laws.Room.{part_placed}
-use borrow.Author.Rules.{rules}
 use Rattle.wire.proofs.room.fill.Goals as goal
 
 pub returns : goal.returns

@@ -1,7 +1,6 @@
 use native.Mathlib.Omega.{arith}
 use Rattle.wire.specs.inner.Place.{word_count}
 use Rattle.wire.specs.laws.Room.{five}
-use borrow.Author.Rules.{rules}
 use Rattle.wire.proofs.room.fill_five.Goals as goal
 
 pub fill-first-requires : goal.fill-first-requires

@@ -1,4 +1,3 @@
-use borrow.Author.Rules.{rules}
 use Rattle.wire.proofs.room.less_five.Goals as goal
 
 pub returns : goal.returns

@@ -1,5 +1,4 @@
-use Prim.Native.Nat.{◌-◌}
-use Rattle.wire.proofs.Loops.{Decoding, decode-begins, decode_turn, decode-ends}
+use Rattle.wire.proofs.Loops.{decode-begins, decode_turn, decode-ends}
 use borrow.Author.Rules.{rules}
 use Rattle.wire.proofs.words.decode.Goals as goal
 

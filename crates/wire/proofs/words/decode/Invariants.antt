@@ -1,6 +1,5 @@
 use Prim.Native.Nat.{◌-◌}
-use Rattle.wire.proofs.Loops.{Decoding, decode-begins, decode_turn, decode-ends}
-use borrow.Author.Rules.{rules}
+use Rattle.wire.proofs.Loops.{Decoding}
 use Rattle.wire.proofs.words.decode.Given as goal
 
 abbrev pub invariant-loop-i : goal.invariant-loop-i

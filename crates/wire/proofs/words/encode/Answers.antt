@@ -1,8 +1,7 @@
 use mathlib.Core.Path.{refl, ap, ◌∙◌}
-use Prim.Native.Nat.{◌-◌}
-use lib.ListN.{length, get_or}
-use Rattle.lists.specs.laws.Writing.{Writing, begins, turn, ends}
-use Rattle.wire.specs.Wire.{word_bytes, bytes_of}
+use lib.ListN.{length}
+use Rattle.lists.specs.laws.Writing.{begins, turn, ends}
+use Rattle.wire.specs.Wire.{bytes_of}
 use Rattle.wire.specs.laws.Trip.{four}
 use borrow.Author.Rules.{rules}
 use Rattle.wire.proofs.words.encode.Goals as goal

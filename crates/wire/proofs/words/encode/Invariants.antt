@@ -1,10 +1,7 @@
-use mathlib.Core.Path.{refl, ap, ◌∙◌}
 use Prim.Native.Nat.{◌-◌}
 use lib.ListN.{length, get_or}
-use Rattle.lists.specs.laws.Writing.{Writing, begins, turn, ends}
-use Rattle.wire.specs.Wire.{word_bytes, bytes_of}
-use Rattle.wire.specs.laws.Trip.{four}
-use borrow.Author.Rules.{rules}
+use Rattle.lists.specs.laws.Writing.{Writing}
+use Rattle.wire.specs.Wire.{word_bytes}
 use Rattle.wire.proofs.words.encode.Given as goal
 
 abbrev pub invariant-loop-i : goal.invariant-loop-i

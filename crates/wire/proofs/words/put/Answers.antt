@@ -1,7 +1,6 @@
 use Prim.Native.Nat.{◌/◌, ◌%◌}
 use Rattle.field.specs.laws.Slice.{four-set}
 use Rattle.wire.specs.Wire.{word_bytes}
-use borrow.Author.Rules.{rules}
 use Rattle.wire.proofs.words.put.Goals as goal
 
 pub returns : goal.returns

@@ -1,5 +1,4 @@
 use Rattle.wire.specs.Wire.{word_at}
-use borrow.Author.Rules.{rules}
 use Rattle.wire.proofs.words.word_at.Goals as goal
 
 pub returns : goal.returns
