@@ -1,8 +1,8 @@
 -- A quadratic extension of a field by a square root that the field lacks is a field.
-use Rattle.std.specs.Prelude.{◌≡◌, refl, ◌≢◌, List, [], ◌∷◌}
-use Rattle.std.proofs.Common.{sym, ap, ap₂, ◌∙◌, subst}
-use Rattle.algebra.specs.Ring.{CRing, Ops, ops, quad}
-use Rattle.algebra.specs.laws.Solve.{E, O, I, X, ◌⊕◌, ◌⊗◌, ⊝◌, solve, z_mul, mul_z, u_mul}
+use Rattle.std.specs.Prelude.{◌≡◌, ◌≢◌, [], ◌∷◌}
+use Rattle.std.proofs.Common.{sym, ap, ap₂, ◌∙◌}
+use Rattle.algebra.specs.Ring.{CRing, ops, quad}
+use Rattle.algebra.specs.laws.Solve.{O, I, X, ◌⊕◌, ◌⊗◌, ⊝◌, solve, z_mul, mul_z}
 use Rattle.algebra.specs.Field.{Field}
 use Rattle.algebra.specs.laws.Quadratic.{Quad}
 

@@ -12,10 +12,10 @@ use Rattle.theorems_logup.specs.Inverse.{inverse, minus}
 use Rattle.theorems_logup.specs.Tables as Tables
 use Rattle.expression.specs.declared.sizes.Limits.{Limits}
 use Rattle.lookup.specs.Lookups.{tuple_count, exclusive, lookup_at, name_start, tuple_start, tuple_width}
-use Rattle.logup.specs.Tuple.{tuple, combine}
+use Rattle.logup.specs.Tuple.{combine}
 use Rattle.logup.specs.Rows.{used}
 use Rattle.logup.specs.Generation.{generation, terminal_words}
-use Rattle.logup.specs.Ledger.{has_ledger, Entry, Element, count, entries}
+use Rattle.logup.specs.Ledger.{has_ledger, Entry, Element, entries}
 use Rattle.theorems_soundness.specs.Soundness.{AllWide, OnBus, Comparable, AcceptedAt, answer_at}
 use Rattle.theorems_soundness.specs.Error.{Passes}
 use Rattle.theorems_soundness.specs.Lawful.{flag_at, LawfulFlags}
