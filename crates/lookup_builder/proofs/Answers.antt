@@ -1,13 +1,12 @@
 -- The answers.
 use mathlib.Core.Path.{◌≡◌, refl, sym, ap, ap₂, ◌∙◌}
-use mathlib.Core.Bool.{Bool, true, false, not}
+use mathlib.Core.Bool.{Bool, true, false}
 use mathlib.Core.Option.{Option, some}
 use mathlib.Core.List.{List, ◌++◌}
 use Prim.Native.Nat.{ℕ, ◌+◌, ◌*◌, ◌-◌, ◌≤◌}
 use native.Mathlib.Omega.{arith}
 use lib.ListN.{length, take, drop, replicate}
 use lib.Seq.{take_at}
-use borrow.Author.Tests.{not-true, not-false}
 use Rattle.lists.specs.laws.Joined.{joined_length}
 use Rattle.field.specs.Known.{prime_of}
 use Rattle.expression.specs.Limits.{Sane}
@@ -68,35 +67,35 @@ built-tested {n} {b} {r} m p c nodes k g q e h =
 
 -- `build_within`
 module _ (m : Limits) (p : ℕ) (c : Columns) (nodes : List ℕ) (k : Kinds) (g : Interactions) (lent : List ℕ) {b : Bool} (e : b ≡ building_fits m k g.interactions g.weights g.tuples (length lent)) where
-  pub size-refused : not b ≡ true → (Refused SizeAtOdds ≡ (building m p c nodes k g lent).answer) × (lent ≡ (building m p c nodes k g lent).lookups)
+  pub size-refused : b ≡ false → (Refused SizeAtOdds ≡ (building m p c nodes k g lent).answer) × (lent ≡ (building m p c nodes k g lent).lookups)
   unfolding building building_refusal
-  size-refused z = rw (sym e ∙ not-true b z) (refl, refl)
+  size-refused z = rw (sym e ∙ z) (refl, refl)
 
-  pub fits_asks : Sane m → not b ≡ false → InteractionsSized k g.interactions g.weights × (lookup_words * interaction_count k ≤ length lent)
-  fits_asks s z = sized m k g.interactions g.weights g.tuples (length lent) s (sym e ∙ not-false b z)
+  pub fits_asks : Sane m → b ≡ true → InteractionsSized k g.interactions g.weights × (lookup_words * interaction_count k ≤ length lent)
+  fits_asks s z = sized m k g.interactions g.weights g.tuples (length lent) s (sym e ∙ z)
 
-  pub answer-refused : {v : Verdict} {f : Refusal} → not b ≡ false → refusal v ≡ built_refusal m p c nodes k.locals (lookups_built k g) → v ≡ verdict.Refused f
+  pub answer-refused : {v : Verdict} {f : Refusal} → b ≡ true → refusal v ≡ built_refusal m p c nodes k.locals (lookups_built k g) → v ≡ verdict.Refused f
       → (Refused f ≡ (building m p c nodes k g lent).answer) × (lent ≡ (building m p c nodes k g lent).lookups)
   unfolding building building_refusal
-  answer-refused z h q = rw (sym e ∙ not-false b z, sym h ∙ ap refusal q) (refl, refl)
+  answer-refused z h q = rw (sym e ∙ z, sym h ∙ ap refusal q) (refl, refl)
 
-  pub answer-built : {v : Verdict} {n : ℕ} {out : List ℕ} → not b ≡ false → refusal v ≡ built_refusal m p c nodes k.locals (lookups_built k g) → v ≡ verdict.Accepted → n ≡ interaction_count k
+  pub answer-built : {v : Verdict} {n : ℕ} {out : List ℕ} → b ≡ true → refusal v ≡ built_refusal m p c nodes k.locals (lookups_built k g) → v ≡ verdict.Accepted → n ≡ interaction_count k
       → out ≡ built k g.interactions g.weights ++ drop (lookup_words * interaction_count k) lent
       → (Built (lookup_words * n) ≡ (building m p c nodes k g lent).answer) × (out ≡ (building m p c nodes k g lent).lookups)
   unfolding building building_refusal
   answer-built {v} {n} {out} z h q t o =
       let words : List ℕ = built k g.interactions g.weights in
       let w : lookup_words * interaction_count k ≡ length words = sym (built-length k g.interactions g.weights) in
-      rw (sym e ∙ not-false b z, sym h ∙ ap refusal q) (ap Built (ap (λ (x : ℕ). lookup_words * x) t ∙ w), o ∙ ap (λ (x : ℕ). words ++ drop x lent) w)
+      rw (sym e ∙ z, sym h ∙ ap refusal q) (ap Built (ap (λ (x : ℕ). lookup_words * x) t ∙ w), o ∙ ap (λ (x : ℕ). words ++ drop x lent) w)
 
 -- `from_interactions`
 module _ (c : Choices) (columns : Columns) (nodes : List ℕ) (k : Kinds) (g : Interactions) (lent : List ℕ) {b : Bool} (e : b ≡ known c) where
-  pub choice_unknown : not b ≡ true → ◌≡◌ {A = Outcome} (record { answer = Refused SizeAtOdds; lookups = lent }) (building_at c columns nodes k g lent)
+  pub choice_unknown : b ≡ false → ◌≡◌ {A = Outcome} (record { answer = Refused SizeAtOdds; lookups = lent }) (building_at c columns nodes k g lent)
   unfolding building_at
-  choice_unknown z = rw (sym e ∙ not-true b z) refl
+  choice_unknown z = rw (sym e ∙ z) refl
 
-  pub choices_known : {m : Limits} {p : ℕ} {a : BuildingAnswer} {out : List ℕ} → not b ≡ false → m ≡ limits_of c.profile → p ≡ prime_of c.field
+  pub choices_known : {m : Limits} {p : ℕ} {a : BuildingAnswer} {out : List ℕ} → b ≡ true → m ≡ limits_of c.profile → p ≡ prime_of c.field
       → (a ≡ (building m p columns nodes k g lent).answer) × (out ≡ (building m p columns nodes k g lent).lookups)
       → ◌≡◌ {A = Outcome} (record { answer = a; lookups = out }) (building_at c columns nodes k g lent)
   unfolding building_at
-  choices_known z em ep h = rw (sym e ∙ not-false b z, ← em, ← ep) (λ i. record { answer = h.0 i; lookups = h.1 i })
+  choices_known z em ep h = rw (sym e ∙ z, ← em, ← ep) (λ i. record { answer = h.0 i; lookups = h.1 i })

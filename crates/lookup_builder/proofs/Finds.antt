@@ -1,14 +1,11 @@
 -- The first refusal of the locals.
 use mathlib.Core.Path.{◌≡◌, refl, sym, ap, ◌∙◌}
-use mathlib.Core.Bool.{true, false, not}
 use mathlib.Core.Option.{Option, none, some}
 use mathlib.Core.List.{List}
 use Prim.Native.Nat.{ℕ, ◌+◌, ◌<◌, ◌≤◌}
 use native.Mathlib.Omega.{arith}
 use native.Mathlib.Nat.{add-zero}
-use lib.Dec.{ltb}
 use lib.ListN.{length}
-use borrow.Author.Tests.{ltb-true, ltb-false, not-true, not-false}
 use Rattle.lists.specs.Count.{first}
 use Rattle.lists.specs.laws.Count.{total_in}
 use Rattle.expression.specs.Words.{word}
@@ -22,16 +19,13 @@ pub tuples_in : (l t : List ℕ) (i : ℕ) → i < lookup_count l → tuple_star
 unfolding tuple_start
 tuples_in l t i h e = omega (arith, e, total_in (tuple_count l) i (lookup_count l) h)
 
-pub first_in : {n s : ℕ} (l t : List ℕ) (i : ℕ) → i < lookup_count l → tuple_start l (lookup_count l) ≤ length t → n ≡ tuple_count l i → not (ltb 0 n) ≡ false → s ≡ tuple_start l i → s < length t
-first_in {n} {s} l t i h e f g q =
-    let a : 0 < n = ltb-true 0 n (not-false (ltb 0 n) g) in
-    omega (arith, tuples_in l t i h e)
+pub first_in : {n s : ℕ} (l t : List ℕ) (i : ℕ) → i < lookup_count l → tuple_start l (lookup_count l) ≤ length t → n ≡ tuple_count l i → 0 < n → s ≡ tuple_start l i → s < length t
+first_in {n} {s} l t i h e f g q = omega (arith, tuples_in l t i h e)
 
 -- `local_verdict`: no tuples, or the first is expected
-pub local_none : {n : ℕ} (l t : List ℕ) (i : ℕ) → n ≡ tuple_count l i → not (ltb 0 n) ≡ true → none ≡ local_refusal l t i
+pub local_none : {n : ℕ} (l t : List ℕ) (i : ℕ) → n ≡ tuple_count l i → n ≤ 0 → none ≡ local_refusal l t i
 unfolding local_refusal first
 local_none {n} l t i e g =
-    let a : n ≤ 0 = ltb-false 0 n (not-true (ltb 0 n) g) in
     let z : n ≡ 0 = omega arith in
     rw (sym e ∙ z) refl
 

@@ -1,12 +1,12 @@
 -- The tests of refusal 1, and what they say.
 use mathlib.Core.Path.{◌≡◌, refl, sym, ap, ◌∙◌}
-use mathlib.Core.Bool.{Bool, true, false, not, ◌&&◌}
+use mathlib.Core.Bool.{Bool, true, false, ◌&&◌}
 use mathlib.Core.List.{List, [], ◌∷◌}
 use Prim.Native.Nat.{ℕ, ◌+◌, ◌*◌, ◌≤◌}
 use native.Mathlib.Omega.{arith}
 use lib.Dec.{eqb, leb}
 use lib.ListN.{length}
-use borrow.Author.Tests.{eqb-true, leb-true, le-leb, not-true, not-false}
+use borrow.Author.Tests.{eqb-true, eq-eqb, ne_eqb, leb-true, le-leb}
 use Rattle.lists.specs.Count.{every}
 use Rattle.lists.specs.laws.Tests.{passed}
 use Rattle.expression.specs.Limits.{Sane}
@@ -35,25 +35,25 @@ one-over m k e = sum_over (leb (interaction_count k) m) refl
 
 -- `building_fits`, return by return
 module _ (m : Limits) (k : Kinds) (interactions weights tuples : List ℕ) (room : ℕ) {b : Bool} (e : b ≡ leb (interaction_count k) m.lookups) where
-  pub fits-many : not b ≡ true → false ≡ building_fits m k interactions weights tuples room
+  pub fits-many : b ≡ false → false ≡ building_fits m k interactions weights tuples room
   unfolding building_fits
-  fits-many z = rw (sym e ∙ not-true b z)
+  fits-many z = rw (sym e ∙ z)
 
-  pub few : Sane m → not b ≡ false → interaction_count k ≤ 64
-  few g z = omega (arith, leb-true (interaction_count k) m.lookups (sym e ∙ not-false b z), g.lookups)
+  pub few : Sane m → b ≡ true → interaction_count k ≤ 64
+  few g z = omega (arith, leb-true (interaction_count k) m.lookups (sym e ∙ z), g.lookups)
 
-  pub fits_odd : {n : ℕ} → not b ≡ false → n ≡ interaction_count k → not (eqb (length interactions) (2 * n)) ≡ true → false ≡ building_fits m k interactions weights tuples room
+  pub fits_odd : {n : ℕ} → b ≡ true → n ≡ interaction_count k → (length interactions ≡ 2 * n → ⊥) → false ≡ building_fits m k interactions weights tuples room
   unfolding building_fits
-  fits_odd {n} z q y = rw (sym e ∙ not-false b z, ← q, not-true (eqb (length interactions) (2 * n)) y)
+  fits_odd {n} z q y = rw (sym e ∙ z, ← q, ne_eqb (length interactions) (2 * n) y)
 
-  pub even : {n : ℕ} → n ≡ interaction_count k → not (eqb (length interactions) (2 * n)) ≡ false → length interactions ≡ 2 * interaction_count k
-  even {n} q y = eqb-true (length interactions) (2 * n) (not-false (eqb (length interactions) (2 * n)) y) ∙ ap (λ (x : ℕ). 2 * x) q
+  pub even : {n : ℕ} → n ≡ interaction_count k → length interactions ≡ 2 * n → length interactions ≡ 2 * interaction_count k
+  even {n} q y = y ∙ ap (λ (x : ℕ). 2 * x) q
 
-  pub fits-rest : {n f : ℕ} {g : Bool} → not b ≡ false → n ≡ interaction_count k → not (eqb (length interactions) (2 * n)) ≡ false → f ≡ first_tuple interactions n
+  pub fits-rest : {n f : ℕ} {g : Bool} → b ≡ true → n ≡ interaction_count k → length interactions ≡ 2 * n → f ≡ first_tuple interactions n
       → g ≡ every (λ j. eqb (tuple_number interactions (k.locals + j)) 1) k.globals
       → (leb (length tuples) m.tuples && eqb (length tuples) f && eqb (length weights) (length tuples) && g && leb (lookup_words * n) room) ≡ building_fits m k interactions weights tuples room
   unfolding building_fits
-  fits-rest {n} {f} {g} z q y p h = rw (sym e ∙ not-false b z, ← q, not-false (eqb (length interactions) (2 * n)) y, p, h)
+  fits-rest {n} {f} {g} z q y p h = rw (sym e ∙ z, ← q, eq-eqb (length interactions) (2 * n) y, p, h)
 
 -- what the code that follows asks
 pub sized : (m : Limits) (k : Kinds) (interactions weights tuples : List ℕ) (room : ℕ) → Sane m → building_fits m k interactions weights tuples room ≡ true

@@ -1,20 +1,18 @@
 -- The turns of the loops of the widths: the first of n, the largest of n, and what is read of one lookup.
 use mathlib.Core.Path.{◌≡◌, sym, ap, ◌∙◌}
-use mathlib.Core.Bool.{Bool, true, false, cond, not, ◌&&◌}
+use mathlib.Core.Bool.{Bool, true, false}
 use mathlib.Core.Option.{Option, none, some}
 use mathlib.Core.List.{List, ◌++◌}
-use Prim.Native.Nat.{ℕ, ◌+◌, ◌*◌, ◌-◌, ◌<◌, ◌≤◌, max}
-use native.Mathlib.Numerals.{add-one}
+use Prim.Native.Nat.{ℕ, ◌+◌, ◌<◌, ◌≤◌}
 use native.Mathlib.Omega.{arith}
 use native.Mathlib.Nat.{add-zero}
-use lib.Dec.{eqb, ltb}
-use borrow.Author.Tests.{eq-eqb, ne_eqb, ltb-true, not-true, not-false}
+use borrow.Author.Tests.{eq-eqb, ne_eqb, lt-ltb, le-ltb}
 use lib.ListN.{length, drop, get_or, replicate}
 use Rattle.lists.specs.Same.{same_list}
 use Rattle.lists.specs.Count.{first}
 use Rattle.lists.specs.laws.Count.{total_in}
 use Rattle.expression.specs.Words.{word}
-use Rattle.lookup.specs.Lookups.{lookup_count, on_bus, name_start, tuple_count, tuple_start, tuple_width, bus_lookups}
+use Rattle.lookup.specs.Lookups.{lookup_count, on_bus, tuple_count, tuple_start, tuple_width, bus_lookups}
 use Rattle.lookup.specs.Buses.{name_at, alone_at}
 use Rattle.lookup.specs.Requires.{BusNames}
 use Rattle.lookup_degree.specs.Sums.{greatest}
@@ -42,27 +40,23 @@ width_is {s} l t i k e = ap (λ (a : ℕ). word t (a + k)) e
 
 -- `width_in_lookup`, return by return
 module _ (bus l m t : List ℕ) (i : ℕ) where
-  pub width-local : {b : Bool} → b ≡ on_bus l i → not b ≡ true → none ≡ width_in_lookup bus (bus_lookups l m t) i
+  pub width-local : {b : Bool} → b ≡ on_bus l i → b ≡ false → none ≡ width_in_lookup bus (bus_lookups l m t) i
   unfolding width_in_lookup
-  width-local {b} e z = rw (sym e ∙ not-true b z)
+  width-local {b} e z = rw (sym e ∙ z)
 
-  pub width_other : {b d : Bool} → b ≡ on_bus l i → not b ≡ false → d ≡ same_list bus (name_at l m i) → not d ≡ true → none ≡ width_in_lookup bus (bus_lookups l m t) i
+  pub width_other : {b d : Bool} → b ≡ on_bus l i → b ≡ true → d ≡ same_list bus (name_at l m i) → d ≡ false → none ≡ width_in_lookup bus (bus_lookups l m t) i
   unfolding width_in_lookup
-  width_other {b} {d} e z f y = rw (sym e ∙ not-false b z, sym f ∙ not-true d y)
+  width_other {b} {d} e z f y = rw (sym e ∙ z, sym f ∙ y)
 
-  pub width_none : {b d : Bool} {n : ℕ} → b ≡ on_bus l i → not b ≡ false → d ≡ same_list bus (name_at l m i) → not d ≡ false → n ≡ tuple_count l i → not (ltb 0 n) ≡ true
+  pub width_none : {b d : Bool} {n : ℕ} → b ≡ on_bus l i → b ≡ true → d ≡ same_list bus (name_at l m i) → d ≡ true → n ≡ tuple_count l i → n ≤ 0
       → none ≡ width_in_lookup bus (bus_lookups l m t) i
   unfolding width_in_lookup
-  width_none {b} {d} {n} e z f y g x = rw (sym e ∙ not-false b z, sym f ∙ not-false d y, ← g, not-true (ltb 0 n) x)
+  width_none {b} {d} {n} e z f y g x = rw (sym e ∙ z, sym f ∙ y, ← g, le-ltb 0 n x)
 
-  pub width-first : {b d : Bool} {n s : ℕ} → b ≡ on_bus l i → not b ≡ false → d ≡ same_list bus (name_at l m i) → not d ≡ false → n ≡ tuple_count l i → not (ltb 0 n) ≡ false → s ≡ tuple_start l i
+  pub width-first : {b d : Bool} {n s : ℕ} → b ≡ on_bus l i → b ≡ true → d ≡ same_list bus (name_at l m i) → d ≡ true → n ≡ tuple_count l i → 0 < n → s ≡ tuple_start l i
       → some (word t s) ≡ width_in_lookup bus (bus_lookups l m t) i
   unfolding width_in_lookup
-  width-first {b} {d} {n} {s} e z f y g x q = rw (sym e ∙ not-false b z, sym f ∙ not-false d y, ← g, not-false (ltb 0 n) x) (ap some (ap (word t) (sym (add-zero s)) ∙ width_is l t i 0 q))
-
--- there is a tuple
-pub has-tuple : {n : ℕ} → not (ltb 0 n) ≡ false → 0 < n
-has-tuple {n} x = ltb-true 0 n (not-false (ltb 0 n) x)
+  width-first {b} {d} {n} {s} e z f y g x q = rw (sym e ∙ z, sym f ∙ y, ← g, lt-ltb 0 n x) (ap some (ap (word t) (sym (add-zero s)) ∙ width_is l t i 0 q))
 
 pub widest-local : {b : Bool} (l m t : List ℕ) (i : ℕ) → b ≡ on_bus l i → b ≡ false → 0 ≡ widest_in_lookup (bus_lookups l m t) i
 unfolding widest_in_lookup
@@ -81,14 +75,14 @@ widths_differ {e} {x} {w} {x'} {w'} i p q ex ew = rw (p, ne_eqb w x q, ex, ew)
 
 -- `lookup_verdict`
 module _ (ts : Tables) (l m t : List ℕ) (i : ℕ) where
-  pub verdict-local : {b : Bool} → b ≡ on_bus l i → not b ≡ true → none ≡ lookup_refusal ts (bus_lookups l m t) i
+  pub verdict-local : {b : Bool} → b ≡ on_bus l i → b ≡ false → none ≡ lookup_refusal ts (bus_lookups l m t) i
   unfolding lookup_refusal
-  verdict-local {b} e z = rw (sym e ∙ not-true b z)
+  verdict-local {b} e z = rw (sym e ∙ z)
 
-  pub verdict-bus : {b : Bool} {o : Option ℕ} {r : Option Refusal} → b ≡ on_bus l i → not b ≡ false → o ≡ expected ts (name_at l m i) → r ≡ first (λ k. tuple_refusal i o (tuple_width l t i k)) (tuple_count l i)
+  pub verdict-bus : {b : Bool} {o : Option ℕ} {r : Option Refusal} → b ≡ on_bus l i → b ≡ true → o ≡ expected ts (name_at l m i) → r ≡ first (λ k. tuple_refusal i o (tuple_width l t i k)) (tuple_count l i)
       → r ≡ lookup_refusal ts (bus_lookups l m t) i
   unfolding lookup_refusal
-  verdict-bus {b} e z f g = rw (sym e ∙ not-false b z, ← f) g
+  verdict-bus {b} e z f g = rw (sym e ∙ z, ← f) g
 
 -- the order that the code fills is that of the definition
 pub bus_at : {i : ℕ} {b : List ℕ} (l m t : List ℕ) (k : ℕ) → b ≡ arranged (alone_at false l) (name_at l m) (lookup_count l) ++ drop (lookup_count l) (replicate 64 0) → i ≡ get_or b k 0

@@ -1,25 +1,24 @@
 -- What the tests say, and the answer.
-use mathlib.Core.Path.{◌≡◌, refl, sym, ap, ap₂, ◌∙◌}
-use mathlib.Core.Bool.{Bool, true, false, not, ◌&&◌}
-use mathlib.Core.Option.{Option, none, some}
+use mathlib.Core.Path.{◌≡◌, refl, sym, ap, ◌∙◌}
+use mathlib.Core.Bool.{Bool, true, false, ◌&&◌}
 use mathlib.Core.List.{List, [], ◌∷◌}
-use Prim.Native.Nat.{ℕ, ◌+◌, ◌*◌, ◌/◌, ◌%◌, ◌<◌, ◌≤◌}
+use Prim.Native.Nat.{ℕ, ◌*◌, ◌%◌, ◌≤◌}
 use native.Mathlib.Omega.{arith}
 use lib.Dec.{eqb, leb}
 use lib.ListN.{length}
-use borrow.Author.Tests.{eqb-true, leb-true, not-true, not-false}
+use borrow.Author.Tests.{eqb-true, leb-true}
 use Rattle.lists.specs.Count.{every}
 use Rattle.lists.specs.laws.Tests.{passed, every_true}
 use Rattle.expression.specs.Limits.{Sane}
 use Rattle.expression.specs.Choices.{known, limits_of}
-use Rattle.expression.specs.Refusal.{refusal, unless}
+use Rattle.expression.specs.Refusal.{refusal}
 use Rattle.expression.specs.declared.choices.Choices.{Choices}
 use Rattle.expression.specs.declared.sizes.Limits.{Limits}
 use Rattle.expression.specs.declared.refusal.Refusal.{Refusal}
 use Rattle.expression.specs.declared.refusal.Refusal.TheVariants.{SizeAtOdds, LookupInvalid}
 use Rattle.expression.specs.declared.refusal.Verdict.{Verdict}
 use Rattle.expression.specs.declared.refusal.Verdict.TheVariants as verdict
-use Rattle.lookup.specs.Lookups.{Lookups, bus_lookups, lookup_words, lookup_count, name_start, tuple_start}
+use Rattle.lookup.specs.Lookups.{Lookups, lookup_words, lookup_count, name_start, tuple_start}
 use Rattle.lookup.specs.Sizes.{table_count, size_start, covers}
 use Rattle.lookup.specs.Tests.{lookups_within, lengths_agree}
 use Rattle.lookup.specs.laws.Tested.{lookups-few}
@@ -99,40 +98,40 @@ module _ (m : Limits) (l : BusTables) where
   unfolding all_fit
   all_no e z = rw (sym e ∙ z)
 
-  pub tabled : {a : Bool} → Sane m → a ≡ all_fit m l → not a ≡ false → BusTablesFit l
+  pub tabled : {a : Bool} → Sane m → a ≡ all_fit m l → a ≡ true → BusTablesFit l
   unfolding all_fit
   tabled {a} g e z =
-      let k = passed (lists_fit m l) (every (λ t. table_fits m (table_at l t)) (table_count bus_sizes l.sizes) ∷ []) (sym e ∙ not-false a z) in
+      let k = passed (lists_fit m l) (every (λ t. table_fits m (table_at l t)) (table_count bus_sizes l.sizes) ∷ []) (sym e ∙ z) in
       record {
         spanned = spanned m l g k.0;
         each = λ t h. listed m (table_at l t) g (every_true (λ t. table_fits m (table_at l t)) (table_count bus_sizes l.sizes) t k.1.0 h);
       }
 
-  pub answer-size : {a : Bool} → a ≡ all_fit m l → not a ≡ true → Refused SizeAtOdds ≡ widths_answer m l
+  pub answer-size : {a : Bool} → a ≡ all_fit m l → a ≡ false → Refused SizeAtOdds ≡ widths_answer m l
   unfolding widths_answer
-  answer-size {a} e z = rw (sym e ∙ not-true a z)
+  answer-size {a} e z = rw (sym e ∙ z)
 
-  pub answer_lengths : {a b : Bool} → a ≡ all_fit m l → not a ≡ false → b ≡ every (lengths_agree l.lookups) (lookup_count l.lookups) → not b ≡ true
+  pub answer_lengths : {a b : Bool} → a ≡ all_fit m l → a ≡ true → b ≡ every (lengths_agree l.lookups) (lookup_count l.lookups) → b ≡ false
       → Refused LookupInvalid ≡ widths_answer m l
   unfolding widths_answer
-  answer_lengths {a} {b} e z eb zb = rw (sym e ∙ not-false a z, sym eb ∙ not-true b zb)
+  answer_lengths {a} {b} e z eb zb = rw (sym e ∙ z, sym eb ∙ zb)
 
-  pub answer-widest : {a b : Bool} {v : Verdict} {w w' : ℕ} → a ≡ all_fit m l → not a ≡ false → b ≡ every (lengths_agree l.lookups) (lookup_count l.lookups) → not b ≡ false
+  pub answer-widest : {a b : Bool} {v : Verdict} {w w' : ℕ} → a ≡ all_fit m l → a ≡ true → b ≡ every (lengths_agree l.lookups) (lookup_count l.lookups) → b ≡ true
       → refusal v ≡ widths_refusal (tables_of l) → v ≡ verdict.Accepted → w ≡ widest (tables_of l) → w' ≡ w → Widest w' ≡ widths_answer m l
   unfolding widths_answer
-  answer-widest {a} {b} {v} {w} {w'} e z eb zb f k ew ek = rw (sym e ∙ not-false a z, sym eb ∙ not-false b zb, sym f ∙ ap refusal k, ek ∙ ew)
+  answer-widest {a} {b} {v} {w} {w'} e z eb zb f k ew ek = rw (sym e ∙ z, sym eb ∙ zb, sym f ∙ ap refusal k, ek ∙ ew)
 
-  pub answer-refused : {a b : Bool} {v : Verdict} {f : Refusal} → a ≡ all_fit m l → not a ≡ false → b ≡ every (lengths_agree l.lookups) (lookup_count l.lookups) → not b ≡ false
+  pub answer-refused : {a b : Bool} {v : Verdict} {f : Refusal} → a ≡ all_fit m l → a ≡ true → b ≡ every (lengths_agree l.lookups) (lookup_count l.lookups) → b ≡ true
       → refusal v ≡ widths_refusal (tables_of l) → v ≡ verdict.Refused f → Refused f ≡ widths_answer m l
   unfolding widths_answer
-  answer-refused {a} {b} {v} {f} e z eb zb g k = rw (sym e ∙ not-false a z, sym eb ∙ not-false b zb, sym g ∙ ap refusal k)
+  answer-refused {a} {b} {v} {f} e z eb zb g k = rw (sym e ∙ z, sym eb ∙ zb, sym g ∙ ap refusal k)
 
 -- `check_bus_widths`
 module _ (c : Choices) (l : BusTables) {b : Bool} (e : b ≡ known c) where
-  pub choice_unknown : not b ≡ true → Refused SizeAtOdds ≡ widths_at c l
+  pub choice_unknown : b ≡ false → Refused SizeAtOdds ≡ widths_at c l
   unfolding widths_at
-  choice_unknown z = rw (sym e ∙ not-true b z) refl
+  choice_unknown z = rw (sym e ∙ z) refl
 
-  pub choices_known : {m : Limits} {a : WidthsAnswer} → not b ≡ false → m ≡ limits_of c.profile → a ≡ widths_answer m l → a ≡ widths_at c l
+  pub choices_known : {m : Limits} {a : WidthsAnswer} → b ≡ true → m ≡ limits_of c.profile → a ≡ widths_answer m l → a ≡ widths_at c l
   unfolding widths_at
-  choices_known z em h = rw (sym e ∙ not-false b z, ← em) h
+  choices_known z em h = rw (sym e ∙ z, ← em) h

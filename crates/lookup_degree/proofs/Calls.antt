@@ -1,14 +1,13 @@
 -- The calls of the functions of one lookup, over plain lists and numbers.
-use mathlib.Core.Path.{◌≡◌, refl, sym, ap, ap₂, ◌∙◌}
+use mathlib.Core.Path.{◌≡◌, refl, sym, ap, ◌∙◌}
 use mathlib.Core.List.{List, [], ◌∷◌, ◌++◌}
 use Prim.Native.Nat.{ℕ, ◌+◌, ◌-◌, ◌<◌, ◌≤◌, max}
 use native.Mathlib.Omega.{arith}
 use native.Mathlib.Nat.{zero-add}
-use mathlib.Core.Bool.{Bool, true, false, not, ◌&&◌}
-use mathlib.Core.Option.{none, some}
+use mathlib.Core.Bool.{Bool, true, false, ◌&&◌}
 use lib.Dec.{leb, ltb}
 use lib.ListN.{length, drop, replicate, length-append, length-replicate}
-use borrow.Author.Tests.{leb-true, ltb-true, not-true, not-false}
+use borrow.Author.Tests.{leb-true, ltb-true}
 use Rattle.lists.specs.Count.{total}
 use Rattle.lists.specs.Tab.{tab}
 use Rattle.lists.specs.laws.Tab.{tab_get}
@@ -92,32 +91,32 @@ degree_of_is {b} {d} {r} m nodes l t i f h eb ed er =
 
 -- the answers
 module _ (m : Limits) (p : ℕ) (c : Columns) (nodes : List ℕ) (l : Lookups) (i t : ℕ) where
-  pub degree-size : not (leb t 1 && ltb i (lookup_count l.lookups)) ≡ true → Refused SizeAtOdds ≡ degree_answer m p c nodes l i t
+  pub degree-size : (leb t 1 && ltb i (lookup_count l.lookups)) ≡ false → Refused SizeAtOdds ≡ degree_answer m p c nodes l i t
   unfolding degree_answer degree_refusal
-  degree-size e = rw (not-true (leb t 1 && ltb i (lookup_count l.lookups)) e)
+  degree-size e = rw e
 
-  pub degree_asked : not (leb t 1 && ltb i (lookup_count l.lookups)) ≡ false → (i < lookup_count l.lookups) × (t ≤ 1)
+  pub degree_asked : (leb t 1 && ltb i (lookup_count l.lookups)) ≡ true → (i < lookup_count l.lookups) × (t ≤ 1)
   degree_asked e =
-      let k = passed (leb t 1) (ltb i (lookup_count l.lookups) ∷ []) (not-false (leb t 1 && ltb i (lookup_count l.lookups)) e) in
+      let k = passed (leb t 1) (ltb i (lookup_count l.lookups) ∷ []) e in
       (ltb-true i (lookup_count l.lookups) k.1.0, leb-true t 1 k.0)
 
-  pub degree-given : {v : Verdict} {d : ℕ} → not (leb t 1 && ltb i (lookup_count l.lookups)) ≡ false → refusal v ≡ form_refusal m p c nodes l → v ≡ verdict.Accepted
+  pub degree-given : {v : Verdict} {d : ℕ} → (leb t 1 && ltb i (lookup_count l.lookups)) ≡ true → refusal v ≡ form_refusal m p c nodes l → v ≡ verdict.Accepted
       → d ≡ lookup_degree (node_degrees t nodes) (lookup_at l i) → Degree d ≡ degree_answer m p c nodes l i t
   unfolding degree_answer degree_refusal
-  degree-given {v} {d} e f g h = rw (not-false (leb t 1 && ltb i (lookup_count l.lookups)) e, sym f ∙ ap refusal g, h)
+  degree-given {v} {d} e f g h = rw (e, sym f ∙ ap refusal g, h)
 
-  pub degree_refused : {v : Verdict} {f : Refusal} → not (leb t 1 && ltb i (lookup_count l.lookups)) ≡ false → refusal v ≡ form_refusal m p c nodes l → v ≡ verdict.Refused f
+  pub degree_refused : {v : Verdict} {f : Refusal} → (leb t 1 && ltb i (lookup_count l.lookups)) ≡ true → refusal v ≡ form_refusal m p c nodes l → v ≡ verdict.Refused f
       → Refused f ≡ degree_answer m p c nodes l i t
   unfolding degree_answer degree_refusal
-  degree_refused {v} {f} e k g = rw (not-false (leb t 1 && ltb i (lookup_count l.lookups)) e, sym k ∙ ap refusal g)
+  degree_refused {v} {f} e k g = rw (e, sym k ∙ ap refusal g)
 
 -- `constraint_degree`
 module _ (c : Choices) (columns : Columns) (nodes : List ℕ) (l : Lookups) (i t : ℕ) {b : Bool} (e : b ≡ known c) where
-  pub choice_unknown : not b ≡ true → Refused SizeAtOdds ≡ degree_at c columns nodes l i t
+  pub choice_unknown : b ≡ false → Refused SizeAtOdds ≡ degree_at c columns nodes l i t
   unfolding degree_at
-  choice_unknown z = rw (sym e ∙ not-true b z) refl
+  choice_unknown z = rw (sym e ∙ z) refl
 
-  pub choices_known : {m : Limits} {p : ℕ} {a : DegreeAnswer} → not b ≡ false → m ≡ limits_of c.profile → p ≡ prime_of c.field
+  pub choices_known : {m : Limits} {p : ℕ} {a : DegreeAnswer} → b ≡ true → m ≡ limits_of c.profile → p ≡ prime_of c.field
       → a ≡ degree_answer m p columns nodes l i t → a ≡ degree_at c columns nodes l i t
   unfolding degree_at
-  choices_known z em ep h = rw (sym e ∙ not-false b z, ← em, ← ep) h
+  choices_known z em ep h = rw (sym e ∙ z, ← em, ← ep) h

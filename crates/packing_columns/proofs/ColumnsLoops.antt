@@ -8,7 +8,6 @@ use native.Mathlib.Omega.{arith}
 use lib.Dec.{eqb}
 use lib.ListN.{length, drop, set, drop_of_length-le}
 use lib.Seq.{drop-cons}
-use borrow.Author.Tests.{not-true, not-false}
 use Rattle.lists.specs.laws.Writing.{nine-set}
 use Rattle.expression.specs.Words.{word, low_half, high_half}
 use Rattle.expression.specs.Values.{bit}
@@ -117,9 +116,9 @@ joined : (s : PlanSource) (o a n : OpenColumn) (i : ℕ) (f : Bool) → a ≡ op
 joined s o a n i f ea en ef = ap (fits s.lookups s.names s.limit o.head i) (ap (merge o) (sym ea) ∙ sym en) ∙ sym ef
 
 pub fill_turn : {s : PlanSource} {xs : List ℕ} {k t i : ℕ} {o a n : OpenColumn} {f : Bool} → Filling s xs k o t → t < length xs → i ≡ word xs t
-    → (a ≡ opened_at s i) × ColumnWithin 549755813888 a → n ≡ merge o a → f ≡ fits s.lookups s.names s.limit o.head i n → not f ≡ false → Filling s xs k n (t + 1)
+    → (a ≡ opened_at s i) × ColumnWithin 549755813888 a → n ≡ merge o a → f ≡ fits s.lookups s.names s.limit o.head i n → f ≡ true → Filling s xs k n (t + 1)
 fill_turn {s} {xs} {k} {t} {i} {o} {a} {n} {f} g h ei ea en ef y =
-    let j : joins_at s o (word xs t) ≡ true = ap (joins_at s o) (sym ei) ∙ joined s o a n i f ea.0 en ef ∙ not-false f y in
+    let j : joins_at s o (word xs t) ≡ true = ap (joins_at s o) (sym ei) ∙ joined s o a n i f ea.0 en ef ∙ y in
     let m : merge o (opened_at s (word xs t)) ≡ n = ap (λ (q : ℕ). merge o (opened_at s q)) (sym ei) ∙ ap (merge o) (sym ea.0) ∙ sym en in
     record {
       is = g.is ∙ columns-step s o xs t h
@@ -133,10 +132,10 @@ fill_turn {s} {xs} {k} {t} {i} {o} {a} {n} {f} g h ei ea en ef y =
 
 -- the next lookup does not join
 pub fill_stops : {s : PlanSource} {xs : List ℕ} {k t i : ℕ} {o a n : OpenColumn} {f : Bool} → Filling s xs k o t → t < length xs → i ≡ word xs t
-    → (a ≡ opened_at s i) × ColumnWithin 549755813888 a → n ≡ merge o a → f ≡ fits s.lookups s.names s.limit o.head i n → not f ≡ true
+    → (a ≡ opened_at s i) × ColumnWithin 549755813888 a → n ≡ merge o a → f ≡ fits s.lookups s.names s.limit o.head i n → f ≡ false
     → ColumnTaken s xs k (record { column = o; end = t })
 fill_stops {s} {xs} {k} {t} {i} {o} {a} {n} {f} g h ei ea en ef y =
-    let j : joins_at s o (word xs t) ≡ false = ap (joins_at s o) (sym ei) ∙ joined s o a n i f ea.0 en ef ∙ not-true f y in
+    let j : joins_at s o (word xs t) ≡ false = ap (joins_at s o) (sym ei) ∙ joined s o a n i f ea.0 en ef ∙ y in
     record {
       is = g.is ∙ columns-step s o xs t h
           ∙ ap (λ (b : Bool). cond b (columns_from s (merge o (opened_at s (word xs t))) (drop (t + 1) xs)) (o ∷ columns_of s (drop t xs))) j;

@@ -7,7 +7,7 @@ use Prim.Native.Nat.{ℕ, zero, suc, ◌*◌, ◌<◌, ◌≤◌, zero-le}
 use native.Mathlib.Omega.{arith}
 use lib.Dec.{leb}
 use lib.ListN.{length}
-use borrow.Author.Tests.{not-true, not-false, leb-true}
+use borrow.Author.Tests.{leb-true}
 use Rattle.lists.specs.Count.{total, first, or_else}
 use Rattle.lists.specs.laws.Tests.{passed}
 use Rattle.field.specs.Known.{prime_of}
@@ -50,8 +50,8 @@ same-hold : (l lent : Lookups) → counts_hold (counts l) (counts lent) ≡ hold
 unfolding counts_hold holds
 same-hold l lent = refl
 
-pub held : {b : Bool} (l lent : Lookups) → b ≡ counts_hold (counts l) (counts lent) → not b ≡ false → holds lent l ≡ true
-held {b} l lent e z = sym (same-hold l lent) ∙ sym e ∙ not-false b z
+pub held : {b : Bool} (l lent : Lookups) → b ≡ counts_hold (counts l) (counts lent) → b ≡ true → holds lent l ≡ true
+held {b} l lent e z = sym (same-hold l lent) ∙ sym e ∙ z
 
 -- the lent lists hold the packed table, since they hold the table itself
 module _ (lent l w : Lookups) (k : NoLonger w l) (h : holds lent l ≡ true) where
@@ -109,16 +109,16 @@ module _ (limit : ℕ) (nodes : List ℕ) (l lent : Lookups) {r : Plan} (y : Lay
 
 -- the answer within limits
 module _ (m : Limits) (p limit : ℕ) (c : Columns) (nodes : List ℕ) (l lent : Lookups) {b : Bool} (e : b ≡ counts_hold (counts l) (counts lent)) where
-  pub answer-small : not b ≡ true → (Refused SizeAtOdds ≡ (packing m p limit c nodes l lent).answer) × (lent ≡ (packing m p limit c nodes l lent).lists)
+  pub answer-small : b ≡ false → (Refused SizeAtOdds ≡ (packing m p limit c nodes l lent).answer) × (lent ≡ (packing m p limit c nodes l lent).lists)
   unfolding packing packing_refusal
-  answer-small z = rw (sym (same-hold l lent) ∙ sym e ∙ not-true b z) (refl, refl)
+  answer-small z = rw (sym (same-hold l lent) ∙ sym e ∙ z) (refl, refl)
 
-  pub answer-refused : {v : Verdict} {f : Refusal} → not b ≡ false → refusal v ≡ form_refusal m p c nodes l → v ≡ verdict.Refused f
+  pub answer-refused : {v : Verdict} {f : Refusal} → b ≡ true → refusal v ≡ form_refusal m p c nodes l → v ≡ verdict.Refused f
       → (Refused f ≡ (packing m p limit c nodes l lent).answer) × (lent ≡ (packing m p limit c nodes l lent).lists)
   unfolding packing packing_refusal
   answer-refused z g q = rw (held l lent e z, sym g ∙ ap refusal q) (refl, refl)
 
-  pub answer_formed : {v : Verdict} {a : PackingAnswer} {out : Lookups} → not b ≡ false → refusal v ≡ form_refusal m p c nodes l → v ≡ verdict.Accepted
+  pub answer_formed : {v : Verdict} {a : PackingAnswer} {out : Lookups} → b ≡ true → refusal v ≡ form_refusal m p c nodes l → v ≡ verdict.Accepted
       → (a ≡ (formed_outcome limit nodes l lent).answer) × (out ≡ (formed_outcome limit nodes l lent).lists)
       → (a ≡ (packing m p limit c nodes l lent).answer) × (out ≡ (packing m p limit c nodes l lent).lists)
   unfolding packing packing_refusal formed_outcome formed_refusal
@@ -148,12 +148,12 @@ whole m p c nodes l g f e =
 
 -- `pack_same_bus`
 module _ (c : Choices) (limit : ℕ) (columns : Columns) (nodes : List ℕ) (l lent : Lookups) {b : Bool} (e : b ≡ known c) where
-  pub choice_unknown : not b ≡ true → ◌≡◌ {A = Outcome} (record { answer = Refused SizeAtOdds; lists = lent }) (packing_at c limit columns nodes l lent)
+  pub choice_unknown : b ≡ false → ◌≡◌ {A = Outcome} (record { answer = Refused SizeAtOdds; lists = lent }) (packing_at c limit columns nodes l lent)
   unfolding packing_at
-  choice_unknown z = rw (sym e ∙ not-true b z) refl
+  choice_unknown z = rw (sym e ∙ z) refl
 
-  pub choices_known : {m : Limits} {p : ℕ} {a : PackingAnswer} {out : Lookups} → not b ≡ false → m ≡ limits_of c.profile → p ≡ prime_of c.field
+  pub choices_known : {m : Limits} {p : ℕ} {a : PackingAnswer} {out : Lookups} → b ≡ true → m ≡ limits_of c.profile → p ≡ prime_of c.field
       → (a ≡ (packing m p limit columns nodes l lent).answer) × (out ≡ (packing m p limit columns nodes l lent).lists)
       → ◌≡◌ {A = Outcome} (record { answer = a; lists = out }) (packing_at c limit columns nodes l lent)
   unfolding packing_at
-  choices_known z em ep h = rw (sym e ∙ not-false b z, ← em, ← ep) (λ i. record { answer = h.0 i; lists = h.1 i })
+  choices_known z em ep h = rw (sym e ∙ z, ← em, ← ep) (λ i. record { answer = h.0 i; lists = h.1 i })

@@ -1,5 +1,5 @@
 -- Laws of the order by place, and of what a test keeps of a list.
-use Rattle.std.specs.Prelude.{◌≡◌, Bool, ◌||◌, ◌⊎◌, get_or}
+use Rattle.std.specs.Prelude.{◌≡◌, Bool, ◌⊎◌, get_or}
 use Rattle.std.proofs.Math.Path.{refl, sym, ap}
 use Rattle.std.proofs.Common.{ap₂, ◌∙◌, inl, inr, zero-add, length-append}
 use Rattle.std.proofs.Math.Bool.{true, false, cond}
@@ -86,6 +86,7 @@ module _ {A : Type 0} where
 
   pub position_in : {a : A} (f : A → Bool) (xs : List A) → Memᴰ a xs → f a ≡ true → position f xs < length xs
   unfolding position
+  position_in {a} f [] m t = elim m [ ]
   position_in {a} f (x ∷ xs) (Memᴰ.head e) t = rw (ap f (sym e) ∙ t) (omega arith)
   position_in {a} f (x ∷ xs) (Memᴰ.tail m) t = go (f x) (position_in f xs m t)
     where

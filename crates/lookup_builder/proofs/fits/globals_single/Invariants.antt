@@ -7,7 +7,7 @@ use borrow.Author.Rules.{rules}
 use Rattle.lookup_builder.proofs.fits.globals_single.Given as goal
 
 abbrev pub invariant-loop-j : goal.invariant-loop-j
-invariant-loop-j l = Testing (λ l.j. eqb (tuple_number l.interactions (l.kinds.locals + l.j)) 1) l.kinds.globals l.j l.ok
+invariant-loop-j l = Testing (λ j. eqb (tuple_number l.interactions (l.kinds.locals + j)) 1) l.kinds.globals l.j l.ok
 
 abbrev pub decreases-loop-j : goal.decreases-loop-j
 decreases-loop-j l = l.kinds.globals - l.j

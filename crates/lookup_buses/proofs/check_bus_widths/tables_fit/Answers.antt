@@ -1,11 +1,9 @@
 use Rattle.lookup_buses.specs.laws.Tables.{lies}
-use Rattle.lookup.specs.Sizes.{table_count}
-use Rattle.lookup_buses.specs.CheckBusWidths.{lent_bus_tables, table_at, table_fits, bus_sizes}
-use Rattle.lists.specs.laws.Turns.{Testing, test_begins, test_turn, test_ends}
+use Rattle.lookup_buses.specs.CheckBusWidths.{table_fits}
+use Rattle.lists.specs.laws.Turns.{test_begins, test_turn, test_ends}
 use native.Mathlib.Omega.{arith}
 use mathlib.Core.Bool.{Bool, ◌&&◌}
 use mathlib.Core.Path.{◌∙◌, ap}
-use Prim.Native.Nat.{◌-◌}
 use borrow.Author.Rules.{rules}
 use Rattle.lookup_buses.proofs.check_bus_widths.tables_fit.Goals as goal
 
@@ -47,6 +45,12 @@ slice_bounds-table_fits-start-in-loop-t-2 c =
 pub slice_bounds-table_fits-end-in-loop-t-2 : goal.slice_bounds-table_fits-end-in-loop-t-2
 slice_bounds-table_fits-end-in-loop-t-2 c =
     (lies c.requires.1 c.loop-t-test.true c.spans_of-s.ensures).tuples_end
+
+pub offset_bounds-lookups-lookups_start : goal.offset_bounds-lookups-lookups_start
+offset_bounds-lookups-lookups_start c = omega (arith, (lies c.requires.1 c.loop-t-test.true c.spans_of-s.ensures).lookups, (lies c.requires.1 c.loop-t-test.true c.spans_of-s.ensures).lookups_end)
+
+pub offset_bounds-tuples-tuples_start : goal.offset_bounds-tuples-tuples_start
+offset_bounds-tuples-tuples_start c = omega (arith, (lies c.requires.1 c.loop-t-test.true c.spans_of-s.ensures).tuples, (lies c.requires.1 c.loop-t-test.true c.spans_of-s.ensures).tuples_end)
 
 pub loop-t-preserved : goal.loop-t-preserved
 loop-t-preserved c =

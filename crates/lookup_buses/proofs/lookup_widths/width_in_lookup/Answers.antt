@@ -1,11 +1,10 @@
 use Rattle.lists.specs.Same.{same_list}
-use Rattle.lookup_buses.proofs.Finds.{has-tuple, named, tuples_in, width-local, width_other, width_none, width-first}
+use Rattle.lookup_buses.proofs.Finds.{named, tuples_in, width-local, width_other, width_none, width-first}
 use Rattle.lookup.specs.laws.Buses.{name_in, name_is}
 use native.Mathlib.Omega.{arith}
 use Prim.Native.Nat.{ℕ}
 use mathlib.Core.List.{List}
 use mathlib.Core.Path.{◌∙◌, refl, ap}
-use borrow.Author.Rules.{rules}
 use Rattle.lookup_buses.proofs.lookup_widths.width_in_lookup.Goals as goal
 
 pub returns-then-not-on_bus : goal.returns-then-not-on_bus
@@ -31,7 +30,6 @@ bounds-tuples-first c =
       tuples_in c.args.i c.requires.0 c.requires.1,
       c.tuple_start-first.ensures.0,
       c.tuple_count.ensures,
-      has-tuple {n = c.tuple_count.result} c.if-not-tuple_count.false,
     )
 
 pub returns : goal.returns

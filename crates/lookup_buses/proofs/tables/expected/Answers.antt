@@ -1,13 +1,10 @@
 use native.Mathlib.Omega.{arith}
-use Rattle.lists.specs.laws.Turns.{Finding, find_begins, find_turn, find_ends}
+use Rattle.lists.specs.laws.Turns.{find_begins, find_turn, find_ends}
 use Rattle.lookup_buses.specs.inner.Requires.{width_option}
-use Rattle.lookup.specs.Sizes.{table_count}
-use Rattle.lookup_buses.specs.CheckBusWidths.{lent_bus_tables, table_at, tables_of, bus_sizes}
+use Rattle.lookup_buses.specs.CheckBusWidths.{tables_of}
 use Rattle.lookup_buses.specs.Widths.{width_in_table, expected}
 use Rattle.lookup_buses.specs.laws.Tables.{lies, owned}
-use Rattle.lookup.specs.Lookups.{Lookups}
 use mathlib.Core.Path.{◌∙◌, ap}
-use Prim.Native.Nat.{◌-◌}
 use borrow.Author.Rules.{rules}
 use Rattle.lookup_buses.proofs.tables.expected.Goals as goal
 
@@ -53,6 +50,12 @@ slice_bounds-width_in_table-end-in-loop-t-2 c =
 pub width_in_table-width-requires : goal.width_in_table-width-requires
 width_in_table-width-requires c =
     owned c.requires c.loop-t-test.true c.spans_of-s.ensures
+
+pub offset_bounds-lookups-lookups_start : goal.offset_bounds-lookups-lookups_start
+offset_bounds-lookups-lookups_start c = omega (arith, (lies c.requires.spanned c.loop-t-test.true c.spans_of-s.ensures).lookups, (lies c.requires.spanned c.loop-t-test.true c.spans_of-s.ensures).lookups_end)
+
+pub offset_bounds-tuples-tuples_start : goal.offset_bounds-tuples-tuples_start
+offset_bounds-tuples-tuples_start c = omega (arith, (lies c.requires.spanned c.loop-t-test.true c.spans_of-s.ensures).tuples, (lies c.requires.spanned c.loop-t-test.true c.spans_of-s.ensures).tuples_end)
 
 pub loop-t-preserved : goal.loop-t-preserved
 loop-t-preserved c =

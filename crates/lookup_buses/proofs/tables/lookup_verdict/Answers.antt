@@ -2,11 +2,9 @@ use Rattle.lookup_buses.proofs.Finds.{named, tuples_in, verdict-local, verdict-b
 use Rattle.lookup.specs.laws.Buses.{name_in, name_is}
 use Rattle.lookup_buses.specs.CheckBusWidths.{lent_bus_tables, tables_of}
 use Rattle.lookup_buses.specs.Widths.{expected}
-use native.Mathlib.Omega.{arith}
 use Prim.Native.Nat.{ℕ}
 use mathlib.Core.List.{List}
 use mathlib.Core.Path.{◌∙◌, refl, ap}
-use borrow.Author.Rules.{rules}
 use Rattle.lookup_buses.proofs.tables.lookup_verdict.Goals as goal
 
 pub returns-then-not-on_bus : goal.returns-then-not-on_bus
@@ -24,4 +22,4 @@ pub returns : goal.returns
 returns c =
     let args = c.args in
     let tables = lent_bus_tables args.lookups.now args.names.now args.tuples.now args.sizes.now in
-    verdict-bus (tables_of tables) args.own-lookups.now args.own-names.now args.own-tuples.now args.i c.on_bus.ensures c.if-not-on_bus.false (c.expected-width.ensures ∙ ap (λ (x : List ℕ). expected (tables_of tables) x) (name_is args.own-lookups.now args.own-names.now args.i c.name_start-start.ensures.0 (c.to_usize.ensures.0 ∙ c.name_length.ensures) refl)) c.tuples_verdict.ensures
+    verdict-bus (tables_of tables) args.own_lookups.now args.own_names.now args.own_tuples.now args.i c.on_bus.ensures c.if-not-on_bus.false (c.expected-width.ensures ∙ ap (λ (x : List ℕ). expected (tables_of tables) x) (name_is args.own_lookups.now args.own_names.now args.i c.name_start-start.ensures.0 (c.to_usize.ensures.0 ∙ c.name_length.ensures) refl)) c.tuples_verdict.ensures

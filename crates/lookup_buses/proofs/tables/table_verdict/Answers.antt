@@ -1,12 +1,10 @@
-use Rattle.lists.specs.laws.Turns.{Finding, find_begins, find_turn, find_ends}
+use Rattle.lists.specs.laws.Turns.{find_begins, find_turn, find_ends}
 use Rattle.lookup_buses.proofs.Finds.{named, bus_at, bus-below}
 use Rattle.lookup_buses.specs.CheckBusWidths.{lent_bus_tables, tables_of}
-use Rattle.lookup_buses.specs.Widths.{by_bus, lookup_refusal, table_refusal}
+use Rattle.lookup_buses.specs.Widths.{lookup_refusal, table_refusal}
 use Rattle.expression.specs.Refusal.{refusal}
-use Rattle.expression.specs.Words.{word}
-use Rattle.lookup.specs.Lookups.{lookup_count, bus_lookups}
+use Rattle.lookup.specs.Lookups.{bus_lookups}
 use mathlib.Core.Path.{◌∙◌, ap}
-use Prim.Native.Nat.{◌-◌}
 use borrow.Author.Rules.{rules}
 use Rattle.lookup_buses.proofs.tables.table_verdict.Goals as goal
 
@@ -28,7 +26,7 @@ loop-k-preserved c =
     let args = c.args in
     let tables = lent_bus_tables args.lookups.now args.names.now args.tuples.now args.sizes.now in
     find_turn (refusal c.lookup_verdict-other.result) c.loop-k.invariant (search rules) c.first-verdict.ensures (c.lookup_verdict-other.ensures ∙
-    ap (lookup_refusal (tables_of tables) (bus_lookups args.own-lookups.now args.own-names.now args.own-tuples.now)) (bus_at args.own-lookups.now args.own-names.now args.own-tuples.now c.loop-k.k c.order-ordered.ensures c.to_usize-i.ensures.0))
+    ap (lookup_refusal (tables_of tables) (bus_lookups args.own_lookups.now args.own_names.now args.own_tuples.now)) (bus_at args.own_lookups.now args.own_names.now args.own_tuples.now c.loop-k.k c.order-ordered.ensures c.to_usize-i.ensures.0))
 
 pub returns : goal.returns
 unfolding table_refusal

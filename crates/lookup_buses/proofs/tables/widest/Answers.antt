@@ -1,12 +1,9 @@
 use native.Mathlib.Omega.{arith}
-use Rattle.lookup_degree.specs.laws.Rising.{Rising, rise_begins, rise_turn, rise_ends}
+use Rattle.lookup_degree.specs.laws.Rising.{rise_begins, rise_turn, rise_ends}
 use Rattle.lookup_buses.specs.Widths.{widest_in_table, widest}
 use Rattle.lookup_buses.specs.laws.Tables.{lies, owned}
-use Rattle.lookup.specs.Sizes.{table_count}
-use Rattle.lookup_buses.specs.CheckBusWidths.{lent_bus_tables, table_at, tables_of, bus_sizes}
-use Rattle.lookup.specs.Lookups.{Lookups}
+use Rattle.lookup_buses.specs.CheckBusWidths.{tables_of}
 use mathlib.Core.Path.{◌∙◌, ap}
-use Prim.Native.Nat.{◌-◌}
 use borrow.Author.Rules.{rules}
 use Rattle.lookup_buses.proofs.tables.widest.Goals as goal
 
@@ -52,6 +49,12 @@ slice_bounds-widest_in_table-end-in-loop-t-2 c =
 pub widest_in_table-width-requires : goal.widest_in_table-width-requires
 widest_in_table-width-requires c =
     owned c.requires c.loop-t-test.true c.spans_of-s.ensures
+
+pub offset_bounds-lookups-lookups_start : goal.offset_bounds-lookups-lookups_start
+offset_bounds-lookups-lookups_start c = omega (arith, (lies c.requires.spanned c.loop-t-test.true c.spans_of-s.ensures).lookups, (lies c.requires.spanned c.loop-t-test.true c.spans_of-s.ensures).lookups_end)
+
+pub offset_bounds-tuples-tuples_start : goal.offset_bounds-tuples-tuples_start
+offset_bounds-tuples-tuples_start c = omega (arith, (lies c.requires.spanned c.loop-t-test.true c.spans_of-s.ensures).tuples, (lies c.requires.spanned c.loop-t-test.true c.spans_of-s.ensures).tuples_end)
 
 pub loop-t-preserved : goal.loop-t-preserved
 loop-t-preserved c =

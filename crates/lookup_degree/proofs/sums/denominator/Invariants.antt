@@ -1,13 +1,10 @@
-use Rattle.lists.specs.laws.Turns.{Summing, sum-begins, sum_turn, sum-ends}
+use Rattle.lists.specs.laws.Turns.{Summing}
 use Rattle.expression.specs.Words.{word}
 use Prim.Native.Nat.{◌+◌, ◌-◌}
-use native.Mathlib.Omega.{arith}
-use mathlib.Core.Path.{◌∙◌}
-use borrow.Author.Rules.{rules}
 use Rattle.lookup_degree.proofs.sums.denominator.Given as goal
 
 abbrev pub invariant-loop-k : goal.invariant-loop-k
-invariant-loop-k l = Summing (λ l.k. word l.degrees (l.first + l.k)) 4294967295 l.n l.k l.sum
+invariant-loop-k l = Summing (λ k. word l.degrees (l.first + k)) 4294967295 l.n l.k l.sum
 
 abbrev pub decreases-loop-k : goal.decreases-loop-k
 decreases-loop-k l = l.n - l.k

@@ -1,13 +1,10 @@
-use Rattle.lookup_degree.specs.laws.Rising.{Rising, rise_begins, rise_turn, rise_ends}
+use Rattle.lookup_degree.specs.laws.Rising.{Rising}
 use Rattle.expression.specs.Words.{word}
-use Prim.Native.Nat.{ℕ, ◌+◌, ◌-◌, ◌≤◌}
-use native.Mathlib.Omega.{arith}
-use mathlib.Core.Path.{◌∙◌, ap, ap₂}
-use borrow.Author.Rules.{rules}
+use Prim.Native.Nat.{◌+◌, ◌-◌}
 use Rattle.lookup_degree.proofs.sums.flagged_counts.Given as goal
 
 abbrev pub invariant-loop-k : goal.invariant-loop-k
-invariant-loop-k l = Rising (λ l.k. word l.nodes (word l.flags (l.start + l.k)) + word l.nodes (word l.multiplicities (l.first + l.k))) l.n l.k l.top
+invariant-loop-k l = Rising (λ k. word l.nodes (word l.flags (l.start + k)) + word l.nodes (word l.multiplicities (l.first + k))) l.n l.k l.top
 
 abbrev pub decreases-loop-k : goal.decreases-loop-k
 decreases-loop-k l = l.n - l.k

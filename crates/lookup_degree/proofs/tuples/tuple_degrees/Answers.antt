@@ -1,7 +1,4 @@
-use Rattle.lookup_degree.proofs.Loops.{Degreed, degreed_begins, degreed_room, degreed_turn, degreed_ends}
-use Rattle.expression.specs.Words.{word}
-use lib.ListN.{length}
-use Prim.Native.Nat.{◌-◌}
+use Rattle.lookup_degree.proofs.Loops.{degreed_begins, degreed_room, degreed_turn, degreed_ends}
 use native.Mathlib.Omega.{arith}
 use borrow.Author.Rules.{rules}
 use Rattle.lookup_degree.proofs.tuples.tuple_degrees.Goals as goal
@@ -16,6 +13,10 @@ overflow_add-end c =
 pub slice_bounds-tuple_degree-end : goal.slice_bounds-tuple_degree-end
 slice_bounds-tuple_degree-end c =
     degreed_room c.loop-j.invariant c.loop-j-test.true c.to_usize.ensures.0 c.requires.1
+
+pub offset_bounds-elements-start : goal.offset_bounds-elements-start
+offset_bounds-elements-start c =
+    omega (arith, degreed_room c.loop-j.invariant c.loop-j-test.true c.to_usize.ensures.0 c.requires.1)
 
 pub loop-j-preserved : goal.loop-j-preserved
 loop-j-preserved c =

@@ -1,5 +1,4 @@
 use mathlib.Core.Path.{ap}
-use borrow.Author.Tests.{not-true, not-false}
 use Rattle.expression.specs.Refusal.{numbers}
 use Rattle.expression.specs.laws.Tested.{limits_sane}
 use Rattle.lookup_protocol.specs.Height.{height_at}
@@ -8,7 +7,7 @@ use Rattle.lookup_protocol.proofs.protocol.check_multiplicity_height_bound.Goals
 
 pub returns-then-not-known : goal.returns-then-not-known
 unfolding height_at
-returns-then-not-known c = rw (← c.known.ensures, not-true c.known.result c.if-not-known.true)
+returns-then-not-known c = rw (← c.known.ensures, c.if-not-known.true)
 
 pub height_refusal-requires : goal.height_refusal-requires
 height_refusal-requires c = rw c.limits_of-limits.ensures (limits_sane _)
@@ -18,7 +17,7 @@ unfolding height_at
 returns c =
     rw (
       ← c.known.ensures,
-      not-false c.known.result c.if-not-known.false,
+      c.if-not-known.false,
       ← c.limits_of-limits.ensures,
       ← c.prime_of.ensures,
     ) (ap numbers c.height_refusal.ensures)

@@ -1,4 +1,4 @@
-use borrow.Author.Tests.{not-true, not-false, lt-ltb, le-ltb}
+use borrow.Author.Tests.{lt-ltb, le-ltb}
 use Rattle.lookup_protocol.specs.laws.Height.{counted-tested}
 use Rattle.lookup_protocol.specs.Height.{height_refusal}
 use borrow.Author.Rules.{rules}
@@ -6,31 +6,31 @@ use Rattle.lookup_protocol.proofs.protocol.height_refusal.Goals as goal
 
 pub returns-then-not-tables_fit : goal.returns-then-not-tables_fit
 unfolding height_refusal
-returns-then-not-tables_fit c = rw (← c.tables_fit.ensures, not-true c.tables_fit.result c.if-not-tables_fit.true)
+returns-then-not-tables_fit c = rw (← c.tables_fit.ensures, c.if-not-tables_fit.true)
 
 pub returns-then-not-all_agree : goal.returns-then-not-all_agree
 unfolding height_refusal
 returns-then-not-all_agree c =
     rw (
       ← c.tables_fit.ensures,
-      not-false c.tables_fit.result c.if-not-tables_fit.false,
+      c.if-not-tables_fit.false,
       ← c.all_agree.ensures,
-      not-true c.all_agree.result c.if-not-all_agree.true,
+      c.if-not-all_agree.true,
     )
 
 pub height_sum-sum-requires : goal.height_sum-sum-requires
 height_sum-sum-requires c =
-    counted-tested c.args.lookups.now c.args.counts.now c.args.heights.now c.requires c.tables_fit.ensures
-    (not-false c.tables_fit.result c.if-not-tables_fit.false)
+    let tested = counted-tested c.args.lookups.now c.args.counts.now c.args.heights.now c.requires c.tables_fit.ensures c.if-not-tables_fit.false in
+    record { lookups_counted = tested.0; heights_len = tested.1 }
 
 pub returns-then-sum-to_u64 : goal.returns-then-sum-to_u64
 unfolding height_refusal
 returns-then-sum-to_u64 c =
     rw (
       ← c.tables_fit.ensures,
-      not-false c.tables_fit.result c.if-not-tables_fit.false,
+      c.if-not-tables_fit.false,
       ← c.all_agree.ensures,
-      not-false c.all_agree.result c.if-not-all_agree.false,
+      c.if-not-all_agree.false,
       ← c.height_sum-sum.ensures,
       ← c.to_u64.ensures.0,
       lt-ltb _ _ c.if-sum-to_u64.true,
@@ -41,9 +41,9 @@ unfolding height_refusal
 returns-else-sum-to_u64 c =
     rw (
       ← c.tables_fit.ensures,
-      not-false c.tables_fit.result c.if-not-tables_fit.false,
+      c.if-not-tables_fit.false,
       ← c.all_agree.ensures,
-      not-false c.all_agree.result c.if-not-all_agree.false,
+      c.if-not-all_agree.false,
       ← c.height_sum-sum.ensures,
       ← c.to_u64.ensures.0,
       le-ltb _ _ c.if-sum-to_u64.false,

@@ -10,15 +10,15 @@ loop-t-init c = weight_none
 
 pub slice_bounds-table_weight-end : goal.slice_bounds-table_weight-end
 slice_bounds-table_weight-end c =
-    part_in c.requires.0.0 c.loop-t.invariant.start (search rules) c.size.ensures.0
+    part_in c.requires.lookups_counted.0 c.loop-t.invariant.start (search rules) c.size.ensures.0
 
 pub table_weight-sum-requires : goal.table_weight-sum-requires
 table_weight-sum-requires c =
-    (part-weights _ _ c.requires.0.1 c.loop-t.invariant.start (search rules) c.size.ensures.0 refl, c.requires.1.1 _)
+    (part-weights _ _ c.requires.lookups_counted.1 c.loop-t.invariant.start (search rules) c.size.ensures.0 refl, c.requires.heights_len.1 _)
 
 pub loop-t-preserved : goal.loop-t-preserved
 loop-t-preserved c =
-    weight-next c.requires.0.0.few c.loop-t.invariant (search rules) c.size.ensures.0 c.table_weight-sum.ensures
+    weight-next c.requires.lookups_counted.0.few c.loop-t.invariant (search rules) c.size.ensures.0 c.table_weight-sum.ensures
 
 pub returns : goal.returns
 returns c = weight-all c.loop-t.invariant (search rules)

@@ -1,5 +1,5 @@
 use mathlib.Core.Path.{◌∙◌}
-use borrow.Author.Tests.{not-true, not-false, eq-eqb, ne_eqb}
+use borrow.Author.Tests.{eq-eqb, ne_eqb}
 use Rattle.lookup_protocol.specs.laws.Height.{few-tested}
 use Rattle.lookup_protocol.specs.Height.{tables_fit}
 use borrow.Author.Rules.{rules}
@@ -7,14 +7,14 @@ use Rattle.lookup_protocol.proofs.protocol.tables_fit.Goals as goal
 
 pub returns-then-not-tables_within : goal.returns-then-not-tables_within
 unfolding tables_fit
-returns-then-not-tables_within c = rw (← c.tables_within.ensures, not-true c.tables_within.result c.if-not-tables_within.true)
+returns-then-not-tables_within c = rw (← c.tables_within.ensures, c.if-not-tables_within.true)
 
 pub part_start-words-requires : goal.part_start-words-requires
 part_start-words-requires c = (
   search rules,
   search rules,
   search rules,
-  (few-tested c.args.counts.now c.args.heights.now c.requires c.tables_within.ensures (not-false c.tables_within.result c.if-not-tables_within.false)).0.few_tables,
+  (few-tested c.args.counts.now c.args.heights.now c.requires c.tables_within.ensures c.if-not-tables_within.false).0.few_tables,
 )
 
 pub returns-then-given-words : goal.returns-then-given-words
@@ -22,7 +22,7 @@ unfolding tables_fit
 returns-then-given-words c =
     rw (
       ← c.tables_within.ensures,
-      not-false c.tables_within.result c.if-not-tables_within.false,
+      c.if-not-tables_within.false,
       ← c.part_start-words.ensures.0,
       ne_eqb _ _ c.if-given-words.true,
     )
@@ -30,7 +30,7 @@ returns-then-given-words c =
 pub all_small-requires : goal.all_small-requires
 all_small-requires c =
     record {
-      few = (few-tested c.args.counts.now c.args.heights.now c.requires c.tables_within.ensures (not-false c.tables_within.result c.if-not-tables_within.false)).0;
+      few = (few-tested c.args.counts.now c.args.heights.now c.requires c.tables_within.ensures c.if-not-tables_within.false).0;
       whole = c.if-given-words.false ∙ c.part_start-words.ensures.0;
     }
 
@@ -39,7 +39,7 @@ unfolding tables_fit
 returns c =
     rw (
       ← c.tables_within.ensures,
-      not-false c.tables_within.result c.if-not-tables_within.false,
+      c.if-not-tables_within.false,
       ← c.part_start-words.ensures.0,
       eq-eqb _ _ c.if-given-words.false,
       ← c.all_small.ensures,

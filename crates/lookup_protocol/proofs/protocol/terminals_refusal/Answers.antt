@@ -3,36 +3,34 @@ use lib.Dec.{eqb, leb}
 use Prim.Native.Nat.{◌/◌, ◌%◌}
 use mathlib.Core.Path.{sym, ◌∙◌}
 use mathlib.Core.Bool.{◌&&◌}
-use borrow.Author.Tests.{not-true, not-false}
 use Rattle.lookup_protocol.specs.Terminals.{terminals_refusal}
 use borrow.Author.Rules.{rules}
 use Rattle.lookup_protocol.proofs.protocol.terminals_refusal.Goals as goal
 
 pub returns-then-not-whole-few : goal.returns-then-not-whole-few
 unfolding terminals_refusal
-returns-then-not-whole-few c = rw (not-true (eqb (length c.args.terminals.now % 5) 0 && leb (length c.args.terminals.now / 5) c.args.limits.tables) c.if-not-whole-few.true)
+returns-then-not-whole-few c = rw c.if-not-whole-few.true
 
 pub returns-then-not-all_below : goal.returns-then-not-all_below
 unfolding terminals_refusal
 returns-then-not-all_below c =
     rw (
-      not-false (eqb (length c.args.terminals.now % 5) 0 && leb (length c.args.terminals.now / 5) c.args.limits.tables) c.if-not-whole-few.false,
+      c.if-not-whole-few.false,
       ← c.all_below.ensures,
-      not-true c.all_below.result c.if-not-all_below.true,
+      c.if-not-all_below.true,
     )
 
 pub terminal_sum-requires : goal.terminal_sum-requires
 terminal_sum-requires c =
-    (c.requires, sym c.all_below.ensures ∙ not-false c.all_below.result c.if-not-all_below.false)
+    (c.requires, sym c.all_below.ensures ∙ c.if-not-all_below.false)
 
 pub returns-then-is_zero : goal.returns-then-is_zero
 unfolding terminals_refusal
 returns-then-is_zero c =
     rw (
-      not-false (eqb (length c.args.terminals.now % 5) 0 && leb (length c.args.terminals.now / 5) c.args.limits.tables)
-          c.if-not-whole-few.false,
+      c.if-not-whole-few.false,
       ← c.all_below.ensures,
-      not-false c.all_below.result c.if-not-all_below.false,
+      c.if-not-all_below.false,
       ← c.terminal_sum.ensures,
       ← c.is_zero.ensures,
       c.if-is_zero.true,
@@ -42,10 +40,9 @@ pub returns-else-is_zero : goal.returns-else-is_zero
 unfolding terminals_refusal
 returns-else-is_zero c =
     rw (
-      not-false (eqb (length c.args.terminals.now % 5) 0 && leb (length c.args.terminals.now / 5) c.args.limits.tables)
-          c.if-not-whole-few.false,
+      c.if-not-whole-few.false,
       ← c.all_below.ensures,
-      not-false c.all_below.result c.if-not-all_below.false,
+      c.if-not-all_below.false,
       ← c.terminal_sum.ensures,
       ← c.is_zero.ensures,
       c.if-is_zero.false,

@@ -1,5 +1,4 @@
 use mathlib.Core.Path.{ap}
-use borrow.Author.Tests.{not-true, not-false}
 use Rattle.field.specs.laws.Known.{known-prime}
 use Rattle.expression.specs.Refusal.{numbers}
 use Rattle.lookup_protocol.specs.Terminals.{terminals_at}
@@ -8,7 +7,7 @@ use Rattle.lookup_protocol.proofs.protocol.verify_terminal_sum.Goals as goal
 
 pub returns-then-not-known : goal.returns-then-not-known
 unfolding terminals_at
-returns-then-not-known c = rw (← c.known.ensures, not-true c.known.result c.if-not-known.true)
+returns-then-not-known c = rw (← c.known.ensures, c.if-not-known.true)
 
 pub terminals_refusal-requires : goal.terminals_refusal-requires
 terminals_refusal-requires c = rw c.prime_of.ensures (known-prime _)
@@ -18,7 +17,7 @@ unfolding terminals_at
 returns c =
     rw (
       ← c.known.ensures,
-      not-false c.known.result c.if-not-known.false,
+      c.if-not-known.false,
       ← c.limits_of-limits.ensures,
       ← c.prime_of.ensures,
     ) (ap numbers c.terminals_refusal.ensures)

@@ -34,11 +34,11 @@ fits-requires c = (
 
 pub returns-then-not-fits : goal.returns-then-not-fits
 returns-then-not-fits c =
-    fill_stops c.loop-end.invariant (search rules) c.to_usize-i.ensures.0 c.opened-alone.ensures c.merge-merged.ensures c.fits2.ensures c.if-not-fits.true
+    fill_stops c.loop-end.invariant (search rules) c.to_usize-i.ensures.0 c.opened-alone.ensures c.merge-merged.ensures c.fits.ensures c.if-not-fits.true
 
 pub loop-end-preserved : goal.loop-end-preserved
 loop-end-preserved c =
-    fill_turn c.loop-end.invariant (search rules) c.to_usize-i.ensures.0 c.opened-alone.ensures c.merge-merged.ensures c.fits2.ensures c.if-not-fits.false
+    fill_turn c.loop-end.invariant (search rules) c.to_usize-i.ensures.0 c.opened-alone.ensures c.merge-merged.ensures c.fits.ensures c.if-not-fits.false
 
 pub returns : goal.returns
 returns c = fill-ends c.loop-end.invariant (search rules)

@@ -9,7 +9,7 @@ use Rattle.packing_entry.proofs.pack_same_bus.pack_same_bus.Goals as goal
 pub returns-then-not-known : goal.returns-then-not-known
 returns-then-not-known c =
     let args = c.args in
-    let lent = lent_lookups args.lookups-out.now args.names-out.now args.tuples-out.now args.multiplicities-out.now args.flags-out.now args.elements-out.now in
+    let lent = lent_lookups args.lookups_out.now args.names_out.now args.tuples_out.now args.multiplicities_out.now args.flags_out.now args.elements_out.now in
     let own = lent_lookups args.lookups.now args.names.now args.tuples.now args.multiplicities.now args.flags.now args.elements.now in
     ap in_numbers (choice_unknown args.choices args.limit args.columns args.nodes.now own lent c.known.ensures c.if-not-known.true)
 
@@ -19,6 +19,6 @@ pack_within-requires c = rw c.limits_of.ensures (limits_sane _)
 pub returns : goal.returns
 returns c =
     let args = c.args in
-    let lent = lent_lookups args.lookups-out.now args.names-out.now args.tuples-out.now args.multiplicities-out.now args.flags-out.now args.elements-out.now in
+    let lent = lent_lookups args.lookups_out.now args.names_out.now args.tuples_out.now args.multiplicities_out.now args.flags_out.now args.elements_out.now in
     let own = lent_lookups args.lookups.now args.names.now args.tuples.now args.multiplicities.now args.flags.now args.elements.now in
     ap in_numbers (choices_known args.choices args.limit args.columns args.nodes.now own lent c.known.ensures c.if-not-known.false c.limits_of.ensures c.prime_of.ensures c.pack_within.ensures)

@@ -10,14 +10,14 @@ use Rattle.packing_entry.proofs.pack_same_bus.pack_within.Goals as goal
 pub returns-then-not-counts_hold : goal.returns-then-not-counts_hold
 returns-then-not-counts_hold c =
     let args = c.args in
-    let lent = lent_lookups args.lookups-out.now args.names-out.now args.tuples-out.now args.multiplicities-out.now args.flags-out.now args.elements-out.now in
+    let lent = lent_lookups args.lookups_out.now args.names_out.now args.tuples_out.now args.multiplicities_out.now args.flags_out.now args.elements_out.now in
     let own = lent_lookups args.lookups.now args.names.now args.tuples.now args.multiplicities.now args.flags.now args.elements.now in
     answer-small args.limits args.p args.limit args.columns args.nodes.now own lent c.counts_hold.ensures c.if-not-counts_hold.true
 
 pub pack_formed-requires : goal.pack_formed-requires
 pack_formed-requires c =
     let args = c.args in
-    let lent = lent_lookups args.lookups-out.now args.names-out.now args.tuples-out.now args.multiplicities-out.now args.flags-out.now args.elements-out.now in
+    let lent = lent_lookups args.lookups_out.now args.names_out.now args.tuples_out.now args.multiplicities_out.now args.flags_out.now args.elements_out.now in
     let own = lent_lookups args.lookups.now args.names.now args.tuples.now args.multiplicities.now args.flags.now args.elements.now in
     let none_refused = sym c.form_refusal-verdict.ensures ∙ ap refusal c.in-Accepted.is in
     let f : Formed args.limits args.nodes.now own = formed args.limits args.p args.columns args.nodes.now own c.requires none_refused in (
@@ -29,14 +29,14 @@ pack_formed-requires c =
 pub returns-in-Refused : goal.returns-in-Refused
 returns-in-Refused c =
     let args = c.args in
-    let lent = lent_lookups args.lookups-out.now args.names-out.now args.tuples-out.now args.multiplicities-out.now args.flags-out.now args.elements-out.now in
+    let lent = lent_lookups args.lookups_out.now args.names_out.now args.tuples_out.now args.multiplicities_out.now args.flags_out.now args.elements_out.now in
     let own = lent_lookups args.lookups.now args.names.now args.tuples.now args.multiplicities.now args.flags.now args.elements.now in
     answer-refused args.limits args.p args.limit args.columns args.nodes.now own lent c.counts_hold.ensures c.if-not-counts_hold.false c.form_refusal-verdict.ensures c.in-Refused.is
 
 pub returns-in-Accepted : goal.returns-in-Accepted
 returns-in-Accepted c =
     let args = c.args in
-    let lent = lent_lookups args.lookups-out.now args.names-out.now args.tuples-out.now args.multiplicities-out.now args.flags-out.now args.elements-out.now in
+    let lent = lent_lookups args.lookups_out.now args.names_out.now args.tuples_out.now args.multiplicities_out.now args.flags_out.now args.elements_out.now in
     let own = lent_lookups args.lookups.now args.names.now args.tuples.now args.multiplicities.now args.flags.now args.elements.now in
     answer_formed args.limits args.p args.limit args.columns args.nodes.now own lent c.counts_hold.ensures c.if-not-counts_hold.false
     c.form_refusal-verdict.ensures c.in-Accepted.is c.pack_formed.ensures
