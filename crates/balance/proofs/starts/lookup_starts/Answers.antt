@@ -1,5 +1,4 @@
 use Rattle.balance.proofs.RowsLoops.{lookup-starts_is}
-use borrow.Author.Rules.{rules}
 use Rattle.balance.proofs.starts.lookup_starts.Goals as goal
 
 pub returns : goal.returns
