@@ -1,5 +1,4 @@
-use Rattle.balance.proofs.RowsLoops.{row_skipped, row-entered, front_below}
-use borrow.Author.Rules.{rules}
+use Rattle.balance.proofs.RowsLoops.{row_skipped, front_below}
 use Rattle.balance.proofs.rows.accumulate_row.Goals as goal
 
 pub returns-then-u : goal.returns-then-u

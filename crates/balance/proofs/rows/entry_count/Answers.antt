@@ -1,6 +1,4 @@
 use Rattle.balance.proofs.RowsLoops.{count-exclusive, count-additive}
-use native.Mathlib.Omega.{arith}
-use borrow.Author.Rules.{rules}
 use Rattle.balance.proofs.rows.entry_count.Goals as goal
 
 pub returns-then-starts : goal.returns-then-starts

@@ -1,6 +1,4 @@
-use Rattle.balance.proofs.RowsLoops.{TupleValuesLoop, value-begins, value_turn, value-ends}
-use lib.ListN.{length}
-use Prim.Native.Nat.{◌-◌}
+use Rattle.balance.proofs.RowsLoops.{value_turn, value-ends}
 use borrow.Author.Rules.{rules}
 use Rattle.balance.proofs.rows.tuple_values.Goals as goal
 

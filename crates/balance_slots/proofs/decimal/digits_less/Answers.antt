@@ -1,8 +1,5 @@
 use mathlib.Core.Path.{refl}
-use lib.Dec.{ltb}
-use lib.ListN.{length}
-use Prim.Native.Nat.{◌-◌}
-use Rattle.balance_slots.proofs.DecimalLoops.{LessLoop, agree-begins, agree_turn, agree_differs, agree_longer, agree-ends}
+use Rattle.balance_slots.proofs.DecimalLoops.{agree_turn, agree_differs, agree_longer, agree-ends}
 use borrow.Author.Rules.{rules}
 use Rattle.balance_slots.proofs.decimal.digits_less.Goals as goal
 

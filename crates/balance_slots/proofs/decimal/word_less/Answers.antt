@@ -1,7 +1,5 @@
-use lib.ListN.{replicate}
 use native.Mathlib.Omega.{arith}
-use Rattle.balance_slots.proofs.DecimalLoops.{fits-ten, within-ten, less_is}
-use borrow.Author.Rules.{rules}
+use Rattle.balance_slots.proofs.DecimalLoops.{fits-ten}
 use Rattle.balance_slots.proofs.decimal.word_less.Goals as goal
 
 pub push_digits-n-requires : goal.push_digits-n-requires

@@ -1,6 +1,5 @@
-use Rattle.balance_slots.proofs.ChainsLoops.{ChainLoop, walk_begins, walk_turn, walk_less, walk_ends}
+use Rattle.balance_slots.proofs.ChainsLoops.{walk_begins, walk_turn, walk_less}
 use mathlib.Core.Path.{refl}
-use borrow.Author.Rules.{rules}
 use Rattle.balance_slots.proofs.find.find.Goals as goal
 
 pub loop-cur-init : goal.loop-cur-init

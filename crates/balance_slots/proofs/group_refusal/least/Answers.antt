@@ -1,6 +1,4 @@
-use Rattle.balance_slots.proofs.GroupRefusalLoops.{LeastLoop, least_loop_begins, least_loop_turn, least_loop_ends}
-use Prim.Native.Nat.{◌-◌}
-use native.Mathlib.Omega.{arith}
+use Rattle.balance_slots.proofs.GroupRefusalLoops.{least_loop_begins, least_loop_turn}
 use borrow.Author.Rules.{rules}
 use Rattle.balance_slots.proofs.group_refusal.least.Goals as goal
 

@@ -1,7 +1,4 @@
-use Prim.Native.Nat.{◌-◌}
-use Rattle.balance_slots.proofs.ChainsLoops.{HashLoop, hash_loop_begins, hash_loop_turn, hash_loop_ends, point_fits, factor-fits, step_fits, once-low, twice-low}
-use native.Mathlib.Omega.{arith}
-use borrow.Author.Rules.{rules}
+use Rattle.balance_slots.proofs.ChainsLoops.{hash_loop_begins, hash_loop_turn, hash_loop_ends}
 use Rattle.balance_slots.proofs.hash.hash.Goals as goal
 
 pub loop-j-init : goal.loop-j-init

@@ -1,5 +1,4 @@
-use Prim.Native.Nat.{◌-◌}
-use Rattle.balance_slots.proofs.ChainsLoops.{UnlinkLoop, unlink_begins, unlink_turn, unlink_ends}
+use Rattle.balance_slots.proofs.ChainsLoops.{unlink_begins, unlink_turn}
 use borrow.Author.Rules.{rules}
 use Rattle.balance_slots.proofs.link.unlink_slots.Goals as goal
 

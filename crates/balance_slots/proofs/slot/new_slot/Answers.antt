@@ -1,5 +1,4 @@
-use Rattle.balance_slots.proofs.SlotsLoops.{new_is, new_part}
-use borrow.Author.Rules.{rules}
+use Rattle.balance_slots.proofs.SlotsLoops.{new_is}
 use Rattle.balance_slots.proofs.slot.new_slot.Goals as goal
 
 pub returns : goal.returns

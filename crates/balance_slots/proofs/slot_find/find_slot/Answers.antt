@@ -1,5 +1,4 @@
-use Rattle.balance_slots.proofs.SlotsLoops.{FindSlotLoop, search_begins, search_turn, search_hits, search_ends}
-use Prim.Native.Nat.{◌-◌}
+use Rattle.balance_slots.proofs.SlotsLoops.{search_turn, search_hits, search_ends}
 use borrow.Author.Rules.{rules}
 use Rattle.balance_slots.proofs.slot_find.find_slot.Goals as goal
 

@@ -1,6 +1,4 @@
-use Rattle.lists.specs.laws.Same.{SameSoFar, same-begins, same_turn, same_ends, same_differs, same_lengths}
-use Prim.Native.Nat.{◌-◌}
-use lib.ListN.{length}
+use Rattle.lists.specs.laws.Same.{same_turn, same_ends, same_differs, same_lengths}
 use borrow.Author.Rules.{rules}
 use Rattle.balance_slots.proofs.slot_find.same_words.Goals as goal
 
