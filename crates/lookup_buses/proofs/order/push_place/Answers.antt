@@ -1,5 +1,4 @@
-use Rattle.lookup_buses.proofs.Loops.{Pushing, pushing_begins, pushing_room, pushing_yes, pushing_no, pushing_ends}
-use Prim.Native.Nat.{◌-◌}
+use Rattle.lookup_buses.proofs.Loops.{pushing_begins, pushing_room, pushing_yes, pushing_no, pushing_ends}
 use borrow.Author.Rules.{rules}
 use Rattle.lookup_buses.proofs.order.push_place.Goals as goal
 use Rattle.lookup_buses.proofs.order.push_place.Goals.{then-places-i, else-places-i}
