@@ -1,6 +1,6 @@
 -- The degree of a merged column from those of its parts.
-use Rattle.std.specs.Prelude.{◌≡◌, Bool, true, false, cond, not, ◌&&◌, ◌||◌, ℕ, zero, suc, ◌+◌, ◌-◌, ◌≤◌, max, length}
-use Rattle.std.proofs.Common.{sym, ap, ap₂, ◌∙◌, arith}
+use Rattle.std.specs.Prelude.{◌≡◌, false, ℕ, ◌+◌, ◌-◌, ◌≤◌, max, length}
+use Rattle.std.proofs.Common.{ap, ap₂, ◌∙◌, arith}
 use mathlib.Core.List.{List, [], ◌∷◌, ◌++◌, zip_with}
 use Rattle.lists.specs.laws.Tab.{zip_append}
 use Rattle.lookup_degree.specs.Sums.{sum_of, largest_of}
