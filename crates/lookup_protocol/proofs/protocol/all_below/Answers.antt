@@ -1,6 +1,4 @@
-use Prim.Native.Nat.{◌-◌}
-use Rattle.lookup_protocol.specs.Terminals.{terminal_below}
-use Rattle.lists.specs.laws.Turns.{Testing, test_begins, test_turn, test_ends}
+use Rattle.lists.specs.laws.Turns.{test_begins, test_turn, test_ends}
 use borrow.Author.Rules.{rules}
 use Rattle.lookup_protocol.proofs.protocol.all_below.Goals as goal
 

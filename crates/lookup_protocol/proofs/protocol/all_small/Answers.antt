@@ -1,7 +1,5 @@
 use mathlib.Core.Path.{refl}
-use lib.ListN.{length}
-use Prim.Native.Nat.{◌-◌}
-use Rattle.lookup_protocol.specs.laws.Height.{SmallSoFar, small_none, small-next, small_all, part_in, part-few}
+use Rattle.lookup_protocol.specs.laws.Height.{small_none, small-next, small_all, part_in, part-few}
 use borrow.Author.Rules.{rules}
 use Rattle.lookup_protocol.proofs.protocol.all_small.Goals as goal
 

@@ -1,10 +1,5 @@
-use lib.ListN.{length}
-use lib.Dec.{eqb, leb}
-use Prim.Native.Nat.{◌/◌, ◌%◌}
 use mathlib.Core.Path.{sym, ◌∙◌}
-use mathlib.Core.Bool.{◌&&◌}
 use Rattle.lookup_protocol.specs.Terminals.{terminals_refusal}
-use borrow.Author.Rules.{rules}
 use Rattle.lookup_protocol.proofs.protocol.terminals_refusal.Goals as goal
 
 pub returns-then-not-whole-few : goal.returns-then-not-whole-few
