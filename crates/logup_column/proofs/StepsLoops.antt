@@ -1,13 +1,13 @@
 -- The functions without a loop, branch by branch.
 use mathlib.Core.Path.{◌≡◌, ap, ◌∙◌}
-use mathlib.Core.Bool.{Bool, true, false, cond}
+use mathlib.Core.Bool.{Bool, true, false}
 use mathlib.Core.List.{List}
 use Prim.Native.Nat.{ℕ, ◌<◌, ◌≤◌}
 use native.Mathlib.Omega.{arith}
 use lib.Dec.{eqb}
 use borrow.Author.Tests.{lt-ltb, le-ltb}
 use Rattle.lists.specs.laws.Count.{eqb_true, eqb_false}
-use Rattle.field.specs.Element.{Word4, one4, sub4}
+use Rattle.field.specs.Element.{Word4, sub4}
 use Rattle.field.specs.Ext.{ext_words}
 use Rattle.field.specs.declared.extension.Ext.{Ext}
 use Rattle.expression.specs.Values.{bit}

@@ -2,7 +2,7 @@
 use mathlib.Core.Path.{◌≡◌, refl, sym, ap, ap₂, ◌∙◌, subst}
 use mathlib.Core.Bool.{Bool, true, false, cond, ◌||◌}
 use mathlib.Core.List.{List, [], ◌∷◌, ◌++◌, map}
-use Prim.Native.Nat.{ℕ, zero, ◌+◌, ◌*◌, ◌-◌, ◌<◌, ◌≤◌, zero-le}
+use Prim.Native.Nat.{ℕ, ◌+◌, ◌*◌, ◌-◌, ◌<◌, ◌≤◌, zero-le}
 use native.Mathlib.Nat.{zero-add}
 use native.Mathlib.Numerals.{add-one}
 use native.Mathlib.Omega.{arith}
@@ -17,12 +17,12 @@ use Rattle.lists.specs.laws.Filled.{Filled, filled_none, filled-one, filled-part
 use Rattle.lists.specs.laws.Parts.{part_length}
 use Rattle.field.specs.declared.extension.Ext.{Ext}
 use Rattle.field.specs.Ext.{ext_words}
-use Rattle.field.specs.Element.{Word4, one4, is_zero}
+use Rattle.field.specs.Element.{one4, is_zero}
 use Rattle.expression.specs.Words.{word}
 use Rattle.expression.specs.Values.{bit}
 use Rattle.lookup.specs.Lookups.{exclusive, tuple_count, element_start, tuple_start, multiplicity_start, tuple_width, multiplicity_node, tuple_nodes}
 use Rattle.logup.specs.Tuple.{tuple, denominator}
-use Rattle.logup.specs.Column.{Place, branches, multiplicity, flag, chosen, denom, fault}
+use Rattle.logup.specs.Column.{Place, branches, multiplicity, flag, chosen, denom}
 use Rattle.logup_column.specs.inner.Powers.{beta_of}
 use Rattle.logup_column.specs.inner.Own.{own_place, Fits, branch_code, faults}
 use Rattle.logup_column.specs.inner.Terms.{contributes_nothing, exclusive_lookup, multiplicity_by, denominator_by, branch_taken, term_multiplicity, term_denominator}

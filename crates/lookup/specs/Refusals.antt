@@ -1,5 +1,5 @@
 -- The first of refusals 1 to 5 that a table has, "in the order of their numbers" (SPECIFICATION, section 10.2).
-use Rattle.std.specs.Prelude.{ℕ, Bool, true, ◌&&◌, List, leb, ltb, length}
+use Rattle.std.specs.Prelude.{ℕ, Bool, true, ◌&&◌, List, leb, ltb}
 use Rattle.std.proofs.Math.Option.{Option, none}
 use Rattle.expression.specs.Node.{node_count}
 use Rattle.expression.specs.Tests.{nodes_within, nodes_fit, constants_below, nodes_known, degrees_low}

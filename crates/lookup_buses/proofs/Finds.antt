@@ -1,20 +1,18 @@
 -- The turns of the loops of the widths: the first of n, the largest of n, and what is read of one lookup.
 use mathlib.Core.Path.{◌≡◌, sym, ap, ◌∙◌}
-use mathlib.Core.Bool.{Bool, true, false, cond, ◌&&◌}
+use mathlib.Core.Bool.{Bool, true, false}
 use mathlib.Core.Option.{Option, none, some}
 use mathlib.Core.List.{List, ◌++◌}
-use Prim.Native.Nat.{ℕ, ◌+◌, ◌*◌, ◌-◌, ◌<◌, ◌≤◌, max}
-use native.Mathlib.Numerals.{add-one}
+use Prim.Native.Nat.{ℕ, ◌+◌, ◌<◌, ◌≤◌}
 use native.Mathlib.Omega.{arith}
 use native.Mathlib.Nat.{add-zero}
-use lib.Dec.{eqb}
 use borrow.Author.Tests.{eq-eqb, ne_eqb, lt-ltb, le-ltb}
 use lib.ListN.{length, drop, get_or, replicate}
 use Rattle.lists.specs.Same.{same_list}
 use Rattle.lists.specs.Count.{first}
 use Rattle.lists.specs.laws.Count.{total_in}
 use Rattle.expression.specs.Words.{word}
-use Rattle.lookup.specs.Lookups.{lookup_count, on_bus, name_start, tuple_count, tuple_start, tuple_width, bus_lookups}
+use Rattle.lookup.specs.Lookups.{lookup_count, on_bus, tuple_count, tuple_start, tuple_width, bus_lookups}
 use Rattle.lookup.specs.Buses.{name_at, alone_at}
 use Rattle.lookup.specs.Requires.{BusNames}
 use Rattle.lookup_degree.specs.Sums.{greatest}

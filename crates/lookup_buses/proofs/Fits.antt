@@ -1,9 +1,8 @@
 -- What the tests say, and the answer.
-use mathlib.Core.Path.{◌≡◌, refl, sym, ap, ap₂, ◌∙◌}
+use mathlib.Core.Path.{◌≡◌, refl, sym, ap, ◌∙◌}
 use mathlib.Core.Bool.{Bool, true, false, ◌&&◌}
-use mathlib.Core.Option.{Option, none, some}
 use mathlib.Core.List.{List, [], ◌∷◌}
-use Prim.Native.Nat.{ℕ, ◌+◌, ◌*◌, ◌/◌, ◌%◌, ◌<◌, ◌≤◌}
+use Prim.Native.Nat.{ℕ, ◌*◌, ◌%◌, ◌≤◌}
 use native.Mathlib.Omega.{arith}
 use lib.Dec.{eqb, leb}
 use lib.ListN.{length}
@@ -12,14 +11,14 @@ use Rattle.lists.specs.Count.{every}
 use Rattle.lists.specs.laws.Tests.{passed, every_true}
 use Rattle.expression.specs.Limits.{Sane}
 use Rattle.expression.specs.Choices.{known, limits_of}
-use Rattle.expression.specs.Refusal.{refusal, unless}
+use Rattle.expression.specs.Refusal.{refusal}
 use Rattle.expression.specs.declared.choices.Choices.{Choices}
 use Rattle.expression.specs.declared.sizes.Limits.{Limits}
 use Rattle.expression.specs.declared.refusal.Refusal.{Refusal}
 use Rattle.expression.specs.declared.refusal.Refusal.TheVariants.{SizeAtOdds, LookupInvalid}
 use Rattle.expression.specs.declared.refusal.Verdict.{Verdict}
 use Rattle.expression.specs.declared.refusal.Verdict.TheVariants as verdict
-use Rattle.lookup.specs.Lookups.{Lookups, bus_lookups, lookup_words, lookup_count, name_start, tuple_start}
+use Rattle.lookup.specs.Lookups.{Lookups, lookup_words, lookup_count, name_start, tuple_start}
 use Rattle.lookup.specs.Sizes.{table_count, size_start, covers}
 use Rattle.lookup.specs.Tests.{lookups_within, lengths_agree}
 use Rattle.lookup.specs.laws.Tested.{lookups-few}

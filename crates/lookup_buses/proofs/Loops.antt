@@ -1,26 +1,20 @@
 -- The turns of the loops of the order, over plain lists and numbers.
 use mathlib.Core.Path.{◌≡◌, refl, sym, ap, ap₂, ◌∙◌}
-use mathlib.Core.Bool.{Bool, true, false, cond, ◌||◌}
+use mathlib.Core.Bool.{Bool, true, false, cond}
 use mathlib.Core.List.{List, [], ◌∷◌, ◌++◌, append-nil, append_assoc}
-use Prim.Native.Nat.{ℕ, zero, suc, ◌+◌, ◌*◌, ◌-◌, ◌<◌, ◌≤◌, zero-le}
+use Prim.Native.Nat.{ℕ, zero, suc, ◌+◌, ◌<◌, ◌≤◌, zero-le}
 use native.Mathlib.Numerals.{add-one}
 use native.Mathlib.Omega.{arith}
 use native.Mathlib.Decide.{dec_le}
 use lib.Dec.{eqb, ltb}
-use lib.ListN.{length, take, drop, get_or, set, replicate, length-append, take-append-drop, drop_of_length-le, get_or-append}
-use lib.Seq.{drop-cons, get_or_at, length-take-le, take_at, drop_at, drop-drop}
+use lib.ListN.{length, take, drop, get_or, set, replicate, length-append, take-append-drop, drop_of_length-le}
+use lib.Seq.{drop-cons, length-take-le, take_at, drop_at, drop-drop}
 use borrow.Author.Tests.{eq-eqb, ne_eqb}
-use Rattle.lists.specs.Same.{same_list}
 use Rattle.lists.specs.laws.Parts.{through_length, get_or_pad}
 use Rattle.lists.specs.laws.Filled.{Filled, filled_none, filled-one}
 use Rattle.lists.specs.Tab.{tab}
 use Rattle.lists.specs.laws.Tab.{tab_none, tab-one, tab_get}
-use Rattle.lists.specs.Count.{total}
-use Rattle.lists.specs.laws.Count.{total_in}
-use Rattle.lookup.specs.Lookups.{lookup_count, name_length, name_start}
-use Rattle.lookup.specs.Buses.{name_at, same_bus}
-use Rattle.lookup.specs.Requires.{BusNames}
-use Rattle.lookup_degree.specs.Sums.{sum_of}
+use Rattle.lookup.specs.Buses.{same_bus}
 use Rattle.lookup_buses.specs.Order.{position, keep, by_place, numbers, place, arranged}
 use Rattle.lookup_buses.specs.inner.Requires.{of_place, order_of}
 use Rattle.lookup_buses.specs.laws.Order.{keep_append, sum-by_place, numbers-length, numbers_at, numbers-below, ones, by_place_cong, arranged-length}

@@ -1,5 +1,5 @@
 -- A lookup's own parts of a table's lists: taken alone, they give the fraction and the fault that the table's lists give.
-use Rattle.std.specs.Prelude.{◌≡◌, Bool, ◌||◌, not, eqb, length, drop}
+use Rattle.std.specs.Prelude.{◌≡◌, Bool, not, eqb, length, drop}
 use Rattle.std.proofs.Math.Path.{refl, ap, ap₂}
 use Rattle.std.proofs.Common.{sym, ◌∙◌, zero-add, add-zero, add-suc, get_or-take, get_or-drop, take-take, drop-drop}
 use Rattle.std.proofs.Math.Bool.{true, false, cond}

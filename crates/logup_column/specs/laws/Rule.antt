@@ -1,6 +1,6 @@
 -- The lists of a table that passed the tests, with its elements as a rule takes them: they pass too.
-use Rattle.std.specs.Prelude.{◌≡◌, true, List, ◌++◌, ℕ, zero, suc, ◌+◌, ◌*◌, ◌-◌, ◌<◌, ◌≤◌, take, drop}
-use Rattle.std.proofs.Common.{sym, ◌∙◌, arith, take_at}
+use Rattle.std.specs.Prelude.{◌≡◌, true, List, ◌++◌, ℕ, zero, suc, ◌*◌, ◌-◌, ◌≤◌, take, drop}
+use Rattle.std.proofs.Common.{◌∙◌, arith, take_at}
 use Rattle.std.proofs.Math.Path.{ap}
 use Rattle.std.proofs.Math.Dec.{ltb}
 use Rattle.std.proofs.Math.ListN.{length}

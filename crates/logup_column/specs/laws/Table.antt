@@ -1,6 +1,6 @@
 -- What stands in a list that is made of lists of one length, and so in a table of powers.
 use Rattle.std.specs.Prelude.{◌≡◌, List, [], ◌∷◌, ◌++◌, ℕ, ◌+◌, ◌*◌, ◌<◌, ◌≤◌, length}
-use Rattle.std.proofs.Common.{sym, ap, ◌∙◌, zero-add, mul-le-mul_left, mul-suc, length-append, get_or-append-add}
+use Rattle.std.proofs.Common.{ap, ◌∙◌, length-append}
 use native.Mathlib.Omega.{arith}
 use Rattle.std.proofs.Math.ListN.{get_or-append}
 use Rattle.lists.specs.Count.{joined}

@@ -8,7 +8,7 @@ use Rattle.field.specs.Known.{prime_of, w_of}
 use Rattle.field.specs.laws.Known.{known-prime, w_below, certificate_of}
 use Rattle.expression.specs.Limits.{Sane}
 use Rattle.expression.specs.Node.{node_count}
-use Rattle.expression.specs.Tests.{nodes_within, traces_fit, traces_below, constants_below, degrees_low}
+use Rattle.expression.specs.Tests.{traces_below, constants_below, degrees_low}
 use Rattle.expression.specs.Requires.{Evaluable}
 use Rattle.expression.specs.laws.Tested.{small-tested, traces-tested}
 use Rattle.expression.specs.laws.Refusal.{unless_none}
@@ -16,7 +16,7 @@ use Rattle.expression.specs.declared.sizes.Limits.{Limits}
 use Rattle.expression.specs.declared.refusal.Refusal.TheVariants.{SizeAtOdds, WordTooLarge, NodeInvalid, DegreeTooHigh, LookupInvalid}
 use Rattle.lookup.specs.Lookups.{lookup_count}
 use Rattle.lookup.specs.Table.{Table}
-use Rattle.lookup.specs.Tests.{lookups_within, lookups_fit, sizes, words_below, known, lists_agree, in_position, has_lookups, preprocessed_enough, rows_enough}
+use Rattle.lookup.specs.Tests.{sizes, words_below, known, lists_agree, in_position, has_lookups, preprocessed_enough, rows_enough}
 use Rattle.lookup.specs.laws.Tested.{limited, fitting, agreeing, sizes_passed, lookups-few}
 use Rattle.logup_column.specs.inner.Refusals.{position_refusal, table_tests}
 use Rattle.logup_column.specs.inner.Requires.{LookupLists, Field}

@@ -1,6 +1,6 @@
 -- What the code asks of its lists, and what its loops make.
 use Rattle.std.proofs.Math.Option.{Option, none, some}
-use Rattle.std.specs.Prelude.{List, [], ℕ, ◌+◌, ◌*◌, ◌<◌, ◌≤◌, ◌≡◌, eqb, length}
+use Rattle.std.specs.Prelude.{List, ℕ, ◌+◌, ◌*◌, ◌<◌, ◌≤◌, ◌≡◌, eqb, length}
 use Rattle.expression.specs.Words.{word}
 use Rattle.lookup.specs.Lookups.{Lookups, lookup_words, lookup_count, name_start, tuple_start}
 use Rattle.lookup.specs.Sizes.{table_count, size, size_start}

@@ -1,5 +1,5 @@
 -- Laws of the order by place, and of what a test keeps of a list.
-use Rattle.std.specs.Prelude.{◌≡◌, Bool, ◌||◌, ◌⊎◌, get_or}
+use Rattle.std.specs.Prelude.{◌≡◌, Bool, ◌⊎◌, get_or}
 use Rattle.std.proofs.Math.Path.{refl, sym, ap}
 use Rattle.std.proofs.Common.{ap₂, ◌∙◌, inl, inr, zero-add, length-append}
 use Rattle.std.proofs.Math.Bool.{true, false, cond}

@@ -1,5 +1,5 @@
 -- Where the tables lie in the lists of all tables.
-use Rattle.std.specs.Prelude.{◌≡◌, refl, List, ℕ, ◌+◌, ◌*◌, ◌-◌, ◌<◌, ◌≤◌, length, take, drop}
+use Rattle.std.specs.Prelude.{◌≡◌, refl, List, ℕ, ◌-◌, ◌<◌, ◌≤◌, length, take, drop}
 use Rattle.std.proofs.Common.{sym, subst, arith}
 use Rattle.lookup.specs.Lookups.{Lookups, bus_lookups, lookup_words}
 use Rattle.lookup.specs.Sizes.{table_count}

@@ -1,5 +1,5 @@
 -- Degrees by number are those of the lookup's record.
-use Rattle.std.specs.Prelude.{◌≡◌, Bool, length, drop, get_or}
+use Rattle.std.specs.Prelude.{◌≡◌, Bool, length, drop}
 use Rattle.std.proofs.Math.Path.{refl, sym, ap, ap₂}
 use Rattle.std.proofs.Common.{◌∙◌, zero-add, length-drop, take-suc, get_or-drop}
 use Rattle.std.proofs.Math.Bool.{true, false, cond}

@@ -1,4 +1,3 @@
-use borrow.Author.Rules.{rules}
 use Rattle.logup_column.proofs.column.contributes_nothing.Goals as goal
 
 pub returns-then-exclusive : goal.returns-then-exclusive

@@ -1,5 +1,4 @@
 use Rattle.logup_column.proofs.StepsLoops.{denominator_is}
-use borrow.Author.Rules.{rules}
 use Rattle.logup_column.proofs.column.denominator_of.Goals as goal
 
 pub returns-then-nodes-le4 : goal.returns-then-nodes-le4

@@ -1,6 +1,5 @@
 use Rattle.logup_column.proofs.TermsLoops.{flags-read, no_flags, lookup_is}
 use mathlib.Core.Path.{sym, ◌∙◌}
-use borrow.Author.Rules.{rules}
 use Rattle.logup_column.proofs.column.lookup.Goals as goal
 
 pub returns-then-exclusive : goal.returns-then-exclusive

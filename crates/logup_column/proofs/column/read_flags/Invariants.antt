@@ -1,7 +1,5 @@
 use Prim.Native.Nat.{◌-◌}
-use mathlib.Core.Path.{refl}
-use Rattle.logup_column.proofs.FlagsLoops.{FlagsLoop, flags_loop_begins, flags_loop_turn, flags_loop_ends}
-use borrow.Author.Rules.{rules}
+use Rattle.logup_column.proofs.FlagsLoops.{FlagsLoop}
 use Rattle.logup_column.proofs.column.read_flags.Given as goal
 
 abbrev pub invariant-loop-k : goal.invariant-loop-k

@@ -1,6 +1,5 @@
-use Rattle.logup_column.proofs.FlagsLoops.{start_loop_in, StartLoop, start_loop_begins, start_loop_turn, start_loop_ends}
+use Rattle.logup_column.proofs.FlagsLoops.{start_loop_in, start_loop_begins, start_loop_turn, start_loop_ends}
 use native.Mathlib.Omega.{arith}
-use Prim.Native.Nat.{◌-◌}
 use borrow.Author.Rules.{rules}
 use Rattle.logup_column.proofs.column.start_of.Goals as goal
 

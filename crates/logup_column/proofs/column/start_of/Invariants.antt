@@ -1,7 +1,5 @@
-use Rattle.logup_column.proofs.FlagsLoops.{start_loop_in, StartLoop, start_loop_begins, start_loop_turn, start_loop_ends}
-use native.Mathlib.Omega.{arith}
+use Rattle.logup_column.proofs.FlagsLoops.{StartLoop}
 use Prim.Native.Nat.{◌-◌}
-use borrow.Author.Rules.{rules}
 use Rattle.logup_column.proofs.column.start_of.Given as goal
 
 abbrev pub invariant-loop-j : goal.invariant-loop-j

@@ -1,6 +1,5 @@
 use Rattle.logup_column.proofs.StepsLoops.{nothing_contributed, something_contributed}
 use native.Mathlib.Omega.{arith}
-use borrow.Author.Rules.{rules}
 use Rattle.logup_column.proofs.column.term_of.Goals as goal
 
 pub returns-then-nothing : goal.returns-then-nothing

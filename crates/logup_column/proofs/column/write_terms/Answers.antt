@@ -1,5 +1,4 @@
-use Rattle.logup_column.proofs.TermsLoops.{TermsLoop, terms_begin, terms_in, terms_few, terms_part, terms_turn, terms_end}
-use Prim.Native.Nat.{◌-◌}
+use Rattle.logup_column.proofs.TermsLoops.{terms_begin, terms_in, terms_few, terms_part, terms_turn, terms_end}
 use mathlib.Core.Path.{refl}
 use native.Mathlib.Omega.{arith}
 use borrow.Author.Rules.{rules}

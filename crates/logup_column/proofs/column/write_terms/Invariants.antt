@@ -1,8 +1,5 @@
-use Rattle.logup_column.proofs.TermsLoops.{TermsLoop, terms_begin, terms_in, terms_few, terms_part, terms_turn, terms_end}
+use Rattle.logup_column.proofs.TermsLoops.{TermsLoop}
 use Prim.Native.Nat.{◌-◌}
-use mathlib.Core.Path.{refl}
-use native.Mathlib.Omega.{arith}
-use borrow.Author.Rules.{rules}
 use Rattle.logup_column.proofs.column.write_terms.Given as goal
 
 abbrev pub invariant-loop-k : goal.invariant-loop-k

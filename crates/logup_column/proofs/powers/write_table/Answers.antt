@@ -1,7 +1,5 @@
 use Rattle.logup_column.specs.laws.Lookup.{element-word}
-use native.Mathlib.Omega.{arith}
-use Prim.Native.Nat.{◌-◌}
-use Rattle.logup_column.proofs.TableLoops.{TableLoop, table_loop_begins, table_loop_part, table_loop_turn, table_loop_ends}
+use Rattle.logup_column.proofs.TableLoops.{table_loop_begins, table_loop_part, table_loop_turn, table_loop_ends}
 use borrow.Author.Rules.{rules}
 use Rattle.logup_column.proofs.powers.write_table.Goals as goal
 

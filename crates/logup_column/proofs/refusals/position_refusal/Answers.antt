@@ -1,5 +1,4 @@
 use Rattle.logup_column.specs.inner.Refusals.{position_refusal}
-use borrow.Author.Rules.{rules}
 use Rattle.logup_column.proofs.refusals.position_refusal.Goals as goal
 
 pub returns-then-agree-placed : goal.returns-then-agree-placed

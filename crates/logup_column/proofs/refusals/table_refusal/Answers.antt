@@ -1,6 +1,5 @@
 use Rattle.expression.specs.Refusal.{refusal}
 use Rattle.logup_column.proofs.RefusalsLoops.{table-nodes, table_1, table_2, table-rest}
-use borrow.Author.Rules.{rules}
 use Rattle.logup_column.proofs.refusals.table_refusal.Goals as goal
 
 pub returns-then-not-sized-fit : goal.returns-then-not-sized-fit

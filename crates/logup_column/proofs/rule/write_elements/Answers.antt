@@ -1,7 +1,5 @@
 use native.Mathlib.Omega.{arith}
-use Prim.Native.Nat.{◌-◌}
-use lib.ListN.{length}
-use Rattle.logup_column.proofs.RuleLoops.{ElementsLoop, elements_loop_begins, elements_loop_next, elements_loop_turn, elements_loop_ends}
+use Rattle.logup_column.proofs.RuleLoops.{elements_loop_begins, elements_loop_next, elements_loop_turn, elements_loop_ends}
 use borrow.Author.Rules.{rules}
 use Rattle.logup_column.proofs.rule.write_elements.Goals as goal
 

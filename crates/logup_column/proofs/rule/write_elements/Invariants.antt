@@ -1,8 +1,6 @@
-use native.Mathlib.Omega.{arith}
 use Prim.Native.Nat.{◌-◌}
 use lib.ListN.{length}
-use Rattle.logup_column.proofs.RuleLoops.{ElementsLoop, elements_loop_begins, elements_loop_next, elements_loop_turn, elements_loop_ends}
-use borrow.Author.Rules.{rules}
+use Rattle.logup_column.proofs.RuleLoops.{ElementsLoop}
 use Rattle.logup_column.proofs.rule.write_elements.Given as goal
 
 abbrev pub invariant-loop-k : goal.invariant-loop-k

@@ -1,7 +1,5 @@
-use native.Mathlib.Omega.{arith}
 use Prim.Native.Nat.{◌-◌}
-use Rattle.logup_column.proofs.RuleLoops.{TupleLoop, tuple_loop_begins, tuple_loop_turn, tuple_loop_ends}
-use borrow.Author.Rules.{rules}
+use Rattle.logup_column.proofs.RuleLoops.{TupleLoop}
 use Rattle.logup_column.proofs.rule.write_tuple.Given as goal
 
 abbrev pub invariant-loop-j : goal.invariant-loop-j

@@ -1,7 +1,6 @@
 use mathlib.Core.Path.{◌∙◌}
 use native.Mathlib.Omega.{arith}
 use Rattle.logup_column.proofs.StartsLoops.{tuple-room, multiplicity-room, flag-room, element-room, element_from, next_is}
-use borrow.Author.Rules.{rules}
 use Rattle.logup_column.proofs.starts.next_starts.Goals as goal
 
 pub overflow_add-to : goal.overflow_add-to

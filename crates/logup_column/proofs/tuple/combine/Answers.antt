@@ -1,7 +1,7 @@
 use native.Mathlib.Omega.{arith}
-use Prim.Native.Nat.{ℕ, ◌-◌, ◌<◌}
+use Prim.Native.Nat.{ℕ, ◌<◌}
 use mathlib.Core.Path.{refl, sym, subst}
-use Rattle.logup_column.proofs.CombineLoops.{CombineLoop, combine_loop_begins, combine_loop_turn, combine_loop_ends, one-fits, power_taken}
+use Rattle.logup_column.proofs.CombineLoops.{combine_loop_begins, combine_loop_turn, combine_loop_ends, one-fits, power_taken}
 use borrow.Author.Rules.{rules}
 use Rattle.logup_column.proofs.tuple.combine.Goals as goal
 

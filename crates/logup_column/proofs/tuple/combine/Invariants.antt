@@ -1,8 +1,5 @@
-use native.Mathlib.Omega.{arith}
-use Prim.Native.Nat.{ℕ, ◌-◌, ◌<◌}
-use mathlib.Core.Path.{refl, sym, subst}
-use Rattle.logup_column.proofs.CombineLoops.{CombineLoop, combine_loop_begins, combine_loop_turn, combine_loop_ends, one-fits, power_taken}
-use borrow.Author.Rules.{rules}
+use Prim.Native.Nat.{◌-◌}
+use Rattle.logup_column.proofs.CombineLoops.{CombineLoop}
 use Rattle.logup_column.proofs.tuple.combine.Given as goal
 
 abbrev pub invariant-loop-j : goal.invariant-loop-j

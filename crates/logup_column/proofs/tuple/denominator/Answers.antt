@@ -1,5 +1,4 @@
 use Rattle.logup_column.proofs.StepsLoops.{denominator_is}
-use borrow.Author.Rules.{rules}
 use Rattle.logup_column.proofs.tuple.denominator.Goals as goal
 
 pub returns : goal.returns

@@ -1,5 +1,4 @@
-use Prim.Native.Nat.{◌-◌}
-use Rattle.logup_column.proofs.PowersLoops.{LoadLoop, load_loop_begins, load_loop_turn, load_loop_ends}
+use Rattle.logup_column.proofs.PowersLoops.{load_loop_begins, load_loop_turn, load_loop_ends}
 use borrow.Author.Rules.{rules}
 use Rattle.logup_column.proofs.tuple.load_powers.Goals as goal
 

@@ -1,6 +1,5 @@
 use Prim.Native.Nat.{◌-◌}
-use Rattle.logup_column.proofs.PowersLoops.{LoadLoop, load_loop_begins, load_loop_turn, load_loop_ends}
-use borrow.Author.Rules.{rules}
+use Rattle.logup_column.proofs.PowersLoops.{LoadLoop}
 use Rattle.logup_column.proofs.tuple.load_powers.Given as goal
 
 abbrev pub invariant-loop-e : goal.invariant-loop-e

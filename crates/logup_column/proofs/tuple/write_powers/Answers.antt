@@ -1,9 +1,8 @@
-use Prim.Native.Nat.{◌+◌, ◌*◌, ◌-◌}
+use Prim.Native.Nat.{◌+◌, ◌*◌}
 use mathlib.Core.Path.{refl, ◌∙◌}
 use Rattle.lists.specs.laws.Parts.{part_length}
 use native.Mathlib.Omega.{arith}
-use Rattle.field.specs.Ext.{ext_words}
-use Rattle.logup_column.proofs.PowersLoops.{PowersLoop, powers_loop_begins, powers_loop_turn, powers_loop_ends}
+use Rattle.logup_column.proofs.PowersLoops.{powers_loop_begins, powers_loop_turn, powers_loop_ends}
 use borrow.Author.Rules.{rules}
 use Rattle.logup_column.proofs.tuple.write_powers.Goals as goal
 

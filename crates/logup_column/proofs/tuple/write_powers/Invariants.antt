@@ -1,10 +1,6 @@
-use Prim.Native.Nat.{◌+◌, ◌*◌, ◌-◌}
-use mathlib.Core.Path.{refl, ◌∙◌}
-use Rattle.lists.specs.laws.Parts.{part_length}
-use native.Mathlib.Omega.{arith}
+use Prim.Native.Nat.{◌-◌}
 use Rattle.field.specs.Ext.{ext_words}
-use Rattle.logup_column.proofs.PowersLoops.{PowersLoop, powers_loop_begins, powers_loop_turn, powers_loop_ends}
-use borrow.Author.Rules.{rules}
+use Rattle.logup_column.proofs.PowersLoops.{PowersLoop}
 use Rattle.logup_column.proofs.tuple.write_powers.Given as goal
 
 abbrev pub invariant-loop-e : goal.invariant-loop-e

@@ -1,5 +1,4 @@
 use Rattle.lookup.specs.Buses.{alone_at}
-use borrow.Author.Rules.{rules}
 use Rattle.lookup.proofs.buses.alone.Goals as goal
 
 pub returns-then-packing : goal.returns-then-packing

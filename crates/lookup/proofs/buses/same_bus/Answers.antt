@@ -4,7 +4,6 @@ use Rattle.lookup.specs.laws.Buses.{name_in, name_is}
 use Prim.Native.Nat.{ℕ}
 use mathlib.Core.List.{List}
 use mathlib.Core.Path.{◌∙◌, refl, ap₂}
-use borrow.Author.Rules.{rules}
 use Rattle.lookup.proofs.buses.same_bus.Goals as goal
 
 pub returns-then-alone : goal.returns-then-alone

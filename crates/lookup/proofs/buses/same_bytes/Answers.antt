@@ -1,6 +1,4 @@
-use Rattle.lists.specs.laws.Same.{SameSoFar, same-begins, same_turn, same_ends, same_differs, same_lengths}
-use lib.ListN.{length}
-use Prim.Native.Nat.{◌-◌}
+use Rattle.lists.specs.laws.Same.{same-begins, same_turn, same_ends, same_differs, same_lengths}
 use borrow.Author.Rules.{rules}
 use Rattle.lookup.proofs.buses.same_bytes.Goals as goal
 

@@ -1,7 +1,6 @@
-use Rattle.lists.specs.laws.Same.{SameSoFar, same-begins, same_turn, same_ends, same_differs, same_lengths}
+use Rattle.lists.specs.laws.Same.{SameSoFar}
 use lib.ListN.{length}
 use Prim.Native.Nat.{◌-◌}
-use borrow.Author.Rules.{rules}
 use Rattle.lookup.proofs.buses.same_bytes.Given as goal
 
 abbrev pub invariant-loop-i : goal.invariant-loop-i

@@ -1,25 +1,23 @@
 use mathlib.Core.Path.{sym, ap, ◌∙◌}
 use Rattle.lists.specs.Count.{or_else}
-use borrow.Author.Tests.{not-true, not-false}
 use Rattle.expression.specs.Refusal.{refusal}
 use Rattle.lookup.proofs.TestedSizes.{form_few_nodes}
 use Rattle.lookup.specs.Lookups.{lent_lookups}
 use Rattle.lookup.specs.Refusals.{nodes_refusal, lists_refusal, form_refusal}
-use borrow.Author.Rules.{rules}
 use Rattle.lookup.proofs.refusals.form_refusal.Goals as goal
 
 pub returns-then-not-form_sizes : goal.returns-then-not-form_sizes
 unfolding form_refusal
-returns-then-not-form_sizes c = rw (← c.form_sizes.ensures, not-true c.form_sizes.result c.if-not-form_sizes.true)
+returns-then-not-form_sizes c = rw (← c.form_sizes.ensures, c.if-not-form_sizes.true)
 
 pub returns-then-not-constants_below : goal.returns-then-not-constants_below
 unfolding form_refusal
 returns-then-not-constants_below c =
     rw (
       ← c.form_sizes.ensures,
-      not-false c.form_sizes.result c.if-not-form_sizes.false,
+      c.if-not-form_sizes.false,
       ← c.constants_below.ensures,
-      not-true c.constants_below.result c.if-not-constants_below.true,
+      c.if-not-constants_below.true,
     )
 
 pub nodes_refusal-requires : goal.nodes_refusal-requires
@@ -28,23 +26,23 @@ nodes_refusal-requires c =
     let own = lent_lookups args.lookups.now args.names.now args.tuples.now args.multiplicities.now args.flags.now args.elements.now in (
       c.requires.degree,
       form_few_nodes args.limits args.columns args.nodes.now own c.requires (sym c.form_sizes.ensures ∙
-          not-false c.form_sizes.result c.if-not-form_sizes.false),
+          c.if-not-form_sizes.false),
     )
 
 pub lists_refusal-requires : goal.lists_refusal-requires
 lists_refusal-requires c =
     let args = c.args in
     let own = lent_lookups args.lookups.now args.names.now args.tuples.now args.multiplicities.now args.flags.now args.elements.now in
-    form_few_nodes args.limits args.columns args.nodes.now own c.requires (sym c.form_sizes.ensures ∙ not-false c.form_sizes.result c.if-not-form_sizes.false)
+    form_few_nodes args.limits args.columns args.nodes.now own c.requires (sym c.form_sizes.ensures ∙ c.if-not-form_sizes.false)
 
 pub returns : goal.returns
 unfolding form_refusal nodes_refusal lists_refusal
 returns c =
     rw (
       ← c.form_sizes.ensures,
-      not-false c.form_sizes.result c.if-not-form_sizes.false,
+      c.if-not-form_sizes.false,
       ← c.constants_below.ensures,
-      not-false c.constants_below.result c.if-not-constants_below.false,
+      c.if-not-constants_below.false,
       ← c.shape_of.ensures,
     )
     (c.first.ensures ∙ ap (or_else (refusal c.nodes_refusal.result)) (c.lists_refusal.ensures c.args.names.now

@@ -1,7 +1,6 @@
 use mathlib.Core.Path.{sym}
 use Rattle.lookup.specs.Refusals.{form_sizes}
 use Rattle.lookup.proofs.TestedSizes.{few}
-use borrow.Author.Rules.{rules}
 use Rattle.lookup.proofs.refusals.form_sizes.Goals as goal
 
 pub lookups_fit-requires : goal.lookups_fit-requires

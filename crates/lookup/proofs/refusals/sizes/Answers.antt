@@ -1,7 +1,6 @@
 use mathlib.Core.Path.{sym}
 use Rattle.lookup.specs.Tests.{sizes}
 use Rattle.lookup.proofs.TestedSizes.{small, few}
-use borrow.Author.Rules.{rules}
 use Rattle.lookup.proofs.refusals.sizes.Goals as goal
 
 pub traces_fit-requires : goal.traces_fit-requires

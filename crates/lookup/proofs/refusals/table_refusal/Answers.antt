@@ -1,18 +1,16 @@
 use mathlib.Core.Path.{sym, ap, ◌∙◌}
 use Rattle.lists.specs.Count.{or_else}
-use borrow.Author.Tests.{not-true, not-false}
 use Rattle.expression.specs.Refusal.{refusal}
 use Rattle.lookup.specs.laws.Tested.{few_nodes}
 use Rattle.lookup.specs.Table.{lent_table}
 use Rattle.lookup.specs.Lookups.{lent_lookups}
 use Rattle.lookup.specs.Tests.{known}
 use Rattle.lookup.specs.Refusals.{nodes_refusal, lists_refusal, table_refusal}
-use borrow.Author.Rules.{rules}
 use Rattle.lookup.proofs.refusals.table_refusal.Goals as goal
 
 pub returns-then-not-sizes : goal.returns-then-not-sizes
 unfolding table_refusal
-returns-then-not-sizes c = rw (← c.sizes.ensures, not-true c.sizes.result c.if-not-sizes.true)
+returns-then-not-sizes c = rw (← c.sizes.ensures, c.if-not-sizes.true)
 
 pub returns-then-not-words_below : goal.returns-then-not-words_below
 unfolding table_refusal
@@ -21,9 +19,9 @@ returns-then-not-words_below c =
     let own = lent_lookups args.lookups.now args.names.now args.tuples.now args.multiplicities.now args.flags.now args.elements.now in
     rw (
       ← c.sizes.ensures,
-      not-false c.sizes.result c.if-not-sizes.false,
+      c.if-not-sizes.false,
       ← (c.words_below.ensures args.shape own),
-      not-true c.words_below.result c.if-not-words_below.true,
+      c.if-not-words_below.true,
     )
 
 pub nodes_refusal-requires : goal.nodes_refusal-requires
@@ -32,7 +30,7 @@ nodes_refusal-requires c =
     let own = lent_lookups args.lookups.now args.names.now args.tuples.now args.multiplicities.now args.flags.now args.elements.now in (
       c.requires.degree,
       few_nodes args.limits (lent_table args.shape args.main.now args.preprocessed.now args.public_values.now
-          args.nodes.now own) c.requires (sym c.sizes.ensures ∙ not-false c.sizes.result c.if-not-sizes.false),
+          args.nodes.now own) c.requires (sym c.sizes.ensures ∙ c.if-not-sizes.false),
     )
 
 pub lists_refusal-requires : goal.lists_refusal-requires
@@ -40,7 +38,7 @@ lists_refusal-requires c =
     let args = c.args in
     let own = lent_lookups args.lookups.now args.names.now args.tuples.now args.multiplicities.now args.flags.now args.elements.now in
     few_nodes args.limits (lent_table args.shape args.main.now args.preprocessed.now args.public_values.now args.nodes.now own)
-    c.requires (sym c.sizes.ensures ∙ not-false c.sizes.result c.if-not-sizes.false)
+    c.requires (sym c.sizes.ensures ∙ c.if-not-sizes.false)
 
 pub returns : goal.returns
 unfolding table_refusal nodes_refusal lists_refusal known
@@ -49,10 +47,9 @@ returns c =
     let own = lent_lookups args.lookups.now args.names.now args.tuples.now args.multiplicities.now args.flags.now args.elements.now in
     rw (
       ← c.sizes.ensures,
-      not-false c.sizes.result c.if-not-sizes.false,
+      c.if-not-sizes.false,
       ← (c.words_below.ensures args.shape own),
-      not-false
-          c.words_below.result c.if-not-words_below.false,
+      c.if-not-words_below.false,
     )
     (c.first.ensures ∙ ap (or_else (refusal c.nodes_refusal.result)) (c.lists_refusal.ensures args.names.now
     args.tuples.now) ∙ c.nodes_refusal.ensures _)

@@ -1,7 +1,6 @@
 use Rattle.lookup.specs.Tests.{words_below}
-use borrow.Author.Rules.{rules}
 use Rattle.lookup.proofs.refusals.words_below.Goals as goal
 
 pub returns : goal.returns
 unfolding words_below
-returns c = rw (c.traces_below.ensures s, c.constants_below.ensures)
+returns c s l = rw (c.traces_below.ensures s, c.constants_below.ensures)

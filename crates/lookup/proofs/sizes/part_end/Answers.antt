@@ -3,7 +3,6 @@ use Prim.Native.Nat.{ℕ, ◌+◌, ◌*◌}
 use Rattle.lookup.specs.laws.Sizes.{units_small}
 use mathlib.Core.Path.{ap₂}
 use native.Mathlib.Omega.{arith}
-use borrow.Author.Rules.{rules}
 use Rattle.lookup.proofs.sizes.part_end.Goals as goal
 
 pub overflow_mul-result : goal.overflow_mul-result

@@ -2,7 +2,6 @@ use Prim.Native.Nat.{ℕ, ◌*◌}
 use mathlib.Core.Path.{ap}
 use native.Mathlib.Omega.{arith}
 use Rattle.lookup.specs.laws.Sizes.{units_small}
-use borrow.Author.Rules.{rules}
 use Rattle.lookup.proofs.sizes.part_start.Goals as goal
 
 pub overflow_mul-result : goal.overflow_mul-result

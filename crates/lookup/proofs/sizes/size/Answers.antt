@@ -1,7 +1,6 @@
 use native.Mathlib.Nat.{mul-le-mul}
 use mathlib.Core.Path.{◌∙◌}
 use native.Mathlib.Omega.{arith}
-use borrow.Author.Rules.{rules}
 use Rattle.lookup.proofs.sizes.size.Goals as goal
 
 pub overflow_mul-words : goal.overflow_mul-words

@@ -1,5 +1,4 @@
 use Rattle.lookup.specs.Sizes.{size_start}
-use borrow.Author.Rules.{rules}
 use Rattle.lookup.proofs.sizes.size_start.Goals as goal
 
 pub returns : goal.returns

@@ -4,7 +4,6 @@ use native.Mathlib.Omega.{arith}
 use Rattle.lists.specs.Count.{total}
 use Rattle.expression.specs.Words.{word}
 use Rattle.lookup.specs.Lookups.{element_start}
-use borrow.Author.Rules.{rules}
 use Rattle.lookup.proofs.starts.element_start.Goals as goal
 
 -- a record of one word

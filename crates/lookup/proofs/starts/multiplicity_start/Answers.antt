@@ -1,5 +1,4 @@
 use Rattle.lookup.specs.Lookups.{multiplicity_start}
-use borrow.Author.Rules.{rules}
 use Rattle.lookup.proofs.starts.multiplicity_start.Goals as goal
 
 pub returns : goal.returns

@@ -1,6 +1,5 @@
-use Rattle.lists.specs.laws.Turns.{Summing, sum-begins, sum_turn, sum-ends}
-use Rattle.lookup.specs.Lookups.{name_length, name_start}
-use Prim.Native.Nat.{◌-◌}
+use Rattle.lists.specs.laws.Turns.{sum-begins, sum_turn, sum-ends}
+use Rattle.lookup.specs.Lookups.{name_start}
 use native.Mathlib.Omega.{arith}
 use mathlib.Core.Path.{◌∙◌}
 use borrow.Author.Rules.{rules}

@@ -1,9 +1,6 @@
-use Rattle.lists.specs.laws.Turns.{Summing, sum-begins, sum_turn, sum-ends}
-use Rattle.lookup.specs.Lookups.{name_length, name_start}
+use Rattle.lists.specs.laws.Turns.{Summing}
+use Rattle.lookup.specs.Lookups.{name_length}
 use Prim.Native.Nat.{◌-◌}
-use native.Mathlib.Omega.{arith}
-use mathlib.Core.Path.{◌∙◌}
-use borrow.Author.Rules.{rules}
 use Rattle.lookup.proofs.starts.name_start.Given as goal
 
 abbrev pub invariant-loop-j : goal.invariant-loop-j

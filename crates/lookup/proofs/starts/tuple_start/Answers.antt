@@ -1,5 +1,4 @@
 use Rattle.lookup.specs.Lookups.{tuple_start}
-use borrow.Author.Rules.{rules}
 use Rattle.lookup.proofs.starts.tuple_start.Goals as goal
 
 pub returns : goal.returns

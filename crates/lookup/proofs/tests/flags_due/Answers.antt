@@ -1,5 +1,4 @@
 use mathlib.Core.Path.{sym}
-use borrow.Author.Rules.{rules}
 use Rattle.lookup.proofs.tests.flags_due.Goals as goal
 
 pub returns-then-exclusive : goal.returns-then-exclusive

@@ -1,5 +1,4 @@
 use Rattle.lookup.specs.Tests.{lengths_agree}
-use borrow.Author.Rules.{rules}
 use Rattle.lookup.proofs.tests.lengths_agree.Goals as goal
 
 pub returns : goal.returns

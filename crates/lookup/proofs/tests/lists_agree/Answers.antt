@@ -1,8 +1,7 @@
 use Rattle.lookup.specs.Tests.{lists_agree, nodes_present}
-use borrow.Author.Rules.{rules}
 use Rattle.lookup.proofs.tests.lists_agree.Goals as goal
 
 pub returns : goal.returns
 unfolding lists_agree nodes_present
-returns c =
+returns c names tuples =
     rw (c.all_agree.ensures, c.nodes_present.ensures c.args.lookups.now names tuples)

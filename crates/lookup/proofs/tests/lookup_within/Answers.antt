@@ -1,5 +1,4 @@
 use Rattle.lookup.specs.Tests.{lookup_within}
-use borrow.Author.Rules.{rules}
 use Rattle.lookup.proofs.tests.lookup_within.Goals as goal
 
 pub returns : goal.returns

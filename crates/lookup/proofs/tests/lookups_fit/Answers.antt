@@ -1,5 +1,4 @@
 use Rattle.lookup.specs.Tests.{lookups_fit}
-use borrow.Author.Rules.{rules}
 use Rattle.lookup.proofs.tests.lookups_fit.Goals as goal
 
 pub returns : goal.returns

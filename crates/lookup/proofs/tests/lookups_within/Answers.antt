@@ -1,5 +1,4 @@
 use Rattle.lookup.specs.Tests.{lookups_within}
-use borrow.Author.Rules.{rules}
 use Rattle.lookup.proofs.tests.lookups_within.Goals as goal
 
 pub returns : goal.returns

@@ -1,5 +1,4 @@
 use Rattle.lookup.specs.Tests.{rows_enough}
-use borrow.Author.Rules.{rules}
 use Rattle.lookup.proofs.tests.rows_enough.Goals as goal
 
 pub returns : goal.returns

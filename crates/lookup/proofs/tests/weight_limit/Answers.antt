@@ -1,6 +1,5 @@
 use mathlib.Core.Path.{sym}
 use Rattle.lookup.specs.Tests.{weight_limit}
-use borrow.Author.Rules.{rules}
 use Rattle.lookup.proofs.tests.weight_limit.Goals as goal
 
 pub returns-then-on_bus-tuples : goal.returns-then-on_bus-tuples

@@ -1,4 +1,3 @@
-use borrow.Author.Rules.{rules}
 use Rattle.lookup.proofs.types.exclusive.Goals as goal
 
 pub returns : goal.returns

@@ -1,5 +1,4 @@
-use mathlib.Core.Path.{sym, ◌∙◌}
-use borrow.Author.Rules.{rules}
+use mathlib.Core.Path.{sym}
 use Rattle.lookup.proofs.types.name_length.Goals as goal
 
 pub returns-then-on_bus : goal.returns-then-on_bus

@@ -1,7 +1,6 @@
 use Rattle.lookup_buses.proofs.Fits.{spanned, all_yes, all_no}
 use Rattle.lookup_buses.specs.CheckBusWidths.{lent_bus_tables}
 use mathlib.Core.Path.{◌∙◌, sym}
-use borrow.Author.Rules.{rules}
 use Rattle.lookup_buses.proofs.check_bus_widths.all_fit.Goals as goal
 
 pub tables_fit-requires : goal.tables_fit-requires

@@ -2,7 +2,6 @@ use Rattle.lookup_buses.proofs.Fits.{choice_unknown, choices_known}
 use Rattle.lookup_buses.specs.CheckBusWidths.{lent_bus_tables, in_numbers}
 use Rattle.expression.specs.laws.Tested.{limits_sane}
 use mathlib.Core.Path.{ap}
-use borrow.Author.Rules.{rules}
 use Rattle.lookup_buses.proofs.check_bus_widths.check_bus_widths.Goals as goal
 
 pub returns-then-not-known : goal.returns-then-not-known

@@ -1,11 +1,9 @@
 use Rattle.lookup_buses.specs.laws.Tables.{lies}
-use Rattle.lookup.specs.Sizes.{table_count}
-use Rattle.lookup_buses.specs.CheckBusWidths.{lent_bus_tables, table_at, table_fits, bus_sizes}
-use Rattle.lists.specs.laws.Turns.{Testing, test_begins, test_turn, test_ends}
+use Rattle.lookup_buses.specs.CheckBusWidths.{table_fits}
+use Rattle.lists.specs.laws.Turns.{test_begins, test_turn, test_ends}
 use native.Mathlib.Omega.{arith}
 use mathlib.Core.Bool.{Bool, ◌&&◌}
 use mathlib.Core.Path.{◌∙◌, ap}
-use Prim.Native.Nat.{◌-◌}
 use borrow.Author.Rules.{rules}
 use Rattle.lookup_buses.proofs.check_bus_widths.tables_fit.Goals as goal
 

@@ -1,12 +1,7 @@
-use Rattle.lookup_buses.specs.laws.Tables.{lies}
 use Rattle.lookup.specs.Sizes.{table_count}
 use Rattle.lookup_buses.specs.CheckBusWidths.{lent_bus_tables, table_at, table_fits, bus_sizes}
-use Rattle.lists.specs.laws.Turns.{Testing, test_begins, test_turn, test_ends}
-use native.Mathlib.Omega.{arith}
-use mathlib.Core.Bool.{Bool, ◌&&◌}
-use mathlib.Core.Path.{◌∙◌, ap}
+use Rattle.lists.specs.laws.Turns.{Testing}
 use Prim.Native.Nat.{◌-◌}
-use borrow.Author.Rules.{rules}
 use Rattle.lookup_buses.proofs.check_bus_widths.tables_fit.Given as goal
 
 abbrev pub invariant-loop-t : goal.invariant-loop-t

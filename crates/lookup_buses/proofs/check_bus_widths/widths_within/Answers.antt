@@ -1,6 +1,5 @@
 use Rattle.lookup_buses.proofs.Fits.{tabled, answer-size, answer_lengths, answer-widest, answer-refused}
 use Rattle.lookup_buses.specs.CheckBusWidths.{lent_bus_tables}
-use borrow.Author.Rules.{rules}
 use Rattle.lookup_buses.proofs.check_bus_widths.widths_within.Goals as goal
 
 pub returns-then-not-all_fit : goal.returns-then-not-all_fit

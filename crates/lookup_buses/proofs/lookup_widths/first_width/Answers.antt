@@ -1,4 +1,3 @@
-use borrow.Author.Rules.{rules}
 use Rattle.lookup_buses.proofs.lookup_widths.first_width.Goals as goal
 
 pub returns-in-Width : goal.returns-in-Width

@@ -1,5 +1,4 @@
 use Rattle.lookup_buses.proofs.Finds.{widths_same, widths_differ}
-use borrow.Author.Rules.{rules}
 use Rattle.lookup_buses.proofs.lookup_widths.tuple_verdict.Goals as goal
 
 pub returns-then-width-e : goal.returns-then-width-e

@@ -1,13 +1,9 @@
-use Rattle.lists.specs.laws.Turns.{Finding, find_begins, find_turn, find_ends}
-use Rattle.lookup_buses.proofs.Finds.{width_is}
+use Rattle.lists.specs.laws.Turns.{Finding}
 use Rattle.lookup_buses.specs.inner.Requires.{width_option}
 use Rattle.lookup_buses.specs.Widths.{tuple_refusal}
 use Rattle.expression.specs.Refusal.{refusal}
 use Rattle.lookup.specs.Lookups.{tuple_width}
-use mathlib.Core.Path.{◌∙◌, refl, ap}
-use native.Mathlib.Omega.{arith}
 use Prim.Native.Nat.{◌-◌}
-use borrow.Author.Rules.{rules}
 use Rattle.lookup_buses.proofs.lookup_widths.tuples_verdict.Given as goal
 
 abbrev pub invariant-loop-k : goal.invariant-loop-k

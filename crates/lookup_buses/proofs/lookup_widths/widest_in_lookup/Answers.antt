@@ -1,5 +1,4 @@
 use Rattle.lookup_buses.proofs.Finds.{widest-local, widest-bus, tuples_in}
-use borrow.Author.Rules.{rules}
 use Rattle.lookup_buses.proofs.lookup_widths.widest_in_lookup.Goals as goal
 
 pub widest_tuple-requires : goal.widest_tuple-requires

@@ -1,10 +1,9 @@
 use Rattle.lookup_buses.proofs.Finds.{width_is}
 use native.Mathlib.Omega.{arith}
-use Rattle.lookup_degree.specs.laws.Rising.{Rising, rise_begins, rise_turn, rise_ends}
+use Rattle.lookup_degree.specs.laws.Rising.{rise_begins, rise_turn, rise_ends}
 use Rattle.lookup_degree.specs.Sums.{greatest}
 use Rattle.lookup.specs.Lookups.{tuple_width}
 use mathlib.Core.Path.{◌∙◌, ap}
-use Prim.Native.Nat.{◌-◌}
 use borrow.Author.Rules.{rules}
 use Rattle.lookup_buses.proofs.lookup_widths.widest_tuple.Goals as goal
 

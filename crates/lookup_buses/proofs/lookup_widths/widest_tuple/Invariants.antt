@@ -1,11 +1,6 @@
-use Rattle.lookup_buses.proofs.Finds.{width_is}
-use native.Mathlib.Omega.{arith}
-use Rattle.lookup_degree.specs.laws.Rising.{Rising, rise_begins, rise_turn, rise_ends}
-use Rattle.lookup_degree.specs.Sums.{greatest}
+use Rattle.lookup_degree.specs.laws.Rising.{Rising}
 use Rattle.lookup.specs.Lookups.{tuple_width}
-use mathlib.Core.Path.{◌∙◌, ap}
 use Prim.Native.Nat.{◌-◌}
-use borrow.Author.Rules.{rules}
 use Rattle.lookup_buses.proofs.lookup_widths.widest_tuple.Given as goal
 
 abbrev pub invariant-loop-k : goal.invariant-loop-k

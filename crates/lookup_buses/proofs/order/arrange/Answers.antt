@@ -1,5 +1,4 @@
-use Rattle.lookup_buses.proofs.Loops.{Arranging, arranging_begins, arranging_fits, arranging_turn, arranging_ends}
-use Prim.Native.Nat.{◌+◌, ◌-◌}
+use Rattle.lookup_buses.proofs.Loops.{arranging_begins, arranging_fits, arranging_turn, arranging_ends}
 use borrow.Author.Rules.{rules}
 use Rattle.lookup_buses.proofs.order.arrange.Goals as goal
 

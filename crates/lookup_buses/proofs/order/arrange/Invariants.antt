@@ -1,6 +1,5 @@
-use Rattle.lookup_buses.proofs.Loops.{Arranging, arranging_begins, arranging_fits, arranging_turn, arranging_ends}
+use Rattle.lookup_buses.proofs.Loops.{Arranging}
 use Prim.Native.Nat.{◌+◌, ◌-◌}
-use borrow.Author.Rules.{rules}
 use Rattle.lookup_buses.proofs.order.arrange.Given as goal
 
 abbrev pub invariant-loop-k : goal.invariant-loop-k

@@ -1,7 +1,6 @@
 use Rattle.lookup.specs.Lookups.{lookup_count}
 use Rattle.lookup.specs.Buses.{alone_at, name_at}
 use Rattle.lookup_buses.proofs.Loops.{order_is}
-use borrow.Author.Rules.{rules}
 use Rattle.lookup_buses.proofs.order.order.Goals as goal
 
 pub returns : goal.returns

@@ -1,7 +1,4 @@
-use Rattle.lookup_buses.proofs.Loops.{Searched, search_begins, search_turn, search_hits, search_ends, place-alone, place-bus}
-use Rattle.lookup.specs.Lookups.{lookup_count}
-use Rattle.lookup.specs.Buses.{alone_at, name_at, same_bus}
-use Prim.Native.Nat.{◌-◌}
+use Rattle.lookup_buses.proofs.Loops.{search_begins, search_turn, search_hits, search_ends, place-alone, place-bus}
 use borrow.Author.Rules.{rules}
 use Rattle.lookup_buses.proofs.order.place_of.Goals as goal
 

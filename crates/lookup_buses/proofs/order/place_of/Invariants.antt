@@ -1,8 +1,7 @@
-use Rattle.lookup_buses.proofs.Loops.{Searched, search_begins, search_turn, search_hits, search_ends, place-alone, place-bus}
+use Rattle.lookup_buses.proofs.Loops.{Searched}
 use Rattle.lookup.specs.Lookups.{lookup_count}
 use Rattle.lookup.specs.Buses.{alone_at, name_at, same_bus}
 use Prim.Native.Nat.{◌-◌}
-use borrow.Author.Rules.{rules}
 use Rattle.lookup_buses.proofs.order.place_of.Given as goal
 
 abbrev pub invariant-loop-j : goal.invariant-loop-j

@@ -1,9 +1,8 @@
-use Rattle.lookup_buses.proofs.Loops.{Placing, placing_begins, placing_turn, placing_ends}
+use Rattle.lookup_buses.proofs.Loops.{Placing}
 use Rattle.lookup_buses.specs.Order.{place}
 use Rattle.lookup.specs.Lookups.{lookup_count}
 use Rattle.lookup.specs.Buses.{alone_at, name_at}
 use Prim.Native.Nat.{◌-◌}
-use borrow.Author.Rules.{rules}
 use Rattle.lookup_buses.proofs.order.places.Given as goal
 
 abbrev pub invariant-loop-i : goal.invariant-loop-i

@@ -1,5 +1,4 @@
-use Rattle.lookup_buses.proofs.Loops.{Pushing, pushing_begins, pushing_room, pushing_yes, pushing_no, pushing_ends}
-use Prim.Native.Nat.{◌-◌}
+use Rattle.lookup_buses.proofs.Loops.{pushing_begins, pushing_room, pushing_yes, pushing_no, pushing_ends}
 use borrow.Author.Rules.{rules}
 use Rattle.lookup_buses.proofs.order.push_place.Goals as goal
 use Rattle.lookup_buses.proofs.order.push_place.Goals.{then-places-i, else-places-i}
@@ -11,9 +10,9 @@ pub bounds-order-end : goal.bounds-order-end
 bounds-order-end c = pushing_room c.loop-i.invariant (search rules) c.if-places-i.true
 
 pub loop-i-preserved : goal.loop-i-preserved
-loop-i-preserved c = 
+loop-i-preserved c =
     elim c.if-places-i.branch [
-      then-places-i w ↦ pushing_yes c.loop-i.invariant (search rules) w.if-places-i.true w.order-is w.end-is
+      | then-places-i w ↦ pushing_yes c.loop-i.invariant (search rules) w.if-places-i.true w.order-is w.end-is
       | else-places-i w ↦ pushing_no c.loop-i.invariant (search rules) w.if-places-i.false w.order-is w.end-is
     ]
 

@@ -1,6 +1,5 @@
-use Rattle.lookup_buses.proofs.Loops.{Pushing, pushing_begins, pushing_room, pushing_yes, pushing_no, pushing_ends}
+use Rattle.lookup_buses.proofs.Loops.{Pushing}
 use Prim.Native.Nat.{◌-◌}
-use borrow.Author.Rules.{rules}
 use Rattle.lookup_buses.proofs.order.push_place.Given as goal
 
 abbrev pub invariant-loop-i : goal.invariant-loop-i

@@ -1,5 +1,4 @@
 use Rattle.lookup_buses.specs.inner.Requires.{spans_at}
-use borrow.Author.Rules.{rules}
 use Rattle.lookup_buses.proofs.spans.spans_of.Goals as goal
 
 pub returns : goal.returns

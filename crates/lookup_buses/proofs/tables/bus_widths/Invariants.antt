@@ -1,14 +1,9 @@
-use native.Mathlib.Omega.{arith}
-use Rattle.lists.specs.laws.Turns.{Finding, find_begins, find_turn, find_ends}
-use Rattle.lookup_buses.specs.Widths.{table_refusal, widths_refusal}
+use Rattle.lists.specs.laws.Turns.{Finding}
+use Rattle.lookup_buses.specs.Widths.{table_refusal}
 use Rattle.expression.specs.Refusal.{refusal}
-use Rattle.lookup_buses.specs.laws.Tables.{lies, owned}
 use Rattle.lookup.specs.Sizes.{table_count}
 use Rattle.lookup_buses.specs.CheckBusWidths.{lent_bus_tables, table_at, tables_of, bus_sizes}
-use Rattle.lookup.specs.Lookups.{Lookups}
-use mathlib.Core.Path.{◌∙◌, ap}
 use Prim.Native.Nat.{◌-◌}
-use borrow.Author.Rules.{rules}
 use Rattle.lookup_buses.proofs.tables.bus_widths.Given as goal
 
 abbrev pub invariant-loop-t : goal.invariant-loop-t

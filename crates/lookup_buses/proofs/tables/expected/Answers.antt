@@ -1,13 +1,10 @@
 use native.Mathlib.Omega.{arith}
-use Rattle.lists.specs.laws.Turns.{Finding, find_begins, find_turn, find_ends}
+use Rattle.lists.specs.laws.Turns.{find_begins, find_turn, find_ends}
 use Rattle.lookup_buses.specs.inner.Requires.{width_option}
-use Rattle.lookup.specs.Sizes.{table_count}
-use Rattle.lookup_buses.specs.CheckBusWidths.{lent_bus_tables, table_at, tables_of, bus_sizes}
+use Rattle.lookup_buses.specs.CheckBusWidths.{tables_of}
 use Rattle.lookup_buses.specs.Widths.{width_in_table, expected}
 use Rattle.lookup_buses.specs.laws.Tables.{lies, owned}
-use Rattle.lookup.specs.Lookups.{Lookups}
 use mathlib.Core.Path.{◌∙◌, ap}
-use Prim.Native.Nat.{◌-◌}
 use borrow.Author.Rules.{rules}
 use Rattle.lookup_buses.proofs.tables.expected.Goals as goal
 

@@ -1,14 +1,9 @@
-use native.Mathlib.Omega.{arith}
-use Rattle.lists.specs.laws.Turns.{Finding, find_begins, find_turn, find_ends}
+use Rattle.lists.specs.laws.Turns.{Finding}
 use Rattle.lookup_buses.specs.inner.Requires.{width_option}
 use Rattle.lookup.specs.Sizes.{table_count}
-use Rattle.lookup_buses.specs.CheckBusWidths.{lent_bus_tables, table_at, tables_of, bus_sizes}
-use Rattle.lookup_buses.specs.Widths.{width_in_table, expected}
-use Rattle.lookup_buses.specs.laws.Tables.{lies, owned}
-use Rattle.lookup.specs.Lookups.{Lookups}
-use mathlib.Core.Path.{◌∙◌, ap}
+use Rattle.lookup_buses.specs.CheckBusWidths.{lent_bus_tables, table_at, bus_sizes}
+use Rattle.lookup_buses.specs.Widths.{width_in_table}
 use Prim.Native.Nat.{◌-◌}
-use borrow.Author.Rules.{rules}
 use Rattle.lookup_buses.proofs.tables.expected.Given as goal
 
 abbrev pub invariant-loop-t : goal.invariant-loop-t

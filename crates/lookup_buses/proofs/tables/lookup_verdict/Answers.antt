@@ -2,11 +2,9 @@ use Rattle.lookup_buses.proofs.Finds.{named, tuples_in, verdict-local, verdict-b
 use Rattle.lookup.specs.laws.Buses.{name_in, name_is}
 use Rattle.lookup_buses.specs.CheckBusWidths.{lent_bus_tables, tables_of}
 use Rattle.lookup_buses.specs.Widths.{expected}
-use native.Mathlib.Omega.{arith}
 use Prim.Native.Nat.{ℕ}
 use mathlib.Core.List.{List}
 use mathlib.Core.Path.{◌∙◌, refl, ap}
-use borrow.Author.Rules.{rules}
 use Rattle.lookup_buses.proofs.tables.lookup_verdict.Goals as goal
 
 pub returns-then-not-on_bus : goal.returns-then-not-on_bus

@@ -1,13 +1,10 @@
-use Rattle.lists.specs.laws.Turns.{Finding, find_begins, find_turn, find_ends}
-use Rattle.lookup_buses.proofs.Finds.{named, bus_at, bus-below}
+use Rattle.lists.specs.laws.Turns.{Finding}
 use Rattle.lookup_buses.specs.CheckBusWidths.{lent_bus_tables, tables_of}
-use Rattle.lookup_buses.specs.Widths.{by_bus, lookup_refusal, table_refusal}
+use Rattle.lookup_buses.specs.Widths.{by_bus, lookup_refusal}
 use Rattle.expression.specs.Refusal.{refusal}
 use Rattle.expression.specs.Words.{word}
 use Rattle.lookup.specs.Lookups.{lookup_count, bus_lookups}
-use mathlib.Core.Path.{◌∙◌, ap}
 use Prim.Native.Nat.{◌-◌}
-use borrow.Author.Rules.{rules}
 use Rattle.lookup_buses.proofs.tables.table_verdict.Given as goal
 
 abbrev pub invariant-loop-k : goal.invariant-loop-k

@@ -1,12 +1,9 @@
 use native.Mathlib.Omega.{arith}
-use Rattle.lookup_degree.specs.laws.Rising.{Rising, rise_begins, rise_turn, rise_ends}
+use Rattle.lookup_degree.specs.laws.Rising.{rise_begins, rise_turn, rise_ends}
 use Rattle.lookup_buses.specs.Widths.{widest_in_table, widest}
 use Rattle.lookup_buses.specs.laws.Tables.{lies, owned}
-use Rattle.lookup.specs.Sizes.{table_count}
-use Rattle.lookup_buses.specs.CheckBusWidths.{lent_bus_tables, table_at, tables_of, bus_sizes}
-use Rattle.lookup.specs.Lookups.{Lookups}
+use Rattle.lookup_buses.specs.CheckBusWidths.{tables_of}
 use mathlib.Core.Path.{◌∙◌, ap}
-use Prim.Native.Nat.{◌-◌}
 use borrow.Author.Rules.{rules}
 use Rattle.lookup_buses.proofs.tables.widest.Goals as goal
 

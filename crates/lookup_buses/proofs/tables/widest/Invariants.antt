@@ -1,13 +1,8 @@
-use native.Mathlib.Omega.{arith}
-use Rattle.lookup_degree.specs.laws.Rising.{Rising, rise_begins, rise_turn, rise_ends}
-use Rattle.lookup_buses.specs.Widths.{widest_in_table, widest}
-use Rattle.lookup_buses.specs.laws.Tables.{lies, owned}
+use Rattle.lookup_degree.specs.laws.Rising.{Rising}
+use Rattle.lookup_buses.specs.Widths.{widest_in_table}
 use Rattle.lookup.specs.Sizes.{table_count}
-use Rattle.lookup_buses.specs.CheckBusWidths.{lent_bus_tables, table_at, tables_of, bus_sizes}
-use Rattle.lookup.specs.Lookups.{Lookups}
-use mathlib.Core.Path.{◌∙◌, ap}
+use Rattle.lookup_buses.specs.CheckBusWidths.{lent_bus_tables, table_at, bus_sizes}
 use Prim.Native.Nat.{◌-◌}
-use borrow.Author.Rules.{rules}
 use Rattle.lookup_buses.proofs.tables.widest.Given as goal
 
 abbrev pub invariant-loop-t : goal.invariant-loop-t

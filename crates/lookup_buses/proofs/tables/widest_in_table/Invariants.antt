@@ -1,8 +1,7 @@
-use Rattle.lookup_degree.specs.laws.Rising.{Rising, rise_begins, rise_turn, rise_ends}
-use Rattle.lookup_buses.specs.Widths.{widest_in_lookup, widest_in_table}
+use Rattle.lookup_degree.specs.laws.Rising.{Rising}
+use Rattle.lookup_buses.specs.Widths.{widest_in_lookup}
 use Rattle.lookup.specs.Lookups.{lookup_count, bus_lookups}
 use Prim.Native.Nat.{◌-◌}
-use borrow.Author.Rules.{rules}
 use Rattle.lookup_buses.proofs.tables.widest_in_table.Given as goal
 
 abbrev pub invariant-loop-i : goal.invariant-loop-i

@@ -1,8 +1,6 @@
-use Rattle.lists.specs.laws.Turns.{Finding, find_begins, find_turn, find_ends}
+use Rattle.lists.specs.laws.Turns.{find_begins, find_turn, find_ends}
 use Rattle.lookup_buses.specs.inner.Requires.{width_option}
-use Rattle.lookup_buses.specs.Widths.{width_in_lookup, width_in_table}
-use Rattle.lookup.specs.Lookups.{lookup_count, bus_lookups}
-use Prim.Native.Nat.{◌-◌}
+use Rattle.lookup_buses.specs.Widths.{width_in_table}
 use borrow.Author.Rules.{rules}
 use Rattle.lookup_buses.proofs.tables.width_in_table.Goals as goal
 

@@ -1,9 +1,6 @@
 use lib.ListN.{length}
 use mathlib.Core.Path.{refl, ◌∙◌, ap}
-use Prim.Native.Nat.{◌-◌}
-use Rattle.field.specs.Ext.{ext_words}
-use Rattle.lists.specs.laws.Writing.{Writing, begins, turn, ends}
-use Rattle.lookup_challenges.specs.Prefixes.{prefix_by}
+use Rattle.lists.specs.laws.Writing.{begins, turn, ends}
 use borrow.Author.Rules.{rules}
 use Rattle.lookup_challenges.proofs.challenges.fill.Goals as goal
 

@@ -1,10 +1,7 @@
-use lib.ListN.{length}
-use mathlib.Core.Path.{refl, ◌∙◌, ap}
 use Prim.Native.Nat.{◌-◌}
 use Rattle.field.specs.Ext.{ext_words}
-use Rattle.lists.specs.laws.Writing.{Writing, begins, turn, ends}
+use Rattle.lists.specs.laws.Writing.{Writing}
 use Rattle.lookup_challenges.specs.Prefixes.{prefix_by}
-use borrow.Author.Rules.{rules}
 use Rattle.lookup_challenges.proofs.challenges.fill.Given as goal
 
 abbrev pub invariant-loop-i : goal.invariant-loop-i

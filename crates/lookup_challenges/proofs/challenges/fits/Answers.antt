@@ -1,5 +1,4 @@
 use Rattle.lookup_challenges.specs.Prefixes.{prefixes_fit}
-use borrow.Author.Rules.{rules}
 use Rattle.lookup_challenges.proofs.challenges.fits.Goals as goal
 
 pub returns : goal.returns

@@ -1,14 +1,12 @@
-use borrow.Author.Tests.{not-true, not-false}
 use Rattle.field.specs.laws.Known.{known-prime, w_below}
 use Rattle.expression.specs.laws.Tested.{limits_sane}
 use Rattle.lookup_challenges.specs.Prefixes.{prefixes_at}
 use Rattle.lookup_challenges.specs.laws.Prefixes.{outcome_is}
-use borrow.Author.Rules.{rules}
 use Rattle.lookup_challenges.proofs.challenges.new.Goals as goal
 
 pub returns-then-not-known : goal.returns-then-not-known
 unfolding prefixes_at
-returns-then-not-known c = rw (← c.known.ensures, not-true c.known.result c.if-not-known.true)
+returns-then-not-known c = rw (← c.known.ensures, c.if-not-known.true)
 
 pub prefixes-requires : goal.prefixes-requires
 prefixes-requires c =
@@ -19,7 +17,7 @@ unfolding prefixes_at
 returns c =
     rw (
       ← c.known.ensures,
-      not-false c.known.result c.if-not-known.false,
+      c.if-not-known.false,
       ← c.limits_of.ensures,
       ← c.prime_of.ensures,
       ← c.w_of.ensures,

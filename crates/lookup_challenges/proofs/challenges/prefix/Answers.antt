@@ -2,7 +2,6 @@ use Rattle.field.specs.Ext.{ext_words}
 use Prim.Native.Nat.{◌+◌}
 use Rattle.field.specs.laws.Element.{scale4-mod}
 use Rattle.lookup_challenges.specs.Prefixes.{prefix_by}
-use borrow.Author.Rules.{rules}
 use Rattle.lookup_challenges.proofs.challenges.prefix.Goals as goal
 
 pub returns : goal.returns

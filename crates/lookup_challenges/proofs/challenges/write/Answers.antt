@@ -1,6 +1,5 @@
 use Rattle.lookup_challenges.specs.laws.Prefixes.{loaded}
 use Rattle.field.specs.laws.Slice.{element-whole}
-use borrow.Author.Rules.{rules}
 use Rattle.lookup_challenges.proofs.challenges.write.Goals as goal
 
 pub power-gamma-requires : goal.power-gamma-requires

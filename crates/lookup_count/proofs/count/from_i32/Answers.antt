@@ -1,15 +1,13 @@
 use mathlib.Core.Path.{◌∙◌, ap}
-use borrow.Author.Tests.{not-true, not-false}
 use Rattle.field.specs.laws.Known.{known-prime}
 use Rattle.expression.specs.laws.Tested.{limits_sane}
 use Rattle.lookup_count.specs.Count.{magnitude, from_i32, from_i32_at, in_numbers}
 use Rattle.lookup_count.proofs.Signed.{read, sign_is, from_is}
-use borrow.Author.Rules.{rules}
 use Rattle.lookup_count.proofs.count.from_i32.Goals as goal
 
 pub returns-then-not-known : goal.returns-then-not-known
 unfolding from_i32_at
-returns-then-not-known c = rw (← c.known.ensures, not-true c.known.result c.if-not-known.true)
+returns-then-not-known c = rw (← c.known.ensures, c.if-not-known.true)
 
 pub constant-requires : goal.constant-requires
 constant-requires c =
@@ -23,7 +21,7 @@ returns c =
     c.constant.ensures in
     rw (
       ← c.known.ensures,
-      not-false c.known.result c.if-not-known.false,
+      c.if-not-known.false,
       ← c.limits_of.ensures,
       ← c.prime_of.ensures,
     ) (λ i. in_numbers (record { answer = made.0 i; nodes = made.1 i }))

@@ -1,7 +1,6 @@
 use mathlib.Core.Path.{refl}
 use borrow.Author.Tests.{le-ltb, lt-ltb}
 use Rattle.lookup_count.specs.Count.{negation_refusal}
-use borrow.Author.Rules.{rules}
 use Rattle.lookup_count.proofs.count.negation.Goals as goal
 
 pub returns-then-limits-used : goal.returns-then-limits-used

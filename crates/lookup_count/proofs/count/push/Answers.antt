@@ -1,7 +1,6 @@
 use Prim.Native.Nat.{◌+◌, ◌*◌}
 use native.Mathlib.Omega.{arith}
 use Rattle.lists.specs.laws.Filled.{put_mid_is}
-use borrow.Author.Rules.{rules}
 use Rattle.lookup_count.proofs.count.push.Goals as goal
 
 pub returns : goal.returns

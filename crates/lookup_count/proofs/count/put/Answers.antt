@@ -1,5 +1,4 @@
 use Rattle.lookup_count.specs.laws.Count.{three-set}
-use borrow.Author.Rules.{rules}
 use Rattle.lookup_count.proofs.count.put.Goals as goal
 
 pub returns : goal.returns

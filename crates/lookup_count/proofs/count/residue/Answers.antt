@@ -1,5 +1,4 @@
 use Rattle.field.specs.laws.Word.{neg_m-mod}
-use borrow.Author.Rules.{rules}
 use Rattle.lookup_count.proofs.count.residue.Goals as goal
 
 pub returns-then-minus : goal.returns-then-minus

@@ -3,7 +3,6 @@ use Rattle.lookup_degree.specs.ConstraintDegree.{in_numbers}
 use Rattle.lookup.specs.Lookups.{lent_lookups}
 use Rattle.expression.specs.laws.Tested.{limits_sane}
 use mathlib.Core.Path.{ap}
-use borrow.Author.Rules.{rules}
 use Rattle.lookup_degree.proofs.constraint_degree.constraint_degree.Goals as goal
 
 pub returns-then-not-known : goal.returns-then-not-known

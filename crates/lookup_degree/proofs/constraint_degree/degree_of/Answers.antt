@@ -2,7 +2,6 @@ use Rattle.lookup_degree.proofs.Calls.{degrees_are, degrees-long, degree_of_is}
 use Rattle.lookup_degree.specs.laws.Formed.{few}
 use Rattle.lookup.specs.Lookups.{lent_lookups}
 use native.Mathlib.Omega.{arith}
-use borrow.Author.Rules.{rules}
 use Rattle.lookup_degree.proofs.constraint_degree.degree_of.Goals as goal
 
 pub slice_bounds-tuple_degrees-end : goal.slice_bounds-tuple_degrees-end

@@ -3,7 +3,6 @@ use Rattle.lookup_degree.specs.laws.Formed.{formed}
 use Rattle.lookup.specs.Lookups.{lent_lookups}
 use Rattle.expression.specs.Refusal.{refusal}
 use mathlib.Core.Path.{◌∙◌, sym, ap}
-use borrow.Author.Rules.{rules}
 use Rattle.lookup_degree.proofs.constraint_degree.degree_within.Goals as goal
 
 pub returns-then-not-t-i : goal.returns-then-not-t-i

@@ -1,7 +1,6 @@
 use Rattle.lookup_degree.specs.inner.At.{additive_at}
 use Prim.Native.Nat.{ℕ, ◌+◌, max}
 use mathlib.Core.Path.{◌∙◌, ap₂}
-use borrow.Author.Rules.{rules}
 use Rattle.lookup_degree.proofs.lookups.additive_degree.Goals as goal
 
 pub returns : goal.returns

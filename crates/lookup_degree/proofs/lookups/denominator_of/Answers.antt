@@ -4,7 +4,6 @@ use Rattle.lists.specs.Count.{total}
 use Prim.Native.Nat.{ℕ, ◌+◌}
 use native.Mathlib.Omega.{arith}
 use mathlib.Core.Path.{◌∙◌, ap₂}
-use borrow.Author.Rules.{rules}
 use Rattle.lookup_degree.proofs.lookups.denominator_of.Goals as goal
 
 pub returns : goal.returns

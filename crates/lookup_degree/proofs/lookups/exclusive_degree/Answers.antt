@@ -1,6 +1,5 @@
 use Rattle.lookup_degree.proofs.Calls.{exclusive_is}
 use mathlib.Core.Path.{◌∙◌}
-use borrow.Author.Rules.{rules}
 use Rattle.lookup_degree.proofs.lookups.exclusive_degree.Goals as goal
 
 pub returns : goal.returns

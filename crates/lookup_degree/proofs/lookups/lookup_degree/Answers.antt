@@ -1,6 +1,5 @@
 use Rattle.lookup_degree.specs.inner.At.{lookup_degree_at}
 use mathlib.Core.Path.{◌∙◌, sym}
-use borrow.Author.Rules.{rules}
 use Rattle.lookup_degree.proofs.lookups.lookup_degree.Goals as goal
 
 pub returns-then-exclusive : goal.returns-then-exclusive

@@ -1,11 +1,5 @@
 use Rattle.lookup_degree.proofs.Calls.{numerator_asks, numerator_is}
-use Rattle.lookup_degree.specs.inner.At.{denominator_at, numerator_at}
-use Rattle.expression.specs.Words.{word}
-use Rattle.lists.specs.Count.{total}
-use Prim.Native.Nat.{ℕ, ◌+◌, ◌-◌, ◌≤◌}
-use native.Mathlib.Omega.{arith}
-use mathlib.Core.Path.{◌∙◌, ap, ap₂, sym}
-use borrow.Author.Rules.{rules}
+use mathlib.Core.Path.{◌∙◌}
 use Rattle.lookup_degree.proofs.lookups.numerator_of.Goals as goal
 
 pub numerator-requires : goal.numerator-requires

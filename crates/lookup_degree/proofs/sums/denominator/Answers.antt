@@ -1,6 +1,4 @@
-use Rattle.lists.specs.laws.Turns.{Summing, sum-begins, sum_turn, sum-ends}
-use Rattle.expression.specs.Words.{word}
-use Prim.Native.Nat.{◌+◌, ◌-◌}
+use Rattle.lists.specs.laws.Turns.{sum-begins, sum_turn, sum-ends}
 use native.Mathlib.Omega.{arith}
 use mathlib.Core.Path.{◌∙◌}
 use borrow.Author.Rules.{rules}

@@ -1,9 +1,6 @@
-use Rattle.lists.specs.laws.Turns.{Summing, sum-begins, sum_turn, sum-ends}
+use Rattle.lists.specs.laws.Turns.{Summing}
 use Rattle.expression.specs.Words.{word}
 use Prim.Native.Nat.{◌+◌, ◌-◌}
-use native.Mathlib.Omega.{arith}
-use mathlib.Core.Path.{◌∙◌}
-use borrow.Author.Rules.{rules}
 use Rattle.lookup_degree.proofs.sums.denominator.Given as goal
 
 abbrev pub invariant-loop-k : goal.invariant-loop-k

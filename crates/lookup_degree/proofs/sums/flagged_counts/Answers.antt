@@ -1,7 +1,6 @@
-use Rattle.lookup_degree.specs.laws.Rising.{Rising, rise_begins, rise_turn, rise_ends}
+use Rattle.lookup_degree.specs.laws.Rising.{rise_begins, rise_turn, rise_ends}
 use Rattle.expression.specs.Words.{word}
-use Prim.Native.Nat.{ℕ, ◌+◌, ◌-◌, ◌≤◌}
-use native.Mathlib.Omega.{arith}
+use Prim.Native.Nat.{◌+◌}
 use mathlib.Core.Path.{◌∙◌, ap, ap₂}
 use borrow.Author.Rules.{rules}
 use Rattle.lookup_degree.proofs.sums.flagged_counts.Goals as goal

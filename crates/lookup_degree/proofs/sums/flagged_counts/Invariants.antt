@@ -1,9 +1,6 @@
-use Rattle.lookup_degree.specs.laws.Rising.{Rising, rise_begins, rise_turn, rise_ends}
+use Rattle.lookup_degree.specs.laws.Rising.{Rising}
 use Rattle.expression.specs.Words.{word}
-use Prim.Native.Nat.{ℕ, ◌+◌, ◌-◌, ◌≤◌}
-use native.Mathlib.Omega.{arith}
-use mathlib.Core.Path.{◌∙◌, ap, ap₂}
-use borrow.Author.Rules.{rules}
+use Prim.Native.Nat.{◌+◌, ◌-◌}
 use Rattle.lookup_degree.proofs.sums.flagged_counts.Given as goal
 
 abbrev pub invariant-loop-k : goal.invariant-loop-k

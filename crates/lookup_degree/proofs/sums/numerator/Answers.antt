@@ -1,7 +1,7 @@
-use Rattle.lookup_degree.specs.laws.Rising.{Rising, rise_begins, rise_turn, rise_ends}
+use Rattle.lookup_degree.specs.laws.Rising.{rise_begins, rise_turn, rise_ends}
 use Rattle.lookup_degree.proofs.Loops.{one_of}
 use Rattle.expression.specs.Words.{word}
-use Prim.Native.Nat.{ℕ, ◌+◌, ◌-◌, ◌≤◌}
+use Prim.Native.Nat.{ℕ, ◌+◌, ◌-◌}
 use native.Mathlib.Omega.{arith}
 use mathlib.Core.Path.{◌∙◌, ap, ap₂}
 use borrow.Author.Rules.{rules}

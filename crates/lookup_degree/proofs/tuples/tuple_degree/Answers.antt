@@ -1,7 +1,4 @@
-use Rattle.lookup_degree.proofs.Loops.{Topping, topping_begins, topping_turn, topping_ends}
-use Rattle.expression.specs.Words.{word}
-use lib.ListN.{length}
-use Prim.Native.Nat.{◌-◌}
+use Rattle.lookup_degree.proofs.Loops.{topping_begins, topping_turn, topping_ends}
 use borrow.Author.Rules.{rules}
 use Rattle.lookup_degree.proofs.tuples.tuple_degree.Goals as goal
 

@@ -1,8 +1,7 @@
-use Rattle.lookup_degree.proofs.Loops.{Topping, topping_begins, topping_turn, topping_ends}
+use Rattle.lookup_degree.proofs.Loops.{Topping}
 use Rattle.expression.specs.Words.{word}
 use lib.ListN.{length}
 use Prim.Native.Nat.{◌-◌}
-use borrow.Author.Rules.{rules}
 use Rattle.lookup_degree.proofs.tuples.tuple_degree.Given as goal
 
 abbrev pub invariant-loop-i : goal.invariant-loop-i

@@ -1,7 +1,4 @@
-use Rattle.lookup_degree.proofs.Loops.{Degreed, degreed_begins, degreed_room, degreed_turn, degreed_ends}
-use Rattle.expression.specs.Words.{word}
-use lib.ListN.{length}
-use Prim.Native.Nat.{◌-◌}
+use Rattle.lookup_degree.proofs.Loops.{degreed_begins, degreed_room, degreed_turn, degreed_ends}
 use native.Mathlib.Omega.{arith}
 use borrow.Author.Rules.{rules}
 use Rattle.lookup_degree.proofs.tuples.tuple_degrees.Goals as goal

@@ -1,9 +1,7 @@
-use Rattle.lookup_degree.proofs.Loops.{Degreed, degreed_begins, degreed_room, degreed_turn, degreed_ends}
+use Rattle.lookup_degree.proofs.Loops.{Degreed}
 use Rattle.expression.specs.Words.{word}
 use lib.ListN.{length}
 use Prim.Native.Nat.{◌-◌}
-use native.Mathlib.Omega.{arith}
-use borrow.Author.Rules.{rules}
 use Rattle.lookup_degree.proofs.tuples.tuple_degrees.Given as goal
 
 abbrev pub invariant-loop-j : goal.invariant-loop-j
