@@ -17,18 +17,6 @@ overflow_add-end c =
       ends_in c.requires.3 c.loop-k-test.true c.loop-k.invariant.here c.to_usize.ensures.0,
     )
 
-pub entry_count-times-requires : goal.entry_count-times-requires
-entry_count-times-requires c = (
-  search rules,
-  search rules,
-  omega (arith, c.requires.3.multiplicities_in, c.loop-k-test.true),
-  λ x. omega (
-    arith,
-    c.requires.3.flags_in x,
-    c.loop-k-test.true,
-  ),
-)
-
 pub slice_bounds-add_tuple-end : goal.slice_bounds-add_tuple-end
 slice_bounds-add_tuple-end c =
     ends_in c.requires.3 c.loop-k-test.true c.loop-k.invariant.here c.to_usize.ensures.0
@@ -39,14 +27,6 @@ offset_bounds-elements-at c =
       arith,
       ends_in c.requires.3 c.loop-k-test.true c.loop-k.invariant.here c.to_usize.ensures.0,
     )
-
-pub add_tuple-next-requires : goal.add_tuple-next-requires
-add_tuple-next-requires c =
-    (search rules, part-narrow _ _ c.to_usize.ensures.0 (c.requires.3.narrow _), c.loop-k.invariant.ready)
-
-pub overflow_add-k : goal.overflow_add-k
-overflow_add-k c =
-    omega (arith, c.loop-k-test.true, c.loop-k.invariant.few)
 
 pub loop-k-preserved : goal.loop-k-preserved
 loop-k-preserved c =

@@ -4,9 +4,6 @@ use Prim.Native.Nat.{◌-◌}
 use borrow.Author.Rules.{rules}
 use Rattle.balance.proofs.rows.tuple_values.Goals as goal
 
-pub loop-j-init : goal.loop-j-init
-loop-j-init c = value-begins (search rules)
-
 pub loop-j-preserved : goal.loop-j-preserved
 loop-j-preserved c = value_turn c.loop-j.invariant (search rules) c.word_at-v.ensures c.to_usize.ensures.0
 
