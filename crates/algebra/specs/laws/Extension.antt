@@ -13,8 +13,8 @@ module _ (F : Field) where
   open R use {El, z, u, add, mul, neg, mul_u, mul_assoc, mul_comm}
 
   -- no zero divisors
-  pub no_zero-div : (a b : El) → mul a b ≡ z → a ≢ z → b ≡ z
-  no_zero-div a b e h =
+  pub no_zero_div : (a b : El) → mul a b ≡ z → a ≢ z → b ≡ z
+  no_zero_div a b e h =
       let i : (c : El) × (mul a c ≡ u) = F.inv a h in
       sym (mul_u b) ∙ ap (mul b) (sym i.1) ∙ solve R (a ∷ b ∷ i.0 ∷ []) (X 1 ⊗ (X 0 ⊗ X 2)) (X 0 ⊗ X 1 ⊗ X 2) tt
       ∙ ap (λ (x : El). mul x i.0) e ∙ z_mul R i.0
@@ -36,7 +36,7 @@ module _ (F : Field) where
 
             sq : Dec (a ≡ z) → a ≡ z
             sq (yes k) = k
-            sq (no k) = no_zero-div a a aa k
+            sq (no k) = no_zero_div a a aa k
 
         go : Dec (b ≡ z) → (a ≡ z) × (b ≡ z)
         go (yes h) = (at_zero h, h)

@@ -124,7 +124,7 @@ module _ (m : Limits) (p w : ℕ) (M : Modulus p) (C : Certificate p w) where
       → Passes p (generation m p w) (one es₁ c₁) (one es₂ c₂) buffers buffers (record { alpha = a; beta = b })
   passes es₁ es₂ c₁ c₂ ok₁ ok₂ is₁ is₂ a b ea eb off₁ off₂ same =
       record {
-        challenges = record { alpha-element = ea; beta-element = eb };
+        challenges = record { alpha_element = ea; beta_element = eb };
         accepted₁ = accepted es₁ c₁ ok₁ is₁ a b ea eb off₁;
         accepted₂ = accepted es₂ c₂ ok₂ is₂ a b ea eb off₂;
         agree =

@@ -1,4 +1,4 @@
-use Rattle.logup_rows.proofs.SumLoops.{WriteRowsLoop, write_rows-begins, write_rows_in, write_rows-part, write_rows-start, write_rows-room, write_rows_turn, write_rows-ends}
+use Rattle.logup_rows.proofs.SumLoops.{WriteRowsLoop, write_rows_begins, write_rows_in, write_rows_part, write_rows_start, write_rows_room, write_rows_turn, write_rows_ends}
 use Prim.Native.Nat.{◌-◌}
 use native.Mathlib.Omega.{arith}
 use mathlib.Core.Path.{refl}
@@ -7,7 +7,7 @@ use Rattle.logup_rows.proofs.writing.write_rows.Goals as goal
 
 pub loop-j-init : goal.loop-j-init
 loop-j-init c =
-    write_rows-begins c.requires.0 c.requires.1 (search rules) (search rules)
+    write_rows_begins c.requires.0 c.requires.1 (search rules) (search rules)
     c.requires.5 refl c.requires.2 c.requires.3
     c.requires.4 c.requires.6
 
@@ -21,8 +21,8 @@ pub write_row-sum-requires : goal.write_row-sum-requires
 write_row-sum-requires c = (
   c.requires.0,
   c.requires.1,
-  write_rows-room c.loop-j.invariant c.loop-j-test.true,
-  write_rows-part c.loop-j.invariant c.loop-j-test.true,
+  write_rows_room c.loop-j.invariant c.loop-j-test.true,
+  write_rows_part c.loop-j.invariant c.loop-j-test.true,
 )
 
 pub add-accumulator-requires : goal.add-accumulator-requires
@@ -31,11 +31,11 @@ add-accumulator-requires c =
 
 pub overflow_add-start : goal.overflow_add-start
 overflow_add-start c =
-    omega (arith, write_rows-start c.loop-j.invariant c.loop-j-test.true, c.loop-j.invariant.cap_q, c.loop-j.invariant.qs_size)
+    omega (arith, write_rows_start c.loop-j.invariant c.loop-j-test.true, c.loop-j.invariant.cap_q, c.loop-j.invariant.qs_size)
 
 pub loop-j-preserved : goal.loop-j-preserved
 loop-j-preserved c =
     write_rows_turn c.loop-j.invariant c.loop-j-test.true _ c.write_row-sum.ensures c.add-accumulator.ensures
 
 pub returns : goal.returns
-returns c = write_rows-ends c.loop-j.invariant (search rules)
+returns c = write_rows_ends c.loop-j.invariant (search rules)

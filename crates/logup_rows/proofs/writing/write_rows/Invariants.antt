@@ -1,4 +1,4 @@
-use Rattle.logup_rows.proofs.SumLoops.{WriteRowsLoop, write_rows-begins, write_rows_in, write_rows-part, write_rows-start, write_rows-room, write_rows_turn, write_rows-ends}
+use Rattle.logup_rows.proofs.SumLoops.{WriteRowsLoop, write_rows_begins, write_rows_in, write_rows_part, write_rows_start, write_rows_room, write_rows_turn, write_rows_ends}
 use Prim.Native.Nat.{◌-◌}
 use native.Mathlib.Omega.{arith}
 use mathlib.Core.Path.{refl}
