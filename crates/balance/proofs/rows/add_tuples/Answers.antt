@@ -1,11 +1,11 @@
 use native.Mathlib.Omega.{arith}
-use Rattle.balance.proofs.RowsLoops.{add-tuples_loop_begins, add-tuples_loop_turn, add-tuples_loop_ends, ends_in}
+use Rattle.balance.proofs.RowsLoops.{add_tuples_loop_begins, add_tuples_loop_turn, add_tuples_loop_ends, ends_in}
 use borrow.Author.Rules.{rules}
 use Rattle.balance.proofs.rows.add_tuples.Goals as goal
 
 pub loop-k-init : goal.loop-k-init
 loop-k-init c =
-    add-tuples_loop_begins c.requires.3 c.requires.2 (search rules)
+    add_tuples_loop_begins c.requires.3 c.requires.2 (search rules)
 
 pub overflow_add-end : goal.overflow_add-end
 overflow_add-end c =
@@ -27,8 +27,8 @@ offset_bounds-elements-at c =
 
 pub loop-k-preserved : goal.loop-k-preserved
 loop-k-preserved c =
-    add-tuples_loop_turn c.loop-k.invariant c.loop-k-test.true c.to_usize.ensures.0 c.entry_count-times.ensures c.add_tuple-next.ensures (search
+    add_tuples_loop_turn c.loop-k.invariant c.loop-k-test.true c.to_usize.ensures.0 c.entry_count-times.ensures c.add_tuple-next.ensures (search
     rules) (search rules)
 
 pub returns : goal.returns
-returns c = add-tuples_loop_ends c.loop-k.invariant c.loop-k-test.false
+returns c = add_tuples_loop_ends c.loop-k.invariant c.loop-k-test.false
