@@ -1,6 +1,6 @@
 -- The turns of the loop that multiplies the factors and of the loop that divides.
 use mathlib.Core.Path.{◌≡◌, refl, sym, ap, ap₂, ◌∙◌, subst}
-use mathlib.Core.Logic.{◌≢◌, ⊎_elim}
+use mathlib.Core.Logic.{◌≢◌}
 use mathlib.Core.List.{List, [], ◌∷◌, ◌++◌}
 use Prim.Native.Nat.{ℕ, suc, ◌+◌, ◌*◌, ◌-◌, ◌<◌, ◌≤◌, zero-le}
 use native.Mathlib.Nat.{zero-add}
@@ -17,7 +17,6 @@ use Rattle.field.specs.declared.extension.Ext.{Ext}
 use Rattle.field.specs.Ext.{ext_words}
 use Rattle.field.specs.Modulus.{Certificate}
 use Rattle.field.specs.inner.Requires.{KnownPrime}
-use Rattle.field.specs.Known.{babybear, koalabear}
 use Rattle.field.specs.laws.Known.{modulus}
 use Rattle.field.specs.Word.{mul_m}
 use Rattle.field.specs.Element.{at, Word4, lift, zero4, mul4, norm2, norm, cofactor, element}
@@ -26,29 +25,6 @@ use Rattle.field.specs.laws.Slice.{word-element}
 use Rattle.field_batch.specs.inner.Quotients.{quotient, quotient_at, nonzero, factor, product_m, kept, factor_from_last, kept_from_last, Divisible}
 use Rattle.field_batch.specs.laws.Joined.{joined-size, total-same, element_of, element_past}
 use Rattle.field_batch.specs.laws.Quotients.{inverts-rest, inverts-same, quotient_none, quotient_in, kept_in, kept_out, kept-factor, kept_product, kept_word, product_below, one_below}
-
--- the prime as a constant
-pub second : {p : ℕ} → KnownPrime p → p ≢ babybear → p ≡ koalabear
-second k n = ⊎_elim (λ e. absurd (n e)) (λ e. e) k.one_of_two
-
-pub keep_asks : {p q w : ℕ} {d : List ℕ} → p ≡ q → KnownPrime p × (w < p) × Certificate p w × Word4 p d → KnownPrime q × (w < q) × Certificate q w × Word4 q d
-keep_asks {p} {q} {w} {d} e = subst (λ (x : ℕ). KnownPrime x × (w < x) × Certificate x w × Word4 x d) e
-
-pub keep_gives : {p q : ℕ} {r : List ℕ} (w m : ℕ) (d : Ext) (product : ℕ) → p ≡ q → r ≡ kept q w m (ext_words d) product → r ≡ kept p w m (ext_words d) product
-keep_gives w m d product e h = h ∙ ap (λ (x : ℕ). kept x w m (ext_words d) product) (sym e)
-
-pub step_asks : {p q w m v : ℕ} {d k : Ext} → p ≡ q
-    → KnownPrime p × (w < p) × Certificate p w × (m < p) × Word4 p (ext_words d) × Word4 p (ext_words k) × (v < p)
-    × (ext_words k ≡ kept p w m (ext_words d) k.c3) × (mul_m p (mul_m p k.c3 k.c2) v ≡ 1)
-    → KnownPrime q × (w < q) × Certificate q w × (m < q) × Word4 q (ext_words d) × Word4 q (ext_words k) × (v < q)
-    × (ext_words k ≡ kept q w m (ext_words d) k.c3) × (mul_m q (mul_m q k.c3 k.c2) v ≡ 1)
-step_asks {p} {q} {w} {m} {v} {d} {k} e =
-    subst (λ (x : ℕ). KnownPrime x × (w < x) × Certificate x w × (m < x) × Word4 x (ext_words d) × Word4 x (ext_words k) × (v < x)
-    × (ext_words k ≡ kept x w m (ext_words d) k.c3) × (mul_m x (mul_m x k.c3 k.c2) v ≡ 1)) e
-
-pub step_gives : {p q v : ℕ} {r : List ℕ} (w m : ℕ) (d k : Ext) → p ≡ q
-    → (v < q) × (mul_m q k.c3 v ≡ 1) × (r ≡ quotient q w m (ext_words d)) → (v < p) × (mul_m p k.c3 v ≡ 1) × (r ≡ quotient p w m (ext_words d))
-step_gives {v = v} {r = r} w m d k e = subst (λ (x : ℕ). (v < x) × (mul_m x k.c3 v ≡ 1) × (r ≡ quotient x w m (ext_words d))) (sym e)
 
 kept-four : (p w : ℕ) (ms ds : List ℕ) (j : ℕ) → length (kept_from_last p w ms ds j) ≡ 4
 unfolding kept_from_last kept

@@ -1,14 +1,14 @@
 -- The turns of the loops between words and bytes, over plain lists and numbers.
 use mathlib.Core.Path.{◌≡◌, refl, sym, ap, ◌∙◌}
 use mathlib.Core.List.{List, [], ◌∷◌, ◌++◌}
-use Prim.Native.Nat.{ℕ, ◌+◌, ◌*◌, ◌/◌, ◌<◌, ◌≤◌, zero-le}
+use Prim.Native.Nat.{ℕ, ◌+◌, ◌/◌, ◌<◌, ◌≤◌, zero-le}
 use native.Mathlib.Nat.{zero-add}
 use native.Mathlib.Omega.{arith}
-use lib.ListN.{length, drop, set, get_or}
+use lib.ListN.{length, drop, set}
 use Rattle.lists.specs.Tab.{tab}
 use Rattle.lists.specs.laws.Tab.{tab-one}
 use Rattle.lists.specs.laws.Filled.{Filled, filled_none, filled-one}
-use Rattle.wire.specs.Wire.{word_of, word_at, words_of}
+use Rattle.wire.specs.Wire.{word_at, words_of}
 
 -- the first i of n words are written
 pub record Decoding (bytes d : List ℕ) (n : ℕ) (out : List ℕ) (i : ℕ) : Type 0 where
@@ -34,9 +34,3 @@ unfolding words_of
 decode-ends {bytes} {d} {out} {n} {i} s h =
     let e : i ≡ length bytes / 4 = omega (arith, s.within, s.count) in
     s.out_is.is ∙ ap (λ (j : ℕ). tab (word_at bytes) 0 j ++ drop j d) e
-
--- the word of the bytes that are read
-pub word_read : (bytes : List ℕ) (i at a b c d r : ℕ) → at ≡ 4 * i → a ≡ get_or bytes at 0 → b ≡ get_or bytes (at + 1) 0 → c ≡ get_or bytes (at + 2) 0 → d ≡ get_or bytes (at + 3) 0
-    → r ≡ word_of a b c d → r ≡ word_at bytes i
-unfolding word_at
-word_read bytes i at a b c d r e ea eb ec ed er = rw (er, ea, eb, ec, ed, e)

@@ -7,11 +7,6 @@ use mathlib.Core.Path.{◌∙◌, ap, ap₂}
 use native.Mathlib.Omega.{arith}
 use Rattle.expression_eval.proofs.traits.node_value.Goals as goal
 
-pub bounds-rows-to_usize : goal.bounds-rows-to_usize
-bounds-rows-to_usize c =
-    let t = c.requires.0 in
-    omega (arith, (rw c.in-Main.is at t.readable).0, c.to_usize.ensures.0)
-
 pub read-requires : goal.read-requires
 read-requires c =
     let t = c.requires in
@@ -19,61 +14,12 @@ read-requires c =
     let ahead = row-ahead _ _ _ t.0.inside there.0 t.1 c.to_usize.ensures.0 in
     (t.0.inside, ahead.0, ahead.1, t.0.rows.main_fits, there.1)
 
-pub bounds-rows-to_usize-in-Preprocessed : goal.bounds-rows-to_usize-in-Preprocessed
-bounds-rows-to_usize-in-Preprocessed c =
-    let t = c.requires.0 in
-    omega (arith, (rw c.in-Preprocessed.is at t.readable).0, c.to_usize-in-Preprocessed.ensures.0)
-
 pub read-requires-in-Preprocessed : goal.read-requires-in-Preprocessed
 read-requires-in-Preprocessed c =
     let t = c.requires in
     let there = rw c.in-Preprocessed.is at t.0.readable in
     let ahead = row-ahead _ _ _ t.0.inside there.0 t.1 c.to_usize-in-Preprocessed.ensures.0 in
     (t.0.inside, ahead.0, ahead.1, t.0.rows.pre_fits, there.1)
-
-pub bounds-public_values-to_usize : goal.bounds-public_values-to_usize
-bounds-public_values-to_usize c =
-    omega (arith, rw c.in-PublicValue.is at c.requires.0.readable, c.to_usize-in-PublicValue.ensures.0)
-
-pub value-requires : goal.value-requires
-value-requires c = (rw c.in-Sum.is at c.requires.0.readable).0
-
-pub value-requires-in-Sum : goal.value-requires-in-Sum
-value-requires-in-Sum c =
-    (rw c.in-Sum.is at c.requires.0.readable).1
-
-pub add-requires : goal.add-requires
-add-requires c =
-    (c.requires.0.modulus, rw c.value.ensures (c.requires.2.below.each _), rw c.value-in-Sum.ensures (c.requires.2.below.each _))
-
-pub value-requires-in-Difference : goal.value-requires-in-Difference
-value-requires-in-Difference c = (rw c.in-Difference.is at c.requires.0.readable).0
-
-pub value-requires-in-Difference-2 : goal.value-requires-in-Difference-2
-value-requires-in-Difference-2 c =
-    (rw c.in-Difference.is at c.requires.0.readable).1
-
-pub sub-requires : goal.sub-requires
-sub-requires c =
-    (c.requires.0.modulus, rw c.value-in-Difference.ensures (c.requires.2.below.each _), rw c.value-in-Difference-2.ensures (c.requires.2.below.each _))
-
-pub value-requires-in-Product : goal.value-requires-in-Product
-value-requires-in-Product c = (rw c.in-Product.is at c.requires.0.readable).0
-
-pub value-requires-in-Product-2 : goal.value-requires-in-Product-2
-value-requires-in-Product-2 c =
-    (rw c.in-Product.is at c.requires.0.readable).1
-
-pub mul-requires : goal.mul-requires
-mul-requires c =
-    (c.requires.0.modulus, rw c.value-in-Product.ensures (c.requires.2.below.each _), rw c.value-in-Product-2.ensures (c.requires.2.below.each _))
-
-pub value-requires-in-Negation : goal.value-requires-in-Negation
-value-requires-in-Negation c = (rw c.in-Negation.is at c.requires.0.readable)
-
-pub neg-requires : goal.neg-requires
-neg-requires c =
-    (c.requires.0.modulus, rw c.value-in-Negation.ensures (c.requires.2.below.each _))
 
 pub returns-in-Constant : goal.returns-in-Constant
 unfolding node_value window

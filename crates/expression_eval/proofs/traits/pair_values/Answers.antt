@@ -8,9 +8,6 @@ use lib.Dec.{lit<}
 use borrow.Author.Rules.{rules}
 use Rattle.expression_eval.proofs.traits.pair_values.Goals as goal
 
-pub rows_ahead-next_rows-requires : goal.rows_ahead-next_rows-requires
-rows_ahead-next_rows-requires c = (row-ahead _ _ 1 c.requires.1 (lit< tt) c.rows_ahead-rows.ensures refl).0
-
 pub loop-i-init : goal.loop-i-init
 loop-i-init c =
     let t = c.requires in

@@ -1,15 +1,10 @@
 use mathlib.Core.Path.{ap, ◌∙◌}
-use native.Mathlib.Omega.{arith}
 use lib.ListN.{replicate}
 use Rattle.field.specs.Word.{mul_m}
 use Rattle.field.specs.laws.Known.{modulus}
 use Rattle.field_batch.specs.laws.Quotients.{all_inverted}
-use Rattle.field_batch.proofs.DivisionLoops.{again_in, again_is}
+use Rattle.field_batch.proofs.DivisionLoops.{again_is}
 use Rattle.field_batch.proofs.division.divide_all.Goals as goal
-
-pub slice_bounds-quotients-end : goal.slice_bounds-quotients-end
-slice_bounds-quotients-end c =
-    again_in (replicate 1024 0) _ _ _ _ _ c.products-product.ensures.2 (omega (arith, c.requires.1))
 
 pub quotients-requires : goal.quotients-requires
 quotients-requires c =

@@ -1,7 +1,7 @@
 use mathlib.Core.Path.{refl, sym, subst}
 use Rattle.field.specs.laws.Slice.{word-element}
 use Rattle.field.specs.Element.{Word4}
-use Rattle.field_batch.proofs.DivisionLoops.{multiplying_begins, multiplying_part, multiplying_factor, multiplying_turn, multiplying_ends}
+use Rattle.field_batch.proofs.DivisionLoops.{multiplying_begins, multiplying_factor, multiplying_turn}
 use borrow.Author.Rules.{rules}
 use Rattle.field_batch.proofs.division.products.Goals as goal
 
@@ -16,9 +16,6 @@ keep-k-requires c = (
   subst (Word4 c.args.p) (sym c.load.ensures) (word-element _ _ c.requires.0.ds_below),
 )
 
-pub store-requires : goal.store-requires
-store-requires c = multiplying_part c.loop-j.invariant c.loop-j-test.true
-
 pub times-product-requires : goal.times-product-requires
 times-product-requires c = (
   c.requires.0.modulus,
@@ -29,6 +26,3 @@ times-product-requires c = (
 pub loop-j-preserved : goal.loop-j-preserved
 loop-j-preserved c =
     multiplying_turn c.loop-j.invariant c.loop-j-test.true refl c.load.ensures c.keep-k.ensures _ c.store.ensures c.times-product.ensures
-
-pub returns : goal.returns
-returns c = multiplying_ends c.loop-j.invariant (search rules)

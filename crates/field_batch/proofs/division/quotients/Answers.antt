@@ -1,5 +1,5 @@
 use mathlib.Core.Path.{refl}
-use Rattle.field_batch.proofs.DivisionLoops.{dividing_begins, dividing_part, dividing_step, dividing_turn, dividing_ends}
+use Rattle.field_batch.proofs.DivisionLoops.{dividing_begins, dividing_step, dividing_turn}
 use borrow.Author.Rules.{rules}
 use Rattle.field_batch.proofs.division.quotients.Goals as goal
 
@@ -9,13 +9,6 @@ loop-i-init c = let t = c.requires in dividing_begins t.0 (search rules) refl t.
 pub step-s-requires : goal.step-s-requires
 step-s-requires c = let t = c.requires.0 in let s = c.loop-i.invariant in let k = dividing_step s c.loop-i-test.true refl c.load-d.ensures c.load-k.ensures in (t.modulus, t.low, t.certificate, k.0, k.1, k.2, s.below, k.3, k.4)
 
-pub store-requires : goal.store-requires
-store-requires c =
-    dividing_part c.loop-i.invariant c.loop-i-test.true
-
 pub loop-i-preserved : goal.loop-i-preserved
 loop-i-preserved c =
     dividing_turn c.loop-i.invariant c.loop-i-test.true refl c.load-d.ensures c.load-k.ensures _ c.step-s.ensures c.store.ensures
-
-pub returns : goal.returns
-returns c = dividing_ends c.loop-i.invariant (search rules)

@@ -5,6 +5,3 @@ pub returns-then-minus : goal.returns-then-minus
 returns-then-minus c =
     rw (c.if-minus.true, c.neg.ensures.1, c.reduce-m.ensures.1, c.to_u64.ensures.0) (neg_m-mod
     c.args.p c.args.magnitude)
-
-pub returns-else-minus : goal.returns-else-minus
-returns-else-minus c = rw (c.if-minus.false, c.reduce-m.ensures.1, c.to_u64.ensures.0)
