@@ -4,7 +4,6 @@ use Rattle.field.specs.laws.Known.{known-prime}
 use Rattle.expression.specs.Limits.{Sane}
 use Rattle.expression.specs.laws.Tested.{limits_sane}
 use Rattle.balance_entry.proofs.DebugUtilLoops.{unknown, at_choices}
-use borrow.Author.Rules.{rules}
 use Rattle.balance_entry.proofs.debug_util.check_lookups.Goals as goal
 
 pub returns-then-not-known : goal.returns-then-not-known

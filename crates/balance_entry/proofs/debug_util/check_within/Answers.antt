@@ -1,11 +1,7 @@
 use Rattle.std.proofs.Common.{not, ap, sym, ◌∙◌}
 use Rattle.balance.specs.laws.Whole.{lists_covered, whole}
 use Rattle.balance_entry.proofs.DebugUtilLoops.{unfit, refused, nothing, answered}
-use borrow.Author.Rules.{rules}
 use Rattle.balance_entry.proofs.debug_util.check_within.Goals as goal
-
-pub lists_fit-requires : goal.lists_fit-requires
-lists_fit-requires c = c.requires.0
 
 pub returns-then-not-lists_fit : goal.returns-then-not-lists_fit
 returns-then-not-lists_fit c = unfit _ _ _ _ c.lists_fit.ensures (ap not c.if-not-lists_fit.true)

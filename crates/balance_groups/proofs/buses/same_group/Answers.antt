@@ -1,6 +1,5 @@
 use Rattle.std.proofs.Common.{not, ap, ◌∙◌}
 use Rattle.balance_groups.proofs.AccumulateLoops.{name_in, name_is, same_group-local, same_group_not, same_group-named}
-use borrow.Author.Rules.{rules}
 use Rattle.balance_groups.proofs.buses.same_group.Goals as goal
 
 pub returns-then-not-on_bus : goal.returns-then-not-on_bus

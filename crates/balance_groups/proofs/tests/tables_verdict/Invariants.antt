@@ -1,8 +1,7 @@
 use Prim.Native.Nat.{◌-◌}
 use Rattle.balance.specs.Tables.{lent_tables, table_count, table_at}
 use Rattle.balance_groups.specs.inner.Lowest.{one_refusal}
-use Rattle.balance_groups.proofs.TestsLoops.{LowestLoop, lowest_loop_begins, lowest_loop_turn, lowest_loop_ends}
-use borrow.Author.Rules.{rules}
+use Rattle.balance_groups.proofs.TestsLoops.{LowestLoop}
 use Rattle.balance_groups.proofs.tests.tables_verdict.Given as goal
 
 abbrev pub invariant-loop-t : goal.invariant-loop-t

@@ -3,13 +3,6 @@ use Rattle.balance_groups.specs.laws.Ranges.{lies}
 use Rattle.balance_groups.proofs.TestsLoops.{verdict_is}
 use Rattle.balance_groups.proofs.tests.verdict_at.Goals as goal
 
-pub shape_of-shape-requires : goal.shape_of-shape-requires
-shape_of-shape-requires c = let start = c.requires in (start.2, start.1.tables)
-
-pub table_ranges-ranges-requires : goal.table_ranges-ranges-requires
-table_ranges-ranges-requires c =
-    (c.requires.2, c.requires.1.tables)
-
 pub slice_bounds-table_verdict-count : goal.slice_bounds-table_verdict-count
 slice_bounds-table_verdict-count c =
     (lies c.requires.1 c.requires.2 c.table_ranges-ranges.ensures).main
@@ -165,10 +158,6 @@ offset_bounds-flags-flags_start c =
 pub offset_bounds-elements-elements_start : goal.offset_bounds-elements-elements_start
 offset_bounds-elements-elements_start c =
     let r = lies c.requires.1 c.requires.2 c.table_ranges-ranges.ensures in omega (arith, r.elements, r.elements_end)
-
-pub table_verdict-requires : goal.table_verdict-requires
-table_verdict-requires c =
-    c.requires.0
 
 pub returns : goal.returns
 returns c =
