@@ -1,4 +1,3 @@
-use mathlib.Core.Path.{sym, ◌∙◌}
 use Rattle.lookup_protocol.specs.Terminals.{terminals_refusal}
 use Rattle.lookup_protocol.proofs.protocol.terminals_refusal.Goals as goal
 
@@ -14,10 +13,6 @@ returns-then-not-all_below c =
       ← c.all_below.ensures,
       c.if-not-all_below.true,
     )
-
-pub terminal_sum-requires : goal.terminal_sum-requires
-terminal_sum-requires c =
-    (c.requires, sym c.all_below.ensures ∙ c.if-not-all_below.false)
 
 pub returns-then-is_zero : goal.returns-then-is_zero
 unfolding terminals_refusal
