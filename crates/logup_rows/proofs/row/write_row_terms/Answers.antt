@@ -1,6 +1,5 @@
-use Rattle.logup_rows.proofs.RowLoops.{LookupsLoop, lookups_loop_begins, ms_part, ds_part, lookups_loop_turn, lookups_loop_ends, no_fault}
+use Rattle.logup_rows.proofs.RowLoops.{lookups_loop_begins, ms_part, ds_part, lookups_loop_turn, lookups_loop_ends, no_fault}
 use native.Mathlib.Omega.{arith}
-use Prim.Native.Nat.{◌-◌}
 use mathlib.Core.Path.{◌≡◌, refl, ap, ◌∙◌}
 use Rattle.lists.specs.Count.{or_else}
 use Rattle.expression.specs.Refusal.{refusal}
@@ -12,10 +11,6 @@ use Rattle.logup_rows.proofs.row.write_row_terms.Goals.{then-fault-ne0, else-fau
 pub loop-i-init : goal.loop-i-init
 loop-i-init c =
     lookups_loop_begins c.requires.0.lists (omega (arith, c.well_formed)) (omega (arith, c.well_formed)) refl c.requires.2 c.requires.3
-
-pub next_starts-end-requires : goal.next_starts-end-requires
-next_starts-end-requires c =
-    (c.requires.0.lists, omega (arith, c.loop-i-test.true, c.loop-i.invariant.count), c.loop-i.invariant.stands)
 
 pub lookup_terms-fault-requires : goal.lookup_terms-fault-requires
 lookup_terms-fault-requires c = (
@@ -30,10 +25,6 @@ lookup_terms-fault-requires c = (
   ms_part c.loop-i.invariant c.next_starts-end.ensures,
   ds_part c.loop-i.invariant c.next_starts-end.ensures,
 )
-
-pub overflow_add-i : goal.overflow_add-i
-overflow_add-i c =
-    omega (arith, c.loop-i.invariant.few, c.loop-i-test.true)
 
 pub loop-i-preserved : goal.loop-i-preserved
 loop-i-preserved c =

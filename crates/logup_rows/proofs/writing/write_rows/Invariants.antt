@@ -1,8 +1,5 @@
-use Rattle.logup_rows.proofs.SumLoops.{WriteRowsLoop, write_rows_begins, write_rows_in, write_rows_part, write_rows_start, write_rows_room, write_rows_turn, write_rows_ends}
+use Rattle.logup_rows.proofs.SumLoops.{WriteRowsLoop}
 use Prim.Native.Nat.{◌-◌}
-use native.Mathlib.Omega.{arith}
-use mathlib.Core.Path.{refl}
-use borrow.Author.Rules.{rules}
 use Rattle.logup_rows.proofs.writing.write_rows.Given as goal
 
 abbrev pub invariant-loop-j : goal.invariant-loop-j
