@@ -1,4 +1,4 @@
-// Elements of four words, c0 + typeof.c1.X + typeof.c2.X² + typeof.c3.X³ with X⁴ = w.
+// Elements of four words, c0 + c1·X + c2·X² + c3·X³ with X⁴ = w.
 ghost use Rattle.std.specs.Prelude.{◌≡◌, ◌<◌, ◌≤◌, ◌+◌, ◌*◌, length};
 ghost use Rattle.field.specs.Modulus.{Certificate};
 ghost use Rattle.field.specs.inner.Requires.{KnownPrime};
@@ -103,7 +103,7 @@ pub fn power(p: u32, w: u32, b: Ext, n: u32) -> Ext
     r
 }
 
-// The first and the third word of a(X)·a(-X) = n0 + typeof.n1.X². The minus signs are in the factors, so that each is one sum of four products.
+// The first and the third word of a(X)·a(-X) = n0 + n1·X². The minus signs are in the factors, so that each is one sum of four products.
 pub fn norm_lo(p: u32, w: u32, a: Ext) -> u32
     requires { KnownPrime p × (w < p) × Certificate p w × Word4 p (ext_words a) }
     ensures { (result < p) × (result ≡ at (norm2 p w (ext_words a)) 0) }

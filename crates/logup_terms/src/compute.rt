@@ -34,7 +34,7 @@ pub struct Branches {
     pub flags: u32,
 }
 
-// The fraction with tuple k's term: N ÷ D + m ÷ d = (N·d + typeof.m.D) ÷ (D·d). Before the first it is 0 ÷ 1, so that the first takes no product.
+// The fraction with tuple k's term: N ÷ D + m ÷ d = (N·d + m·D) ÷ (D·d). Before the first it is 0 ÷ 1, so that the first takes no product.
 fn add_term(p: u32, w: u32, t: Fraction, k: usize, m: u32, d: Ext) -> Fraction
     requires { Field p w × Word4 p (ext_words t.numerator) × Word4 p (ext_words t.denominator) × (k ≡ 0 → (ext_words t.numerator ≡ zero4) × (ext_words t.denominator ≡ one4))
         × (m < p) × Word4 p (ext_words d) }
