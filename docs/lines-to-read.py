@@ -24,7 +24,7 @@ ENTRIES = {
     "lookup_count/src/count.rt": ["from_i32", "negated", "bounded", "provided"],
     "balance_entry/src/debug_util.rt": ["check_lookups"],
 }
-EXPORTS = ["delmatik", "delmatik_bytes"]
+EXPORTS = ["delmatik_c", "delmatik_bytes_c"]
 
 # the files with the statements of the theorems; `use` lines lead on from there
 STATEMENTS = [
@@ -35,7 +35,7 @@ STATEMENTS = [
     "lookup_builder/specs/BuiltWeights.antt",
 ]
 
-USE = re.compile(r"^\s*(?:ghost )?use (?:Rattle·(\w+)(?:·specs)?\.specs\.)([\w.]+?)(?:\.\{([^}]*)\}| as ([\w-]+))?;?\s*$", re.M)
+USE = re.compile(r"^\s*(?:ghost )?use (?:Rattle\.(\w+)\.specs\.)([\w.]+?)(?:\.\{([^}]*)\}| as ([\w-]+))?;?\s*$", re.M)
 
 
 def uses(path, text):
@@ -87,7 +87,7 @@ def contracts():
             if (names is None and match[1]) or (names and match[2] in names):
                 contract = match[3][match[3].index("ensures") :]
                 lines[kind] += len(contract.strip().splitlines())
-                words = set(re.findall(r"[\w·-]+", contract))
+                words = set(re.findall(r"[\w-]+", contract))
                 files.update(f for f, taken in uses(path, text) if words & set(taken))
     return lines, files
 

@@ -227,8 +227,16 @@ def main():
         if new != text:
             with open(path, "w", encoding="utf-8") as it:
                 it.write(new)
+            changed.append(path)
     return 0
 
 
 if __name__ == "__main__":
-    sys.exit(main())
+    changed = []
+    status = main()
+    # What a first turn makes of a word may make more of a lemma's name.
+    while changed and not status:
+        changed.clear()
+        loose.clear()
+        status = main()
+    sys.exit(status)

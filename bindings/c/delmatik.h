@@ -1,8 +1,8 @@
 /*
  * Delmatik for C: a verified LogUp lookup argument over one of two prime fields and its extension of degree 4.
  *
- * Build the library with `rt staticlib delmatik` and link target/staticlib/libdelmatik.a. A first call is in first.c. The functions whose
- * names end in _bytes are in a library of their own: `rt staticlib delmatik_bytes`, target/staticlib/libdelmatik_bytes.a. A program may link
+ * Build the library with `.ci/archive delmatik` and link target/staticlib/libdelmatik.a. A first call is in first.c. The functions whose
+ * names end in _bytes are in a library of their own: `.ci/archive delmatik_bytes`, target/staticlib/libdelmatik_bytes.a. A program may link
  * both.
  *
  * - Every function that can refuse takes the numbers of a field and of a profile first, generation and constraints that of a tuple rule

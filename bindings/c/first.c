@@ -1,6 +1,6 @@
 /* One row, 3; one lookup on the bus "mem" with the tuple (3), multiplicity 1; alpha 5, beta 0; field 1. Prints the trace and the terminal.
  *
- *     rt staticlib delmatik && cc -Ibindings/c bindings/c/first.c target/staticlib/libdelmatik.a -o first && ./first
+ *     .ci/archive delmatik && cc -Ibindings/c bindings/c/first.c target/staticlib/libdelmatik.a -o first && ./first
  */
 #include <stdio.h>
 

@@ -1,5 +1,5 @@
-//! Links libdelmatik.a, and with the feature `bytes` libdelmatik_bytes.a beside it: those of target/staticlib, which `rt staticlib delmatik`
-//! and `rt staticlib delmatik_bytes` write, or those in the folder that DELMATIK_LIB names.
+//! Links libdelmatik.a, and with the feature `bytes` libdelmatik_bytes.a beside it: those of target/staticlib, which `.ci/archive delmatik`
+//! and `.ci/archive delmatik_bytes` write, or those in the folder that DELMATIK_LIB names.
 use std::env;
 
 fn main() {
