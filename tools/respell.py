@@ -43,13 +43,21 @@ def declarations(files):
     """By name: the kinds of its declarations, 'word', 'type' or 'lemma'."""
     kinds = collections.defaultdict(set)
     for path in files:
-        block = None
+        block = head = None
         for line in read(path).split("\n"):
             line = re.sub(r"(?<!\S)--.*", "", line)
             m = DECLARED.match(line)
             indent = len(line) - len(line.lstrip())
             if block is not None and line.strip() and indent <= block:
                 block = None
+            if re.match(r" *(?:(?:abbrev|unfoldable|pub) )*(?:record|data) \S", line) and "=" not in line:
+                head = indent
+            # A head may go over several lines, up to its `where`.
+            if head is not None and re.search(r"\bwhere\s*$", line):
+                block, head = head, None
+                if m:
+                    kinds[m[3]].add("type")
+                continue
             if m:
                 words = m[2].split()
                 if "data" in words or "record" in words:

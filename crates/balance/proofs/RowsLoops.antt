@@ -95,17 +95,17 @@ pub record AddTuplesLoop (p : ℕ) (seed : Seed) (starts : LookupStarts) (parts 
   pub long : length workspace ≡ length workspace₀
 
 module _ {p : ℕ} {seed : Seed} {starts : LookupStarts} {parts : PartLists} {vals : List ℕ} where
-  pub add-tuples_loop_begins : {heads workspace : List ℕ} {u : LinkedUse} → StartsWithin starts parts → ChainsLinked seed heads workspace u → starts.count < 18446744073709551615 → AddTuplesLoop p seed starts parts vals heads workspace (plain_work workspace u) 0 starts.elements heads workspace u
+  pub add_tuples_loop_begins : {heads workspace : List ℕ} {u : LinkedUse} → StartsWithin starts parts → ChainsLinked seed heads workspace u → starts.count < 18446744073709551615 → AddTuplesLoop p seed starts parts vals heads workspace (plain_work workspace u) 0 starts.elements heads workspace u
   unfolding fold joined
-  add-tuples_loop_begins r h f =
+  add_tuples_loop_begins r h f =
       record { is = refl; here = r.first ∙ ap (element_start parts.tuples) (sym (add-zero starts.tuples)); within = zero-le; few = f; ready = h; wide = refl; long = refl }
 
-  pub add-tuples_loop_turn : {h₀ workspace₀ heads heads' workspace workspace' : List ℕ} {w : Work} {k at n c : ℕ} {v v' : LinkedUse} → AddTuplesLoop p seed starts parts vals h₀ workspace₀ w k at heads workspace v → k < starts.count
+  pub add_tuples_loop_turn : {h₀ workspace₀ heads heads' workspace workspace' : List ℕ} {w : Work} {k at n c : ℕ} {v v' : LinkedUse} → AddTuplesLoop p seed starts parts vals h₀ workspace₀ w k at heads workspace v → k < starts.count
       → n ≡ word parts.tuples (starts.tuples + k) → c ≡ count_from p starts parts.multiplicities parts.flags vals k
       → (plain_work workspace' v' ≡ step p (plain_work workspace v) (record { tuple = map (word vals) (take ((at + n) - at) (drop at parts.elements)); count = c })) × ChainsLinked seed heads' workspace' v'
       → length heads' ≡ length heads → length workspace' ≡ length workspace → AddTuplesLoop p seed starts parts vals h₀ workspace₀ w (k + 1) (at + n) heads' workspace' v'
   unfolding nodes_from
-  add-tuples_loop_turn {h₀} {workspace₀} {heads} {heads'} {workspace} {workspace'} {w} {k} {at} {n} {c} {v} {v'} r h en ec (e, y) eh el =
+  add_tuples_loop_turn {h₀} {workspace₀} {heads} {heads'} {workspace} {workspace'} {w} {k} {at} {n} {c} {v} {v'} r h en ec (e, y) eh el =
       let z : (at + n) - at ≡ n = omega arith in
       let q : plain_work workspace' v' ≡ step p (plain_work workspace v) (entry_from p starts parts vals k) =
       e ∙ ap₂ (λ (t : List ℕ) (x : ℕ). step p (plain_work workspace v) (record { tuple = map (word vals) t; count = x }))
@@ -123,10 +123,10 @@ module _ {p : ℕ} {seed : Seed} {starts : LookupStarts} {parts : PartLists} {va
         long = el ∙ r.long;
       }
 
-  pub add-tuples_loop_ends : {h₀ workspace₀ heads workspace : List ℕ} {w : Work} {k at : ℕ} {v : LinkedUse} → AddTuplesLoop p seed starts parts vals h₀ workspace₀ w k at heads workspace v → starts.count ≤ k
+  pub add_tuples_loop_ends : {h₀ workspace₀ heads workspace : List ℕ} {w : Work} {k at : ℕ} {v : LinkedUse} → AddTuplesLoop p seed starts parts vals h₀ workspace₀ w k at heads workspace v → starts.count ≤ k
       → (plain_work workspace v ≡ fold (step p) w (entries_from p starts parts vals)) × ChainsLinked seed heads workspace v
   unfolding entries_from
-  add-tuples_loop_ends {h₀} {workspace₀} {heads} {workspace} {w} {k} r h =
+  add_tuples_loop_ends {h₀} {workspace₀} {heads} {workspace} {w} {k} r h =
       let e : k ≡ starts.count = omega (arith, r.within) in
       (r.is ∙ ap (λ (n : ℕ). fold (step p) w (joined (λ k. entry_from p starts parts vals k ∷ []) 0 n)) e, r.ready)
 
@@ -186,11 +186,11 @@ unlinked {seed} {heads} {hs} {d} {workspace} {vs} {b} {l} {v} p u es s (q, r) eb
     ap (λ (x : List ℕ). work x (record { used = v.used; full = v.full })) eb ∙ q ∙ ap (λ (x : List ℕ). fold (step p) (work x u) es) s.same
 
 -- the starts of a lookup
-pub lookup-starts_is : {x : Bool} {n t m f e c : ℕ} (lookups tuples : List ℕ) (i : ℕ) → t ≡ tuple_start lookups i → m ≡ multiplicity_start lookups i → f ≡ flag_start lookups i
+pub lookup_starts_is : {x : Bool} {n t m f e c : ℕ} (lookups tuples : List ℕ) (i : ℕ) → t ≡ tuple_start lookups i → m ≡ multiplicity_start lookups i → f ≡ flag_start lookups i
     → e ≡ element_start tuples t → x ≡ exclusive lookups i → c ≡ tuple_count lookups i → n ≡ c
     → record { exclusive = x; count = n; tuples = t; multiplicities = m; flags = f; elements = e } ≡ lookup_starts_at lookups tuples i
 unfolding lookup_starts_at
-lookup-starts_is {x} {n} {t} {m} {f} {e} {c} lookups tuples i et em ef ee ex ec en = rw (ex, en ∙ ec, ee, et, em, ef)
+lookup_starts_is {x} {n} {t} {m} {f} {e} {c} lookups tuples i et em ef ee ex ec en = rw (ex, en ∙ ec, ee, et, em, ef)
 
 -- one tuple is added
 pub tuple-entered : {seed : Seed} {t heads workspace : List ℕ} {u : LinkedUse} (p : ℕ) (v : Work) (count : ℕ) (vals nodes : List ℕ) → t ≡ map (word vals) nodes ++ replicate (8 - length nodes) 0

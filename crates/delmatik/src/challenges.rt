@@ -9,8 +9,7 @@ use expression::choices::Choices;
 use lookup_challenges::challenges::new;
 
 // `Challenges::new`: so many prefixes into the front of `out`, four words each.
-#[unsafe(no_mangle)]
-pub extern "C" fn delmatik_prefixes(
+pub fn delmatik_prefixes(
     field: u32,
     profile: u32,
     alpha: &[u32],

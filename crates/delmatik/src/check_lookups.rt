@@ -13,8 +13,7 @@ use expression::choices::Choices;
 // preprocessed width, preprocessed height, then how many main words, preprocessed words, public values, nodes, lookups, bytes of names,
 // tuples, multiplicities, flags and elements it has. The seed is any number, drawn where traces come from others: it changes the time and
 // never the answer, so that `check_at` takes none. The workspace then holds the slots of the last group visited.
-#[unsafe(no_mangle)]
-pub extern "C" fn delmatik_balance(
+pub fn delmatik_balance(
     field: u32,
     profile: u32,
     main: &[u32],

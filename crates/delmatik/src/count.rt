@@ -11,8 +11,7 @@ use expression::choices::Choices;
 use lookup_count::count::{Count, bounded, from_i32, negated, provided};
 
 // `Count` from a number: a constant is added as node `used`. A refusal leaves count and nodes as they were.
-#[unsafe(no_mangle)]
-pub extern "C" fn delmatik_count_from_i32(
+pub fn delmatik_count_from_i32(
     field: u32,
     profile: u32,
     nodes: &mut [u32],
@@ -30,8 +29,7 @@ pub extern "C" fn delmatik_count_from_i32(
 }
 
 // The count with the other sign: a negation is added as node `used`. A refusal leaves count and nodes as they were.
-#[unsafe(no_mangle)]
-pub extern "C" fn delmatik_count_negated(
+pub fn delmatik_count_negated(
     field: u32,
     profile: u32,
     nodes: &mut [u32],
@@ -55,16 +53,14 @@ pub extern "C" fn delmatik_count_negated(
 }
 
 // A count that the table's constraints keep within a bound.
-#[unsafe(no_mangle)]
-pub extern "C" fn delmatik_count_bounded(node: u32, weight: u32, count: &mut [u32; 2])
+pub fn delmatik_count_bounded(node: u32, weight: u32, count: &mut [u32; 2])
     ensures { count.new ≡ count_words (count_of node weight) }
 {
     write_count(bounded(node, weight), count);
 }
 
 // A provided entry, which the height bound leaves out.
-#[unsafe(no_mangle)]
-pub extern "C" fn delmatik_count_provided(node: u32, count: &mut [u32; 2])
+pub fn delmatik_count_provided(node: u32, count: &mut [u32; 2])
     ensures { count.new ≡ count_words (count_of node 0) }
 {
     write_count(provided(node), count);

@@ -5,16 +5,14 @@ ghost use Rattle.delmatik_answers.specs.Element.{exported_power, exported_invers
 use delmatik_answers::element::{inverse, power};
 
 // a to the power n.
-#[unsafe(no_mangle)]
-pub extern "C" fn delmatik_power(field: u32, a: &[u32], n: u32, out: &mut [u32]) -> u32
+pub fn delmatik_power(field: u32, a: &[u32], n: u32, out: &mut [u32]) -> u32
     ensures { record { number = result; out = out.new } ≡ exported_power field a.now n out.old }
 {
     power(field, a, n, out)
 }
 
 // 1 ÷ a, and 0 where a is 0.
-#[unsafe(no_mangle)]
-pub extern "C" fn delmatik_inverse(field: u32, a: &[u32], out: &mut [u32]) -> u32
+pub fn delmatik_inverse(field: u32, a: &[u32], out: &mut [u32]) -> u32
     ensures { record { number = result; out = out.new } ≡ exported_inverse field a.now out.old }
 {
     inverse(field, a, out)

@@ -16,8 +16,7 @@ use logup_constraints::eval_all::eval_all;
 
 // `eval_all`: the number of the refusal is returned, 0 where every constraint is zero on every row; its details are written. The terminal
 // is a mark, 0 where it is absent, and its four words.
-#[unsafe(no_mangle)]
-pub extern "C" fn delmatik_constraints(
+pub fn delmatik_constraints(
     field: u32,
     profile: u32,
     rule: u32,

@@ -16,8 +16,7 @@ use lookup_builder::builder::from_interactions;
 // `from_interactions` of one table: the lookups' words into the front of a lent list, and how many are used. `interactions` has two words for
 // each, locals first, then globals, then exclusives: the length of its name and the number of its tuples. A refusal leaves the list and this
 // number as they were.
-#[unsafe(no_mangle)]
-pub extern "C" fn delmatik_build(
+pub fn delmatik_build(
     field: u32,
     profile: u32,
     main_width: usize,

@@ -18,8 +18,7 @@ use logup_generation::generate_permutation::{generate, row};
 
 // `generate_permutation`: the number of the refusal is returned, 0 where there is none; its details, the terminal and the trace are written.
 // Refusals 1 to 12 leave terminal and trace as they were; after 13 to 15 the terminal is five zeros.
-#[unsafe(no_mangle)]
-pub extern "C" fn delmatik_generate(
+pub fn delmatik_generate(
     field: u32,
     profile: u32,
     rule: u32,
@@ -77,8 +76,7 @@ pub extern "C" fn delmatik_generate(
 }
 
 // Row r of a trace of so many lookups and rows, as a part of it: where it begins, and how many words it has; 0 and 0 where it is empty.
-#[unsafe(no_mangle)]
-pub extern "C" fn delmatik_row(
+pub fn delmatik_row(
     trace: &[u32],
     lookups: usize,
     height: usize,

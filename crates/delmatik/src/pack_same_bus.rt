@@ -14,8 +14,7 @@ use packing_entry::pack_same_bus::pack_same_bus;
 
 // `pack_same_bus` of one table: its columns into the front of six lent lists, each as long as the table's own at least, and how much of each is
 // used. A refusal leaves the lists and these numbers as they were.
-#[unsafe(no_mangle)]
-pub extern "C" fn delmatik_pack(
+pub fn delmatik_pack(
     field: u32,
     profile: u32,
     limit: u64,

@@ -10,8 +10,7 @@ use expression::choices::Choices;
 use lookup_protocol::protocol::{check_multiplicity_height_bound, verify_terminal_sum};
 
 // `verify_terminal_sum`: five words for each terminal, a mark (0 where it is absent) and its four words.
-#[unsafe(no_mangle)]
-pub extern "C" fn delmatik_terminals(
+pub fn delmatik_terminals(
     field: u32,
     profile: u32,
     terminals: &[u32],
@@ -24,8 +23,7 @@ pub extern "C" fn delmatik_terminals(
 }
 
 // The height bound: the lookups of all tables, and for each table how many it has and its height.
-#[unsafe(no_mangle)]
-pub extern "C" fn delmatik_height_bound(
+pub fn delmatik_height_bound(
     field: u32,
     profile: u32,
     lookups: &[u32],

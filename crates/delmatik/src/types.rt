@@ -15,8 +15,7 @@ use lookup_buses::check_bus_widths::check_bus_widths;
 use lookup_degree::constraint_degree::constraint_degree;
 
 // `constraint_degree_with_transition` of one lookup of a table. A refusal leaves the lent degree as it was.
-#[unsafe(no_mangle)]
-pub extern "C" fn delmatik_degree(
+pub fn delmatik_degree(
     field: u32,
     profile: u32,
     main_width: usize,
@@ -62,8 +61,7 @@ pub extern "C" fn delmatik_degree(
 
 // `check_bus_widths` of several tables: the widest bus tuple. `sizes` has for each table how many lookups, bytes of names and tuples it has.
 // A refusal leaves the lent width as it was.
-#[unsafe(no_mangle)]
-pub extern "C" fn delmatik_widths(
+pub fn delmatik_widths(
     field: u32,
     profile: u32,
     lookups: &[u32],

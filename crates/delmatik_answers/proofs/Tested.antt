@@ -1,12 +1,12 @@
 -- What a passed test says of the field and of an element's words.
 use mathlib.Core.Path.{◌≡◌, refl, sym, ap, ◌∙◌, subst}
-use mathlib.Core.Bool.{Bool, true, false, not, cond, ◌&&◌, false≢true}
+use mathlib.Core.Bool.{Bool, true, false, cond, ◌&&◌, false≢true}
 use mathlib.Core.List.{List}
 use Prim.Native.Nat.{ℕ, zero, suc, ◌<◌}
 use native.Mathlib.Omega.{arith}
 use lib.Dec.{eqb, ltb}
 use lib.ListN.{length}
-use borrow.Author.Tests.{eqb-true, ltb-true, not-true, not-false}
+use borrow.Author.Tests.{eqb-true, ltb-true}
 use Rattle.lists.specs.laws.Tests.{both_left, both_right}
 use Rattle.field.specs.Element.{at, Word4, element}
 use Rattle.field.specs.Modulus.{Certificate}
@@ -18,18 +18,18 @@ use Rattle.delmatik_answers.specs.Element.{four_below, element_number, element_a
 
 -- the test: the field's number and the sizes first
 module _ (field : ℕ) (a : List ℕ) (room : ℕ) where
-  pub refused : {k : Bool} → k ≡ known_field field → not (k && eqb (length a) 4 && eqb room 4) ≡ true → 1 ≡ element_number field a room
+  pub refused : {k : Bool} → k ≡ known_field field → (k && eqb (length a) 4 && eqb room 4) ≡ false → 1 ≡ element_number field a room
   unfolding element_number
-  refused {k} e t = rw (← e, not-true (k && eqb (length a) 4 && eqb room 4) t)
+  refused {k} e t = rw (← e, t)
 
-  pub four-words : {k : Bool} → k ≡ known_field field → not (k && eqb (length a) 4 && eqb room 4) ≡ false → length a ≡ 4
+  pub four-words : {k : Bool} → k ≡ known_field field → (k && eqb (length a) 4 && eqb room 4) ≡ true → length a ≡ 4
   four-words {k} e t =
-      eqb-true (length a) 4 (both_right k (eqb (length a) 4) (both_left (k && eqb (length a) 4) (eqb room 4) (not-false (k && eqb (length a) 4 && eqb room 4) t)))
+      eqb-true (length a) 4 (both_right k (eqb (length a) 4) (both_left (k && eqb (length a) 4) (eqb room 4) t))
 
-  pub compared : {k b : Bool} {p : ℕ} → k ≡ known_field field → not (k && eqb (length a) 4 && eqb room 4) ≡ false → p ≡ prime_of field → b ≡ four_below p a
+  pub compared : {k b : Bool} {p : ℕ} → k ≡ known_field field → (k && eqb (length a) 4 && eqb room 4) ≡ true → p ≡ prime_of field → b ≡ four_below p a
       → cond b 0 2 ≡ element_number field a room
   unfolding element_number
-  compared {k} e t g h = rw (← e, not-false (k && eqb (length a) 4 && eqb room 4) t, ← g, ← h)
+  compared {k} e t g h = rw (← e, t, ← g, ← h)
 
 -- four words below the field's prime, and room for four
 pub record Tested (field : ℕ) (a : List ℕ) (room : ℕ) : Type 0 where

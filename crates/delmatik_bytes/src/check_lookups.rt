@@ -56,8 +56,7 @@ fn check_in(
 }
 
 // `delmatik_balance` on bytes: the workspace is bytes too, and the seed a number. The number of the refusal is returned, 0 where there is none; its details are written.
-#[unsafe(no_mangle)]
-pub extern "C" fn delmatik_balance_bytes(
+pub fn delmatik_balance_bytes(
     field: u32,
     profile: u32,
     main: &[u8],

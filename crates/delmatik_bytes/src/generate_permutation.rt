@@ -74,8 +74,7 @@ fn generate_in(
 // `delmatik_generate` on bytes: the trace buffer is bytes too. The number of the refusal is returned, 0 where there is none; its details and the
 // terminal are written. Refusals 1 to 12 leave terminal and trace as they were. The rooms are working memory, and hold the words of their lists also
 // where generation is refused.
-#[unsafe(no_mangle)]
-pub extern "C" fn delmatik_generate_bytes(
+pub fn delmatik_generate_bytes(
     field: u32,
     profile: u32,
     rule: u32,

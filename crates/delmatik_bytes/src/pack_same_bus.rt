@@ -292,8 +292,7 @@ fn tell_packed(a: PackingAnswer, used: &mut [u64; 6], details: &mut [u64; 3]) ->
 // `delmatik_pack` on bytes. The number of the refusal is returned, 0 where there is none; its details are written, and in `used` how many words, or
 // bytes of names, of each list are used. A refusal leaves the lists and these numbers as they were. The rooms are working memory, and hold the words
 // of their lists also where packing is refused.
-#[unsafe(no_mangle)]
-pub extern "C" fn delmatik_pack_bytes(
+pub fn delmatik_pack_bytes(
     field: u32,
     profile: u32,
     limit: u64,

@@ -1,5 +1,5 @@
 -- Sums, tests and lists over the numbers 0, .., n - 1.
-use Rattle.std.specs.Prelude.{ℕ, zero, suc, ◌+◌, Bool, true, false, cond, ◌&&◌, ◌||◌, List, [], ◌∷◌, ◌++◌}
+use Rattle.std.specs.Prelude.{ℕ, zero, suc, ◌+◌, Bool, true, false, ◌&&◌, ◌||◌, List, [], ◌++◌}
 use Rattle.std.proofs.Math.Option.{Option, none, some}
 
 -- f 0 + .. + f (n - 1)

@@ -1,5 +1,5 @@
 -- A lookup on one row: its fraction, and refusals 13 to 15. SPECIFICATION, section 4.3.
-use Rattle.std.specs.Prelude.{ℕ, zero, suc, Bool, cond, List, eqb, ltb}
+use Rattle.std.specs.Prelude.{ℕ, zero, suc, cond, List, eqb, ltb}
 use Rattle.std.proofs.Math.Option.{Option, none, some}
 use Rattle.lists.specs.Count.{total, some_of}
 use Rattle.field.specs.Element.{zero4, one4, is_zero, sum4}

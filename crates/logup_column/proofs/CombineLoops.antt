@@ -30,14 +30,14 @@ pub record CombineLoop (p w : ℕ) (ps : List (List ℕ)) (vals nodes : List ℕ
   pub small : k ≤ 8
   pub size : k ≡ length nodes
   pub within : j ≤ k
-  pub first-four : j ≤ 4 → Room (4 - j) sum
-  pub last-four : 4 < j → Room (8 - j) sum
+  pub first_four : j ≤ 4 → Room (4 - j) sum
+  pub last_four : 4 < j → Room (8 - j) sum
   pub sum≡ : residues p sum ≡ sum4 p (term p w (beta_of ps) (map (word vals) nodes)) j
 
 pub combine_loop_begins : {p w : ℕ} {ps : List (List ℕ)} {vals nodes : List ℕ} {k : ℕ} {sum : Sum} → Powers p w ps → k ≤ 8 → k ≡ length nodes → Room 4 sum × (residues p sum ≡ zero4)
     → CombineLoop p w ps vals nodes k 0 sum
 unfolding sum4
-combine_loop_begins pw sm l (r, e) = record { powers = pw; small = sm; size = l; within = zero-le; first-four = λ _. r; last-four = λ h. absurd (omega arith); sum≡ = e }
+combine_loop_begins pw sm l (r, e) = record { powers = pw; small = sm; size = l; within = zero-le; first_four = λ _. r; last_four = λ h. absurd (omega arith); sum≡ = e }
 
 map-length : (f : ℕ → ℕ) (l : List ℕ) → length (map f l) ≡ length l
 map-length f [] = refl
@@ -64,7 +64,7 @@ unready p sum h l = (λ e. absurd (omega arith), λ n r. r, refl)
 module _ {p w : ℕ} {ps : List (List ℕ)} {vals nodes : List ℕ} {k j : ℕ} {sum held : Sum} (s : CombineLoop p w ps vals nodes k j sum) (h : j < k) (q : Ready p j sum held) where
   low : j < 4 → Room (1 + (3 - j)) held
   low l =
-      let e : 4 - j ≡ 1 + (3 - j) = omega arith in q.1 (1 + (3 - j)) (subst (λ (n : ℕ). Room n sum) e (s.first-four (omega arith)))
+      let e : 4 - j ≡ 1 + (3 - j) = omega arith in q.1 (1 + (3 - j)) (subst (λ (n : ℕ). Room n sum) e (s.first_four (omega arith)))
 
   high : 4 ≤ j → Room (1 + (7 - j)) held
   high l = go (eq-or-lt_of_le l)
@@ -73,7 +73,7 @@ module _ {p w : ℕ} {ps : List (List ℕ)} {vals nodes : List ℕ} {k j : ℕ} 
       go (inl e) = let n : 4 ≡ 1 + (7 - j) = omega arith in subst (λ (n : ℕ). Room n held) n (q.0 (sym e))
       go (inr g) =
           let e : 8 - j ≡ 1 + (7 - j) = omega (arith, s.small) in
-          q.1 (1 + (7 - j)) (subst (λ (n : ℕ). Room n sum) e (s.last-four g))
+          q.1 (1 + (7 - j)) (subst (λ (n : ℕ). Room n sum) e (s.last_four g))
 
   pub one-fits : Room 1 held
   one-fits = go (lt_or_le j 4)
@@ -95,8 +95,8 @@ combine_loop_turn {p} {w} {ps} {vals} {nodes} {k} {j} {v} {sum} {held} {next} {m
       small = s.small;
       size = s.size;
       within = omega arith;
-      first-four = λ l. let n : 3 - j ≡ 4 - (j + 1) = omega arith in subst (λ (n : ℕ). Room n next) n (r (3 - j) (low s h q (omega arith)));
-      last-four = λ l. let n : 7 - j ≡ 8 - (j + 1) = omega arith in subst (λ (n : ℕ). Room n next) n (r (7 - j) (high s h q (omega arith)));
+      first_four = λ l. let n : 3 - j ≡ 4 - (j + 1) = omega arith in subst (λ (n : ℕ). Room n next) n (r (3 - j) (low s h q (omega arith)));
+      last_four = λ l. let n : 7 - j ≡ 8 - (j + 1) = omega arith in subst (λ (n : ℕ). Room n next) n (r (7 - j) (high s h q (omega arith)));
       sum≡ = rw (add-one j) (e ∙ ap₂ (add4 p) (q.2 ∙ s.sum≡) (ap₂ (scale4 p) value (em ∙ power)));
     }
   where

@@ -1,10 +1,9 @@
 -- The verdict, from the tests and from the rows.
 use mathlib.Core.Path.{◌≡◌, sym, ap₂, ◌∙◌}
-use mathlib.Core.Bool.{Bool, true, false, not, ◌&&◌}
+use mathlib.Core.Bool.{Bool, true, false, ◌&&◌}
 use mathlib.Core.Option.{Option, none, some}
 use mathlib.Core.List.{List}
 use Prim.Native.Nat.{ℕ}
-use borrow.Author.Tests.{not-true, not-false}
 use Rattle.field.specs.Known.{prime_of, w_of}
 use Rattle.expression.specs.Choices.{known, known_rule, limits_of}
 use Rattle.expression.specs.declared.choices.Choices.{Choices}
@@ -40,10 +39,10 @@ module _ (rule : ℕ) (m : Limits) (p w : ℕ) (t : Table) (cs : List ℕ) (widt
 
 -- `eval_all`
 module _ (c : Choices) (rule : ℕ) (t : Table) (cs : List ℕ) (width : ℕ) (words : List ℕ) (o : Option (List ℕ)) {k r : Bool} (ek : k ≡ known c) (er : r ≡ known_rule rule) where
-  pub choice_unknown : not (k && r) ≡ true → some SizeAtOdds ≡ verdict_at c rule t cs width words o
-  choice_unknown z = sym (verdict_unknown c rule t cs width words o (sym (ap₂ ◌&&◌ ek er) ∙ not-true (k && r) z))
+  pub choice_unknown : (k && r) ≡ false → some SizeAtOdds ≡ verdict_at c rule t cs width words o
+  choice_unknown z = sym (verdict_unknown c rule t cs width words o (sym (ap₂ ◌&&◌ ek er) ∙ z))
 
-  pub choices_known : {m : Limits} {p w : ℕ} {v : Option Refusal} → not (k && r) ≡ false → m ≡ limits_of c.profile → p ≡ prime_of c.field → w ≡ w_of c.field
+  pub choices_known : {m : Limits} {p w : ℕ} {v : Option Refusal} → (k && r) ≡ true → m ≡ limits_of c.profile → p ≡ prime_of c.field → w ≡ w_of c.field
       → v ≡ verdict m p w (table_under rule t) cs width words o → v ≡ verdict_at c rule t cs width words o
   unfolding verdict_at
-  choices_known z em ep ew h = rw (sym (ap₂ ◌&&◌ ek er) ∙ not-false (k && r) z, ← em, ← ep, ← ew) h
+  choices_known z em ep ew h = rw (sym (ap₂ ◌&&◌ ek er) ∙ z, ← em, ← ep, ← ew) h

@@ -8,7 +8,7 @@ use native.Mathlib.Nat.{mul-zero, mul-div_cancel, mul-mod_left, div-add-mod'}
 use native.Mathlib.Omega.{arith}
 use lib.Dec.{eqb, leb}
 use lib.ListN.{length}
-use borrow.Author.Tests.{eqb-true, leb-true, not-true, not-false}
+use borrow.Author.Tests.{eqb-true, leb-true}
 use Rattle.lists.specs.laws.Count as Count
 use Rattle.lists.specs.laws.Tests.{both_left, both_right, passed}
 use Rattle.field.specs.Element.{Word4}
@@ -53,7 +53,7 @@ fits_is h w n pos = same_tests (eqb (n % 4) 0 && eqb (n / 4 % h) 0 && eqb (n / 4
         let whole : n / 4 % h ≡ 0 = eqb-true (n / 4 % h) 0 k.1.0 in
         let wide : n / 4 / h ≡ w = eqb-true (n / 4 / h) w k.1.1.0 in
         let e : n ≡ w * h * 4 = omega (arith, four, whole, ap (λ (x : ℕ). x * h) wide, div-add-mod' (n / 4) h) in
-        Count.eqb-true e
+        Count.eqb_true e
 
     back : eqb n (w * h * 4) ≡ true → (eqb (n % 4) 0 && eqb (n / 4 % h) 0 && eqb (n / 4 / h) w) ≡ true
     back t =
@@ -62,7 +62,7 @@ fits_is h w n pos = same_tests (eqb (n % 4) 0 && eqb (n / 4 % h) 0 && eqb (n / 4
         let q : n / 4 ≡ w * h = omega (arith, e) in
         let whole : n / 4 % h ≡ 0 = ap (λ (x : ℕ). x % h) q ∙ mul-mod_left w h in
         let wide : n / 4 / h ≡ w = ap (λ (x : ℕ). x / h) q ∙ mul-div_cancel w pos in
-        ap₂ ◌&&◌ (ap₂ ◌&&◌ (Count.eqb-true four) (Count.eqb-true whole)) (Count.eqb-true wide)
+        ap₂ ◌&&◌ (ap₂ ◌&&◌ (Count.eqb_true four) (Count.eqb_true whole)) (Count.eqb_true wide)
 
 -- the two runs of tests are the definition's
 pub entry_is : (m : Limits) (p w : ℕ) (t : Table) (cs : List ℕ) (width : ℕ) (words : List ℕ) (o : Option (List ℕ))
@@ -99,35 +99,35 @@ module _ (s : Shape) (lookups : List ℕ) (k width : ℕ) (present : Bool) where
   after8 = unless G RowsMissing after9
 
   module _ {h : Bool} (eh : h ≡ has_lookups lookups) where
-    pub trace_8 : not (F h) ≡ true → some ChallengesMissing ≡ trace_tests s lookups k width present
+    pub trace_8 : F h ≡ false → some ChallengesMissing ≡ trace_tests s lookups k width present
     unfolding trace_tests
-    trace_8 x = stops (F (has_lookups lookups)) ChallengesMissing after8 (ap F (sym eh) ∙ not-true (F h) x)
+    trace_8 x = stops (F (has_lookups lookups)) ChallengesMissing after8 (ap F (sym eh) ∙ x)
 
-    module _ {r : Bool} (y8 : not (F h) ≡ false) (er : r ≡ G) where
+    module _ {r : Bool} (y8 : F h ≡ true) (er : r ≡ G) where
       eighth_passed : {o : Option Refusal} → o ≡ after8 → o ≡ trace_tests s lookups k width present
       unfolding trace_tests
-      eighth_passed q = passes (F (has_lookups lookups)) ChallengesMissing after8 (ap F (sym eh) ∙ not-false (F h) y8) q
+      eighth_passed q = passes (F (has_lookups lookups)) ChallengesMissing after8 (ap F (sym eh) ∙ y8) q
 
-      pub trace_9 : not r ≡ true → some RowsMissing ≡ trace_tests s lookups k width present
-      trace_9 x = eighth_passed (stops G RowsMissing after9 (sym er ∙ not-true r x))
+      pub trace_9 : r ≡ false → some RowsMissing ≡ trace_tests s lookups k width present
+      trace_9 x = eighth_passed (stops G RowsMissing after9 (sym er ∙ x))
 
-      module _ (y9 : not r ≡ false) where
+      module _ (y9 : r ≡ true) where
         ninth_passed : {o : Option Refusal} → o ≡ after9 → o ≡ trace_tests s lookups k width present
-        ninth_passed q = eighth_passed (passes G RowsMissing after9 (sym er ∙ not-false r y9) q)
+        ninth_passed q = eighth_passed (passes G RowsMissing after9 (sym er ∙ y9) q)
 
-        pub trace_10 : not (H h) ≡ true → some TraceTooSmall ≡ trace_tests s lookups k width present
-        trace_10 x = ninth_passed (stops (H (has_lookups lookups)) TraceTooSmall after10 (ap H (sym eh) ∙ not-true (H h) x))
+        pub trace_10 : H h ≡ false → some TraceTooSmall ≡ trace_tests s lookups k width present
+        trace_10 x = ninth_passed (stops (H (has_lookups lookups)) TraceTooSmall after10 (ap H (sym eh) ∙ x))
 
-        module _ (y10 : not (H h) ≡ false) where
+        module _ (y10 : H h ≡ true) where
           tenth_passed : {o : Option Refusal} → o ≡ after10 → o ≡ trace_tests s lookups k width present
-          tenth_passed q = ninth_passed (passes (H (has_lookups lookups)) TraceTooSmall after10 (ap H (sym eh) ∙ not-false (H h) y10) q)
+          tenth_passed q = ninth_passed (passes (H (has_lookups lookups)) TraceTooSmall after10 (ap H (sym eh) ∙ y10) q)
 
-          pub trace_11 : not ((h && present) || (not h && not present)) ≡ true → some TerminalMisplaced ≡ trace_tests s lookups k width present
-          trace_11 x = tenth_passed (stops (J (has_lookups lookups)) TerminalMisplaced none (ap J (sym eh) ∙ sym (placed_is h present) ∙ not-true ((h && present) || (not h && not present)) x))
+          pub trace_11 : ((h && present) || (not h && not present)) ≡ false → some TerminalMisplaced ≡ trace_tests s lookups k width present
+          trace_11 x = tenth_passed (stops (J (has_lookups lookups)) TerminalMisplaced none (ap J (sym eh) ∙ sym (placed_is h present) ∙ x))
 
-          pub trace_passed : not ((h && present) || (not h && not present)) ≡ false → none ≡ trace_tests s lookups k width present
+          pub trace_passed : ((h && present) || (not h && not present)) ≡ true → none ≡ trace_tests s lookups k width present
           trace_passed x =
-              tenth_passed (passes (J (has_lookups lookups)) TerminalMisplaced none (ap J (sym eh) ∙ sym (placed_is h present) ∙ not-false ((h && present) || (not h && not present)) x) refl)
+              tenth_passed (passes (J (has_lookups lookups)) TerminalMisplaced none (ap J (sym eh) ∙ sym (placed_is h present) ∙ x) refl)
 
 -- what 8 to 11 leave where there is a terminal
 pub record TraceReady (s : Shape) (lookups : List ℕ) (challenges width : ℕ) : Type 0 where

@@ -1,13 +1,12 @@
 -- The answer and the buffer after the rows, and the outcome.
 use mathlib.Core.Path.{◌≡◌, refl, sym, ap, ap₂, ◌∙◌}
-use mathlib.Core.Bool.{Bool, true, false, not, ◌&&◌}
+use mathlib.Core.Bool.{Bool, true, false, ◌&&◌}
 use mathlib.Core.Option.{Option, none, some}
 use mathlib.Core.List.{List, [], ◌++◌}
 use Prim.Native.Nat.{ℕ, ◌+◌, ◌*◌, ◌-◌, ◌≤◌, zero-le}
 use native.Mathlib.Omega.{arith}
 use lib.ListN.{length, take, drop, replicate, length-append}
 use lib.Seq.{drop_at}
-use borrow.Author.Tests.{not-true, not-false}
 use borrow.Rule.Slice.PartMut.{put_mid}
 use Rattle.lists.specs.laws.Filled.{put_mid_is}
 use Rattle.lists.specs.laws.Parts.{part_length}
@@ -135,11 +134,11 @@ rows_finished {x = x} m p w shape main preprocessed public_values nodes lookups 
 
 -- `generate`
 module _ (c : Choices) (rule : ℕ) (t : Table) (cs buffer : List ℕ) {k r : Bool} (ek : k ≡ known c) (er : r ≡ known_rule rule) where
-  pub choice_unknown : not (k && r) ≡ true → record { answer = refused SizeAtOdds; buffer = buffer } ≡ generation_at c rule t cs buffer
-  choice_unknown z = sym (generation_unknown c rule t cs buffer (sym (ap₂ ◌&&◌ ek er) ∙ not-true (k && r) z))
+  pub choice_unknown : (k && r) ≡ false → record { answer = refused SizeAtOdds; buffer = buffer } ≡ generation_at c rule t cs buffer
+  choice_unknown z = sym (generation_unknown c rule t cs buffer (sym (ap₂ ◌&&◌ ek er) ∙ z))
 
-  pub choices_known : {m : Limits} {p w : ℕ} {a : Answer} {b : List ℕ} → not (k && r) ≡ false → m ≡ limits_of c.profile → p ≡ prime_of c.field → w ≡ w_of c.field
+  pub choices_known : {m : Limits} {p w : ℕ} {a : Answer} {b : List ℕ} → (k && r) ≡ true → m ≡ limits_of c.profile → p ≡ prime_of c.field → w ≡ w_of c.field
       → (a ≡ (generation m p w (table_under rule t) cs buffer).answer) × (b ≡ (generation m p w (table_under rule t) cs buffer).buffer) → record { answer = a; buffer = b } ≡ generation_at c rule t cs buffer
   unfolding generation_at
   choices_known z em ep ew (ea, eb) =
-      (λ i. record { answer = ea i; buffer = eb i }) ∙ rw (sym (ap₂ ◌&&◌ ek er) ∙ not-false (k && r) z, em, ep, ew) refl
+      (λ i. record { answer = ea i; buffer = eb i }) ∙ rw (sym (ap₂ ◌&&◌ ek er) ∙ z, em, ep, ew) refl

@@ -8,7 +8,7 @@ use native.Mathlib.Nat.{mul-le-mul}
 use native.Mathlib.Omega.{arith}
 use lib.Dec.{eqb, leb}
 use lib.ListN.{length}
-use borrow.Author.Tests.{eqb-true, leb-true, not-true, not-false}
+use borrow.Author.Tests.{eqb-true, leb-true}
 use Rattle.expression.specs.Words.{all_below}
 use Rattle.expression.specs.Refusal.{unless}
 use Rattle.expression.specs.Limits.{Sane}
@@ -75,27 +75,27 @@ module _ (s : Shape) (lookups : List ℕ) (n room : ℕ) where
   after8 = unless G RowsMissing after9
 
   module _ {h : Bool} (eh : h ≡ has_lookups lookups) where
-    pub trace_8 : not (F h) ≡ true → some ChallengesMissing ≡ trace_tests s lookups n room
+    pub trace_8 : F h ≡ false → some ChallengesMissing ≡ trace_tests s lookups n room
     unfolding trace_tests
-    trace_8 x = stops (F (has_lookups lookups)) ChallengesMissing after8 (ap F (sym eh) ∙ not-true (F h) x)
+    trace_8 x = stops (F (has_lookups lookups)) ChallengesMissing after8 (ap F (sym eh) ∙ x)
 
-    module _ {r : Bool} (y8 : not (F h) ≡ false) (er : r ≡ G) where
+    module _ {r : Bool} (y8 : F h ≡ true) (er : r ≡ G) where
       eighth_passed : {o : Option Refusal} → o ≡ after8 → o ≡ trace_tests s lookups n room
       unfolding trace_tests
-      eighth_passed k = passes (F (has_lookups lookups)) ChallengesMissing after8 (ap F (sym eh) ∙ not-false (F h) y8) k
+      eighth_passed k = passes (F (has_lookups lookups)) ChallengesMissing after8 (ap F (sym eh) ∙ y8) k
 
-      pub trace_9 : not r ≡ true → some RowsMissing ≡ trace_tests s lookups n room
-      trace_9 x = eighth_passed (stops G RowsMissing after9 (sym er ∙ not-true r x))
+      pub trace_9 : r ≡ false → some RowsMissing ≡ trace_tests s lookups n room
+      trace_9 x = eighth_passed (stops G RowsMissing after9 (sym er ∙ x))
 
-      module _ {u : ℕ} (y9 : not r ≡ false) (eu : u ≡ used lookups s.height) where
+      module _ {u : ℕ} (y9 : r ≡ true) (eu : u ≡ used lookups s.height) where
         ninth_passed : {o : Option Refusal} → o ≡ after9 → o ≡ trace_tests s lookups n room
-        ninth_passed k = eighth_passed (passes G RowsMissing after9 (sym er ∙ not-false r y9) k)
+        ninth_passed k = eighth_passed (passes G RowsMissing after9 (sym er ∙ y9) k)
 
-        pub trace_10 : not (H h u) ≡ true → some TraceTooSmall ≡ trace_tests s lookups n room
-        trace_10 x = ninth_passed (stops (H (has_lookups lookups) (used lookups s.height)) TraceTooSmall none (ap₂ H (sym eh) (sym eu) ∙ not-true (H h u) x))
+        pub trace_10 : H h u ≡ false → some TraceTooSmall ≡ trace_tests s lookups n room
+        trace_10 x = ninth_passed (stops (H (has_lookups lookups) (used lookups s.height)) TraceTooSmall none (ap₂ H (sym eh) (sym eu) ∙ x))
 
-        pub trace_passed : not (H h u) ≡ false → none ≡ trace_tests s lookups n room
-        trace_passed x = ninth_passed (passes (H (has_lookups lookups) (used lookups s.height)) TraceTooSmall none (ap₂ H (sym eh) (sym eu) ∙ not-false (H h u) x) refl)
+        pub trace_passed : H h u ≡ true → none ≡ trace_tests s lookups n room
+        trace_passed x = ninth_passed (passes (H (has_lookups lookups) (used lookups s.height)) TraceTooSmall none (ap₂ H (sym eh) (sym eu) ∙ x) refl)
 
 -- what the rows require
 pub rows-ready : {m : Limits} {p w : ℕ} {t : Table} {cs : List ℕ} (room : ℕ) → Sane m → Field p w → Tested m p t (eqb (length cs % 4) 0) (all_below p cs) → has_lookups t.lookups.lookups ≡ true

@@ -163,11 +163,11 @@ pub record WriteRowsLoop (p : ℕ) (lookups qs : List ℕ) (size k : ℕ) (befor
   pub word4 : Word4 p (ext_words acc)
   pub acc≡ : ext_words acc ≡ running p lookups qs size (ext_words before) j
 
-pub write_rows-begins : {p : ℕ} {lookups qs : List ℕ} {size k : ℕ} {before : Ext} {wd : ℕ} {d : List ℕ} → Quotients p qs → length lookups ≡ lookup_words * lookup_count lookups
+pub write_rows_begins : {p : ℕ} {lookups qs : List ℕ} {size k : ℕ} {before : Ext} {wd : ℕ} {d : List ℕ} → Quotients p qs → length lookups ≡ lookup_words * lookup_count lookups
     → 4 * length d < 18446744073709551616 → 4 * length qs < 18446744073709551616 → k ≤ 1048576 → wd ≡ 4 * lookup_count lookups + 4 → size ≡ tuple_start lookups (lookup_count lookups) → length qs ≡ 4 * (k * size)
     → length d ≡ k * (4 * lookup_count lookups + 4) → Word4 p (ext_words before) → WriteRowsLoop p lookups qs size k before wd d d before 0 0 0
 unfolding joined running
-write_rows-begins {size = size} {k} {wd = wd} q lw c cq few ew es eq ed w =
+write_rows_begins {size = size} {k} {wd = wd} q lw c cq few ew es eq ed w =
     record {
       quotients = q;
       words = lw;
@@ -194,14 +194,14 @@ module _ {p : ℕ} {lookups qs : List ℕ} {size k : ℕ} {before : Ext} {wd : �
   pub write_rows_in : at + wd ≤ length out
   write_rows_in = omega (arith, next_times j k wd h, s.at≡, s.d_size, s.len)
 
-  pub write_rows-part : length (take (at + wd - at) (drop at out)) ≡ 4 * lookup_count lookups + 4
-  write_rows-part = part_length out at (at + wd) (omega arith) write_rows_in ∙ omega (arith, s.wide)
+  pub write_rows_part : length (take (at + wd - at) (drop at out)) ≡ 4 * lookup_count lookups + 4
+  write_rows_part = part_length out at (at + wd) (omega arith) write_rows_in ∙ omega (arith, s.wide)
 
-  pub write_rows-start : start + size ≤ k * size
-  write_rows-start = omega (arith, next_times j k size h, s.start≡)
+  pub write_rows_start : start + size ≤ k * size
+  write_rows_start = omega (arith, next_times j k size h, s.start≡)
 
-  pub write_rows-room : 4 * (start + tuple_start lookups (lookup_count lookups)) ≤ length qs
-  write_rows-room = omega (arith, write_rows-start, s.qs_size, s.size≡)
+  pub write_rows_room : 4 * (start + tuple_start lookups (lookup_count lookups)) ≤ length qs
+  write_rows_room = omega (arith, write_rows_start, s.qs_size, s.size≡)
 
   pub write_rows_turn : {sum acc' : Ext} (ys : List ℕ)
       → RowWritten p lookups qs start (ext_words acc) (ext_words sum) ys
@@ -238,9 +238,9 @@ module _ {p : ℕ} {lookups qs : List ℕ} {size k : ℕ} {before : Ext} {wd : �
           filled-part ys s.out≡ (omega arith) (omega (arith, write_rows_in, s.len)) long
           (joined-one (row_in p lookups qs size (ext_words before)) 0 j ∙ ap (λ (y : List ℕ). joined (row_in p lookups qs size (ext_words before)) 0 j ++ y) (ap (row_in p lookups qs size (ext_words before)) (zero-add j) ∙ sym is))
 
-pub write_rows-ends : {p : ℕ} {lookups qs : List ℕ} {size k : ℕ} {before : Ext} {wd : ℕ} {d out : List ℕ} {acc : Ext} {start at j : ℕ} → WriteRowsLoop p lookups qs size k before wd d out acc start at j → k ≤ j
+pub write_rows_ends : {p : ℕ} {lookups qs : List ℕ} {size k : ℕ} {before : Ext} {wd : ℕ} {d out : List ℕ} {acc : Ext} {start at j : ℕ} → WriteRowsLoop p lookups qs size k before wd d out acc start at j → k ≤ j
     → RowsWritten p lookups qs size (ext_words before) k (ext_words acc) out
-write_rows-ends {p} {lookups} {qs} {size} {k} {before} {wd} {d} {at = at} {j = j} s h =
+write_rows_ends {p} {lookups} {qs} {size} {k} {before} {wd} {d} {at = at} {j = j} s h =
     let e : j ≡ k = omega (arith, s.within) in
     let a : length d ≡ at = s.d_size ∙ ap (λ (x : ℕ). x * wd) (sym e) ∙ sym s.at≡ in
     record {

@@ -4,11 +4,11 @@ use mathlib.Core.List.{List, ◌++◌}
 use Prim.Native.Nat.{ℕ, zero, suc, ◌+◌, ◌*◌, ◌-◌, ◌/◌, ◌%◌, ◌<◌, ◌≤◌, zero-le}
 use native.Mathlib.Nat.{add-zero, zero-add, mul-le-mul_right, zero-mul, mul_comm, mul-zero, mod-lt, div-add-mod, pos_of_ne-zero}
 use native.Mathlib.Omega.{arith}
-use lib.ListN.{length, take, drop, set, replicate, replicate-append-replicate}
+use lib.ListN.{length, take, drop}
 use borrow.Rule.Slice.PartMut.{put_mid}
 use Rattle.lists.specs.Count.{first, joined}
 use Rattle.lists.specs.laws.Count.{joined-add}
-use Rattle.lists.specs.laws.Filled.{Filled, filled_none, filled-one, filled-part, filled-whole}
+use Rattle.lists.specs.laws.Filled.{Filled, filled_none, filled-part, filled-whole}
 use Rattle.lists.specs.laws.Parts.{part_length}
 use Rattle.field.specs.Element.{sum4}
 use Rattle.expression.specs.declared.refusal.Verdict.TheVariants.{Accepted}

@@ -30,7 +30,6 @@ use Rattle.packing_columns.specs.inner.Columns.{plan_source, columns_of, ordered
 use Rattle.packing_columns.specs.inner.ColumnsRequires.{PlanInputs, Planned}
 use Rattle.packing_columns.specs.declared.columns.OpenColumn.{OpenColumn}
 use Rattle.packing_columns.specs.declared.columns.Plan.{Plan}
-use Rattle.packing.specs.PackSameBus.{columns}
 use Rattle.packing_columns.specs.inner.Layout.{front, list_totals, plan_counts, Layout}
 use Rattle.packing_columns.specs.laws.Planned.{heads-long}
 use Rattle.packing_columns.specs.laws.Laid.{Laid, laid}

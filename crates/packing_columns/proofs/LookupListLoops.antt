@@ -1,8 +1,7 @@
 -- The turns of the loops that copy words and parts.
-use mathlib.Core.Path.{◌≡◌, refl, sym, ap, ap₂, ◌∙◌}
-use mathlib.Core.List.{List, [], ◌∷◌, ◌++◌, append-nil, append_assoc, flat_map}
-use Prim.Native.Nat.{ℕ, zero, suc, ◌+◌, ◌*◌, ◌-◌, ◌<◌, ◌≤◌, zero-le}
-use native.Mathlib.Numerals.{add-one}
+use mathlib.Core.Path.{◌≡◌, sym, ap, ap₂, ◌∙◌}
+use mathlib.Core.List.{List, [], ◌∷◌, ◌++◌, append-nil, flat_map}
+use Prim.Native.Nat.{ℕ, ◌+◌, ◌-◌, ◌<◌, ◌≤◌, zero-le}
 use native.Mathlib.Omega.{arith}
 use lib.ListN.{length, take, drop, get_or, set, length-append, length-take, length-drop, drop_of_length-le}
 use lib.Seq.{take_all}
@@ -12,7 +11,7 @@ use Rattle.lists.specs.laws.Filled.{Filled, filled_none, filled-one, filled-part
 use Rattle.lists.specs.laws.Tab.{flat_append}
 use Rattle.expression.specs.Words.{word}
 use Rattle.lookup.specs.Lookups.{lookup_count}
-use Rattle.packing_columns.specs.inner.LookupLists.{list_start, list_length, list_part, list_parts}
+use Rattle.packing_columns.specs.inner.LookupLists.{list_start, list_length, list_part}
 use Rattle.packing_columns.specs.inner.LookupListsRequires.{LookupNumbers}
 use Rattle.packing_columns.specs.laws.Starts.{start-le}
 use Rattle.packing_columns.specs.declared.lookup_lists.LookupList.{LookupList}

@@ -27,8 +27,8 @@ module _ (F : Field) (N : Entries F) where
   -- so many different betas, each with n different alphas, and every pair accepted by both tables
   pub record FullSet (w n : ℕ) (E₁ E₂ : List Entry) (set : List (Pairing F.ring.El)) : Type 0 where
     pub betas : Distinct (map (λ (r : Pairing F.ring.El). r.beta) set)
-    pub betas-many : length set ≡ 1 + (w - 1) * n * (n - 1) / 2
+    pub betas_many : length set ≡ 1 + (w - 1) * n * (n - 1) / 2
     pub alphas : (r : Pairing F.ring.El) → Memᴰ r set → Distinct r.alphas
-    pub alphas-many : (r : Pairing F.ring.El) → Memᴰ r set → length r.alphas ≡ n
+    pub alphas_many : (r : Pairing F.ring.El) → Memᴰ r set → length r.alphas ≡ n
     pub accepted : (r : Pairing F.ring.El) → Memᴰ r set → (alpha : F.ring.El) → Memᴰ alpha r.alphas
         → Accepts F N alpha r.beta E₁ × Accepts F N alpha r.beta E₂

@@ -12,8 +12,8 @@ use Rattle.theorems_soundness.specs.Soundness.{Comparable, SameLedger, Buffers, 
 
 -- a pair of extension elements
 pub record Challenges (p : ℕ) (c : Pair (List ℕ)) : Type 0 where
-  pub alpha-element : Element p c.alpha
-  pub beta-element : Element p c.beta
+  pub alpha_element : Element p c.alpha
+  pub beta_element : Element p c.beta
 
 -- a pair at which generation accepts both tables and the terminals agree
 pub record Passes (p : ℕ) (g : Generation) (t₁ t₂ : Table) (buffers₁ buffers₂ : Buffers) (c : Pair (List ℕ)) : Type 0 where

@@ -58,11 +58,11 @@ AgreeAt g t₁ t₂ buffers₁ buffers₂ alpha beta =
 -- alphas of its own. With n = 0 the set has no pair."
 pub record FullSet (p width n : ℕ) (set : List (Pairing (List ℕ))) : Type 0 where
   pub betas : Distinct (map (λ (r : Pairing (List ℕ)). r.beta) set)
-  pub betas-many : length set ≡ 1 + (width - 1) * n * (n - 1) / 2
-  pub beta-element : (r : Pairing (List ℕ)) → Memᴰ r set → Element p r.beta
+  pub betas_many : length set ≡ 1 + (width - 1) * n * (n - 1) / 2
+  pub beta_element : (r : Pairing (List ℕ)) → Memᴰ r set → Element p r.beta
   pub alphas : (r : Pairing (List ℕ)) → Memᴰ r set → Distinct r.alphas
-  pub alphas-many : (r : Pairing (List ℕ)) → Memᴰ r set → length r.alphas ≡ n
-  pub alpha-element : (r : Pairing (List ℕ)) → Memᴰ r set → (a : List ℕ) → Memᴰ a r.alphas → Element p a
+  pub alphas_many : (r : Pairing (List ℕ)) → Memᴰ r set → length r.alphas ≡ n
+  pub alpha_element : (r : Pairing (List ℕ)) → Memᴰ r set → (a : List ℕ) → Memᴰ a r.alphas → Element p a
 
 -- what holds of each pair of a set: of each beta with each of its alphas
 abbrev pub AtEachPair : List (Pairing (List ℕ)) → (List ℕ → List ℕ → Type 0) → Type 0

@@ -1,8 +1,8 @@
 -- A quadratic extension of a field by a square root that the field lacks is a field.
-use Rattle.std.specs.Prelude.{◌≡◌, refl, ◌≢◌, List, [], ◌∷◌}
-use Rattle.std.proofs.Common.{sym, ap, ap₂, ◌∙◌, subst}
-use Rattle.algebra.specs.Ring.{CRing, Ops, ops, quad}
-use Rattle.algebra.specs.laws.Solve.{E, O, I, X, ◌⊕◌, ◌⊗◌, ⊝◌, solve, z_mul, mul_z, u_mul}
+use Rattle.std.specs.Prelude.{◌≡◌, ◌≢◌, [], ◌∷◌}
+use Rattle.std.proofs.Common.{sym, ap, ap₂, ◌∙◌}
+use Rattle.algebra.specs.Ring.{CRing, ops, quad}
+use Rattle.algebra.specs.laws.Solve.{O, I, X, ◌⊕◌, ◌⊗◌, ⊝◌, solve, z_mul, mul_z}
 use Rattle.algebra.specs.Field.{Field}
 use Rattle.algebra.specs.laws.Quadratic.{Quad}
 
@@ -13,8 +13,8 @@ module _ (F : Field) where
   open R use {El, z, u, add, mul, neg, mul_u, mul_assoc, mul_comm}
 
   -- no zero divisors
-  pub no_zero-div : (a b : El) → mul a b ≡ z → a ≢ z → b ≡ z
-  no_zero-div a b e h =
+  pub no_zero_div : (a b : El) → mul a b ≡ z → a ≢ z → b ≡ z
+  no_zero_div a b e h =
       let i : (c : El) × (mul a c ≡ u) = F.inv a h in
       sym (mul_u b) ∙ ap (mul b) (sym i.1) ∙ solve R (a ∷ b ∷ i.0 ∷ []) (X 1 ⊗ (X 0 ⊗ X 2)) (X 0 ⊗ X 1 ⊗ X 2) tt
       ∙ ap (λ (x : El). mul x i.0) e ∙ z_mul R i.0
@@ -36,7 +36,7 @@ module _ (F : Field) where
 
             sq : Dec (a ≡ z) → a ≡ z
             sq (yes k) = k
-            sq (no k) = no_zero-div a a aa k
+            sq (no k) = no_zero_div a a aa k
 
         go : Dec (b ≡ z) → (a ≡ z) × (b ≡ z)
         go (yes h) = (at_zero h, h)

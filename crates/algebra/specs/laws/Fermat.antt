@@ -1,7 +1,7 @@
 -- Fermat's little theorem, by binomials.
-use Rattle.std.specs.Prelude.{◌≡◌, refl, ◌⊎◌, ◌≢◌, ℕ, zero, suc, pred, ◌+◌, ◌*◌, ◌-◌, ◌^◌, ◌<◌, ◌≤◌, ◌%◌, ◌/◌}
-use Rattle.std.proofs.Common.{sym, ap, ap₂, ◌∙◌, subst, ⊎_elim, inl, inr, arith, mod-lt, mod-eq_of_lt, pow-suc, mul_comm, mul_assoc, mul-one, one-mul, mul-zero, zero-mul, le_of_suc-le-suc, add_comm, add-zero}
-use Rattle.std.proofs.Math.Nat.{mod-add-mod, add-mod-mod, add-mod, mod_self, zero-mod, mul-mod_right, add-mul-mod_self_left, pow-zero, suc-pred-eq_of_pos, mod-mod, div-add-mod}
+use Rattle.std.specs.Prelude.{◌≡◌, refl, ℕ, zero, suc, pred, ◌+◌, ◌*◌, ◌^◌, ◌<◌, ◌≤◌, ◌%◌}
+use Rattle.std.proofs.Common.{sym, ap, ap₂, ◌∙◌, subst, ⊎_elim, arith, mod-eq_of_lt, pow-suc, mul_assoc, mul-one, mul-zero, zero-mul, add-zero}
+use Rattle.std.proofs.Math.Nat.{mod-add-mod, add-mod-mod, zero-mod, mul-mod_right, pow-zero, suc-pred-eq_of_pos}
 use Rattle.algebra.specs.laws.Remainder.{mul-mod-mod, mod-mul-mod}
 use Rattle.algebra.specs.Prime.{Prime}
 use Rattle.algebra.specs.laws.Primality.{inverse, euclid}

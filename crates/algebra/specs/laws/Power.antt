@@ -1,7 +1,7 @@
 -- Powers modulo p by squaring are powers; Euler's criterion for a number that is no square.
-use Rattle.std.specs.Prelude.{◌≡◌, refl, ◌≢◌, Bool, true, false, cond, ℕ, zero, suc, pred, ◌+◌, ◌*◌, ◌^◌, ◌<◌, ◌≤◌, ◌/◌, ◌%◌, eqb}
-use Rattle.std.proofs.Common.{sym, ap, ap₂, ◌∙◌, subst, ⊎_elim, arith, pow-suc, mul_comm, mul_assoc, one-mul, mod-eq_of_lt, eq-zero-or-pos, zero-mul, mod-lt, lit<, pow-add, eqb-true}
-use Rattle.std.proofs.Math.Nat.{pow-zero, mod-mod, mul-mul-mul_comm, zero-mod}
+use Rattle.std.specs.Prelude.{◌≡◌, refl, ◌≢◌, Bool, true, false, cond, ℕ, zero, suc, pred, ◌+◌, ◌*◌, ◌^◌, ◌<◌, ◌/◌, ◌%◌, eqb}
+use Rattle.std.proofs.Common.{sym, ap, ap₂, ◌∙◌, ⊎_elim, arith, pow-suc, mul_comm, one-mul, mod-eq_of_lt, eq-zero-or-pos, zero-mul, mod-lt, lit<, pow-add, eqb-true}
+use Rattle.std.proofs.Math.Nat.{pow-zero, mul-mul-mul_comm, zero-mod}
 use Rattle.std.proofs.lemmas.Bool.{eqb-false}
 use Rattle.algebra.specs.laws.Remainder.{mul-mod-mod, mod-mul-mod}
 use Rattle.algebra.specs.Prime.{Prime}

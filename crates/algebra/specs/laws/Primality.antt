@@ -1,7 +1,7 @@
 -- Primality by trial division, inverses modulo a prime, and Euclid's lemma.
-use Rattle.std.specs.Prelude.{◌≡◌, refl, Bool, true, false, not, ◌⊎◌, ◌≢◌, ℕ, zero, suc, pred, ◌+◌, ◌*◌, ◌-◌, ◌<◌, ◌≤◌, ◌%◌, ◌/◌, leb, ltb, eqb, T}
-use Rattle.std.proofs.Common.{sym, ap, ap₂, ◌∙◌, subst, ⊎_elim, inl, inr, arith, mod-lt, mod-eq_of_lt, mul_comm, mul_assoc, mul-add, mul-one, mul-zero, one-mul, le_refl, le_of_suc-le-suc, pos_of_ne-zero, lt_trans, mul-le-mul, eq-zero-or-pos, eq-or-lt_of_le, eqb→eq, leb→le, lit<}
-use Rattle.std.proofs.Math.Nat.{mod-add-mod, add-mod-mod, mod_self, zero-mod, div-add-mod, add-mul-mod_self_left, suc-pred-eq_of_pos, mul-mod_right, mul-mod_left, mod-mod}
+use Rattle.std.specs.Prelude.{◌≡◌, Bool, true, false, ◌⊎◌, ◌≢◌, ℕ, zero, suc, pred, ◌+◌, ◌*◌, ◌<◌, ◌≤◌, ◌%◌, ◌/◌, ltb, T}
+use Rattle.std.proofs.Common.{sym, ap, ◌∙◌, ⊎_elim, inl, inr, arith, mod-lt, mod-eq_of_lt, mul-one, mul-zero, one-mul, le_refl, le_of_suc-le-suc, pos_of_ne-zero, lt_trans, mul-le-mul, eq-zero-or-pos, eq-or-lt_of_le, leb→le}
+use Rattle.std.proofs.Math.Nat.{zero-mod, div-add-mod, add-mul-mod_self_left, suc-pred-eq_of_pos, mul-mod_left}
 use Rattle.std.proofs.Math.Decide.{dec_lt}
 use Rattle.algebra.specs.Prime.{Prime}
 use Rattle.algebra.specs.laws.Remainder.{mul-mod-mod, mod-mul-mod}

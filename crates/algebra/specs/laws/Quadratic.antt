@@ -1,5 +1,5 @@
 -- The quadratic extension of a commutative ring is a commutative ring.
-use Rattle.std.specs.Prelude.{◌≡◌, refl, List, [], ◌∷◌, T}
+use Rattle.std.specs.Prelude.{◌≡◌, List, [], ◌∷◌, T}
 use Rattle.algebra.specs.Ring.{CRing, Ops, ops, quad}
 use Rattle.algebra.specs.laws.Solve.{E, O, I, X, ◌⊕◌, ◌⊗◌, ⊝◌, solve, eval, same}
 

@@ -1,10 +1,10 @@
 -- Quadruples with X⁴ = w over a commutative ring are a commutative ring; over a field that has a square root of -1 and none of w
 -- they are a field. The tower X² = Y, Y² = w is used here and seen nowhere else.
-use Rattle.std.specs.Prelude.{◌≡◌, refl, ◌≢◌, List, [], ◌∷◌, T}
-use Rattle.std.proofs.Common.{sym, ap, ◌∙◌}
+use Rattle.std.specs.Prelude.{◌≡◌, ◌≢◌, List, [], ◌∷◌, T}
+use Rattle.std.proofs.Common.{ap, ◌∙◌}
 use Rattle.algebra.specs.Ring.{CRing, Ops, ops, quad, quartic}
 use Rattle.algebra.specs.Field.{Field}
-use Rattle.algebra.specs.laws.Solve.{E, O, I, X, ◌⊕◌, ◌⊗◌, ⊝◌, solve, eval, same}
+use Rattle.algebra.specs.laws.Solve.{E, O, I, X, solve, eval, same}
 use Rattle.algebra.specs.laws.Quadratic.{Es}
 use Rattle.algebra.specs.laws.Extension.{extend, rootless}
 

@@ -1,5 +1,5 @@
 -- A product modulo p goes by its factors modulo p.
-use Rattle.std.specs.Prelude.{◌≡◌, ℕ, ◌+◌, ◌*◌, ◌%◌, ◌/◌}
+use Rattle.std.specs.Prelude.{◌≡◌, ℕ, ◌*◌, ◌%◌, ◌/◌}
 use Rattle.std.proofs.Common.{sym, ap, ◌∙◌, arith, mul_comm}
 use Rattle.std.proofs.Math.Nat.{div-add-mod, add-mul-mod_self_left}
 

@@ -1,7 +1,6 @@
 -- A normaliser for commutative rings, by reflection: `solve R ρ l r tt` proves an identity by computing both normal forms.
-use Rattle.std.specs.Prelude.{◌≡◌, refl, Bool, true, false, List, [], ◌∷◌, leb, ltb, eqb, T, get_or}
-use Rattle.std.proofs.Common.{sym, ap, ap₂, ◌∙◌, subst, true≢false, suc-add, zero-add, zero-mul, suc-mul, eqb→eq}
-use Rattle.std.proofs.lemmas.Bool.{false≢true}
+use Rattle.std.specs.Prelude.{◌≡◌, refl, Bool, true, false, List, [], ◌∷◌, leb, eqb, T, get_or}
+use Rattle.std.proofs.Common.{sym, ap, ap₂, ◌∙◌, suc-add, zero-add, zero-mul, suc-mul, eqb→eq}
 use Prim.Native.Nat.{ℕ, zero, suc, ◌+◌, ◌*◌, ◌^◌, compare, Ordering}
 use Rattle.algebra.specs.Ring.{CRing}
 

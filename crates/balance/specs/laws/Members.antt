@@ -36,7 +36,7 @@ pub part_in : (sizes : List ℕ) (f unit t n : ℕ) → t < n → unit * size_st
 unfolding sized_start
 part_in sizes f unit t n h =
     let k : unit * (total (size sizes f) t + size sizes f t) ≤ unit * total (size sizes f) n = mul-le-mul_left unit (total_in (size sizes f) t n h) in
-    let e : unit * (total (size sizes f) t + size sizes f t) ≡ unit * total (size sizes f) t + unit * size sizes f t = native.Mathlib.Nat.mul_add unit (total (size sizes f) t) (size sizes f t) in
+    let e : unit * (total (size sizes f) t + size sizes f t) ≡ unit * total (size sizes f) t + unit * size sizes f t = native.Mathlib.Nat.mul-add unit (total (size sizes f) t) (size sizes f t) in
     rw (sym e) k
 
 pub part-long : (sizes : List ℕ) (f unit t n : ℕ) (l : List ℕ) → t < n → length l ≡ unit * size_start sizes f n → length (table_part sizes f unit t l) ≡ unit * size sizes f t

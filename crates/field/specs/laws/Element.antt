@@ -3,7 +3,7 @@ use Rattle.std.specs.Prelude.{◌≡◌, length}
 use Rattle.std.proofs.Math.Path.{refl, sym, ap, ap₂}
 use Rattle.std.proofs.Common.{◌∙◌, mul-one, arith}
 use mathlib.Core.List.{List, [], ◌∷◌}
-use Prim.Native.Nat.{ℕ, zero, suc, ◌+◌, ◌*◌, ◌-◌, ◌<◌, ◌%◌}
+use Prim.Native.Nat.{ℕ, zero, suc, ◌+◌, ◌*◌, ◌<◌, ◌%◌}
 use Rattle.std.proofs.Math.Nat.{mod-lt, zero-mod}
 use Rattle.lists.specs.Count.{total}
 use Rattle.algebra.specs.Ring.{CRing, Ops, quartic}
@@ -14,7 +14,7 @@ use Rattle.field.specs.Word.{add_m, mul_m}
 use Rattle.field.specs.Element.{at, Word4, lift, zero4, one4, add4, sub4, neg4, mul4, scale4, power4, sum4, product4}
 use Rattle.field.specs.Modulus.{Certificate}
 use Rattle.field.specs.laws.Word.{add_m-below, sub_m-below, neg_m-below, mul_m-below, add_m-zero, add_m-sum, mul_m-zero, zero-mul_m, mul_m-mod, mul_m_added}
-use Rattle.field.specs.laws.Ring.{El, Fp, mk}
+use Rattle.field.specs.laws.Ring.{Fp, mk}
 use Rattle.field.specs.Extension.{K, KEl, el}
 use Rattle.field.specs.laws.Extension.{h}
 use Rattle.field.specs.laws.Homomorphism.{el_add, el_mul, el_neg, el_sub, el_same, four, mk_mul, mk_mod, ring4, quadruple, quadruple-mul, quadruple-same}

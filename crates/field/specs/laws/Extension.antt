@@ -1,13 +1,9 @@
 -- Why four words with X⁴ = w are a field, for every p and w with a certificate.
-use Rattle.std.specs.Prelude.{◌≡◌, refl, ◌≢◌, ℕ, ◌-◌, ◌<◌, ◌%◌}
-use Rattle.std.proofs.Common.{sym, ap, ◌∙◌, arith, mod-eq_of_lt, lit<, lit≤}
+use Rattle.std.specs.Prelude.{◌≡◌, ◌≢◌, ℕ, ◌-◌, ◌<◌, ◌%◌}
+use Rattle.std.proofs.Common.{sym, ap, ◌∙◌, mod-eq_of_lt}
 use Rattle.algebra.specs.Field.{Field}
-use Rattle.algebra.specs.Power.{pow_m}
 use Rattle.algebra.specs.laws.Remainder.{mul-mod-mod, mod-mul-mod}
-use Rattle.algebra.specs.laws.Primality.{by_trial}
-use Rattle.algebra.specs.laws.Power.{no_square}
-use Rattle.field.specs.Modulus.{Modulus, Certificate}
-use Rattle.field.specs.Known.{babybear, babybear_w}
+use Rattle.field.specs.Modulus.{Certificate}
 use Rattle.field.specs.laws.Ring.{El, mk, eq, pos, words}
 
 module _ (p w : ℕ) (C : Certificate p w) where

@@ -9,7 +9,7 @@ use Rattle.algebra.specs.Ring.{CRing, Ops, quartic}
 use Rattle.algebra.specs.laws.Solve.{E, O, X, ◌⊕◌, ◌⊗◌, ⊝◌, solve}
 use Rattle.algebra.specs.laws.Quadratic.{Es}
 use Rattle.algebra.specs.laws.Quartic.{Four, solve4, eval4}
-use Rattle.algebra.specs.laws.Extension.{no_zero-div}
+use Rattle.algebra.specs.laws.Extension.{no_zero_div}
 use Rattle.field.specs.Word.{add_m, mul_m, neg_m, dot, inverse1}
 use Rattle.field.specs.Element.{at, Word4, lift, zero4, one4, mul4, scale4, conjugate, conjugate2, norm2, norm, cofactor, inverse4}
 use Rattle.field.specs.Modulus.{Modulus, Certificate}
@@ -131,8 +131,8 @@ module _ (p w : ℕ) (C : Certificate p w) where
           (ap (λ (x : KEl p w C). x.3) k)
 
       go : Dec (n ≡ KR.z) → ⊥
-      go (yes k) = nz (conj_zero (no_zero-div (K p w C) (el p w C a) c k nz))
-      go (no k) = k (conj2_zero (no_zero-div (K p w C) n c2 product k))
+      go (yes k) = nz (conj_zero (no_zero_div (K p w C) (el p w C a) c k nz))
+      go (no k) = k (conj2_zero (no_zero_div (K p w C) n c2 product k))
 
   pub norm-below : (a : List ℕ) → norm p w a < p
   unfolding norm mul4

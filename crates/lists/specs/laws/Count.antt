@@ -4,7 +4,7 @@ use Rattle.std.proofs.Math.Path.{refl, ap, ap₂}
 use Rattle.std.proofs.Common.{sym, ◌∙◌, subst, ⊎_elim, inl, inr, true≢false, le_refl, eq-or-lt_of_le, le_of_suc-le-suc, zero-add, add-zero, add-suc, add-one, eqb→eq}
 use Rattle.std.proofs.Math.Option.{Option, none, some, some-ne-none}
 use mathlib.Core.List.Memᴰ
-use mathlib.Core.List.{List, [], ◌∷◌, ◌++◌, append_assoc, append-nil, Memᴰ}
+use mathlib.Core.List.{List, ◌++◌, append_assoc, append-nil, Memᴰ}
 use Prim.Native.Nat.{ℕ, zero, suc, ◌+◌, ◌<◌, ◌≤◌, zero-le}
 use native.Mathlib.Omega.{arith}
 use Rattle.std.proofs.Math.Nat.{add_assoc}

@@ -1,6 +1,6 @@
 -- A buffer d that is written from the front: its first i elements are p, and the rest is as it was.
-use Rattle.std.specs.Prelude.{◌≡◌, refl, List, [], ◌∷◌, ◌++◌, ℕ, suc, ◌+◌, ◌-◌, ◌<◌, ◌≤◌, length, take, drop, get_or, set}
-use Rattle.std.proofs.Common.{sym, ap, ◌∙◌, append-nil, zero-le, arith, length-append, drop_of_length-le, drop-drop}
+use Rattle.std.specs.Prelude.{◌≡◌, refl, List, [], ◌∷◌, ◌++◌, ℕ, ◌+◌, ◌-◌, ◌<◌, ◌≤◌, length, take, drop, set}
+use Rattle.std.proofs.Common.{ap, ◌∙◌, append-nil, zero-le, arith, length-append, drop_of_length-le, drop-drop}
 use borrow.Rule.Slice.PartMut.{put_mid}
 use Rattle.lists.specs.laws.Parts.{put_next, part-back, through_length}
 

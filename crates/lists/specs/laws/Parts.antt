@@ -1,6 +1,6 @@
 -- A buffer d that is written from the front, p so far, stands at p ++ drop i d with length p ≡ i.
 use Rattle.std.specs.Prelude.{◌≡◌, refl, List, [], ◌∷◌, ◌++◌, ℕ, zero, suc, ◌+◌, ◌-◌, ◌<◌, ◌≤◌, length, take, drop, get_or, set, replicate}
-use Rattle.std.proofs.Common.{sym, ap, ◌∙◌, append_assoc, add-one, arith, length-append, length-drop, length-take, drop-cons, take_at, drop_at, drop-drop, take-add, take-suc, get_or-drop}
+use Rattle.std.proofs.Common.{ap, ◌∙◌, append_assoc, add-one, arith, length-append, length-drop, length-take, drop-cons, take_at, drop_at, drop-drop, take-add, take-suc, get_or-drop}
 use Rattle.std.proofs.lemmas.List.{set_at}
 use Rattle.std.proofs.Math.Seq.{append_snoc}
 

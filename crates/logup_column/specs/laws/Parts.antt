@@ -172,8 +172,8 @@ module _ (l : Lookups) (n : ℕ) (f : Fitting l) (g : Agreeing n l) (i : ℕ) (h
   own-start zero t = rw (add-zero (tuple_start l.lookups i)) (omega arith)
   own-start (suc k) t = rw (add-suc (tuple_start l.lookups i) k) (omega (arith, own-start k (omega arith), own-width k (omega arith)))
 
-  own-multiplicity_at : (k : ℕ) → k < tuple_count l.lookups i → word (own_multiplicities l i) k ≡ word l.multiplicities (multiplicity_start l.lookups i + k)
-  own-multiplicity_at k t = word-part l.multiplicities (multiplicity_start l.lookups i) (multiplicity_start l.lookups (i + 1)) k (omega (arith, multiplicities-next))
+  own_multiplicity_at : (k : ℕ) → k < tuple_count l.lookups i → word (own_multiplicities l i) k ≡ word l.multiplicities (multiplicity_start l.lookups i + k)
+  own_multiplicity_at k t = word-part l.multiplicities (multiplicity_start l.lookups i) (multiplicity_start l.lookups (i + 1)) k (omega (arith, multiplicities-next))
 
   own-flag_at : exclusive l.lookups i ≡ true → (k : ℕ) → k < tuple_count l.lookups i → word (own_flags l i) k ≡ word l.flags (flag_start l.lookups i + k)
   own-flag_at x k t =
@@ -208,7 +208,7 @@ module _ (l : Lookups) (n : ℕ) (f : Fitting l) (g : Agreeing n l) (i : ℕ) (h
 
     same-multiplicity : (k : ℕ) → k < tuple_count l.lookups i → multiplicity here k ≡ multiplicity there k
     unfolding multiplicity multiplicity_node multiplicity_start total
-    same-multiplicity k t = ap (word vals) (ap (word (own_multiplicities l i)) (zero-add k) ∙ own-multiplicity_at k t)
+    same-multiplicity k t = ap (word vals) (ap (word (own_multiplicities l i)) (zero-add k) ∙ own_multiplicity_at k t)
 
     same_flag : exclusive l.lookups i ≡ true → (k : ℕ) → k < tuple_count l.lookups i → flag here k ≡ flag there k
     unfolding flag flag_node flag_start total

@@ -50,7 +50,7 @@ use Rattle.theorems_soundness.specs.laws.Example.{one_pair, one-full, at_one}
 use Rattle.theorems_soundness.specs.laws.Choices.{prime_least}
 use Rattle.theorems_balance.specs.Sums.{Wide, group_sum, IdenticallyZero, Vanishes, Sampled}
 use Rattle.theorems_balance.specs.Balance.{AllVanish, OneWidth}
-use Rattle.theorems_balance.specs.laws.Words.{sum_words, sum-zero_iff, accepts_of}
+use Rattle.theorems_balance.specs.laws.Words.{sum_words, sum_zero_iff, accepts_of}
 use Rattle.theorems_balance.specs.laws.Groups.{words_of-groups}
 use Rattle.theorems_balance.specs.laws.Balance.{nets_are_seen, known-sums}
 use Rattle.theorems_balance.specs.laws.Identity.{known_identity}
@@ -175,7 +175,7 @@ module _ (field count net : ℕ) (c : Computed field count net) where
   -- its sum vanishes at the pair where the net is zero
   vanishes_iff : Vanishes p w C (both count) one_pair ↔ (eqb net 0 ≡ true)
   vanishes_iff =
-      let (there, back) = sum-zero_iff p w (modulus_of field) C (lift 5) (lift 7) (entered count) in (
+      let (there, back) = sum_zero_iff p w (modulus_of field) C (lift 5) (lift 7) (entered count) in (
         λ v.
             sym c.zero_sum
             ∙ back

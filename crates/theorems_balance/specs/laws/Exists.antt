@@ -76,11 +76,11 @@ module _ (p w : ℕ) (C : Certificate p w) (ms : List Member) (width : ℕ) (wid
         full =
             record {
               betas = subst Distinct (sym at) (take-distinct betas ps (elements-distinct p pos));
-              betas-many = sym (length-map set (λ (r : Pairing (List ℕ)). r.beta)) ∙ ap length at ∙ length-take-le betas ps (rw long many);
-              beta-element = beta_ok;
+              betas_many = sym (length-map set (λ (r : Pairing (List ℕ)). r.beta)) ∙ ap length at ∙ length-take-le betas ps (rw long many);
+              beta_element = beta_ok;
               alphas = λ r k. (fines r k).distinct;
-              alphas-many = λ r k. (fines r k).many;
-              alpha-element = alpha_ok;
+              alphas_many = λ r k. (fines r k).many;
+              alpha_element = alpha_ok;
             };
         no_pole =
             λ r k a ma e me _.

@@ -95,5 +95,5 @@ not_zero field c x =
     some-ne-none _
     (sym c.refused ∙ (known_identity (choices_of field 1) c.is_known (certificate_of field) tables workspace c.tests c.fits one_width).1 x)
 
-pub not_both-zero : ¬ Zero 1 × ¬ Zero 2
-not_both-zero = (not_zero 1 computed.0, not_zero 2 computed.1)
+pub not_both_zero : ¬ Zero 1 × ¬ Zero 2
+not_both_zero = (not_zero 1 computed.0, not_zero 2 computed.1)

@@ -37,7 +37,7 @@ module _ (p w : ℕ) (M : Modulus p) (C : Certificate p w) where
   all_vanish : (gs : List (List Member)) (samples : AllGroups (Sampled p w C) gs) → AllGroups (IdenticallyZero p w C) gs → AllVanish p w C gs samples
   all_vanish [] samples zeros = tt
   all_vanish (ms ∷ gs) (s, samples) (one, rest) = (
-    λ r k a ma. one a r.beta (s.full.alpha-element r k a ma) (s.full.beta-element r k) (s.no_pole r k a ma),
+    λ r k a ma. one a r.beta (s.full.alpha_element r k a ma) (s.full.beta_element r k) (s.no_pole r k a ma),
     all_vanish gs samples rest,
   )
 

@@ -43,9 +43,9 @@ module _ (p w : ℕ) (M : Modulus p) (C : Certificate p w) (alpha beta : List �
   words-element (e ∷ es) = element-add p w C (quotient4 p w e.count (denominator p w alpha beta e.tuple)) (sum_words p w alpha beta es)
 
   -- the sum is zero where its words are
-  pub sum-zero_iff : (es : List Entry)
+  pub sum_zero_iff : (es : List Entry)
       → (is_zero (sum_words p w alpha beta es) ≡ true) ↔ (Tables.terminal (K p w C) (N p w C) (el p w C alpha) (el p w C beta) es ≡ (K p w C).ring.z)
-  sum-zero_iff es =
+  sum_zero_iff es =
       let (there, back) = zero_iff p w C (sum_words p w alpha beta es) (words-element es) in
       (λ e. sym (words_are es) ∙ there e, λ e. back (words_are es ∙ e))
 

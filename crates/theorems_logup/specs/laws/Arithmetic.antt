@@ -4,7 +4,7 @@ use Rattle.std.proofs.Math.Path.{refl}
 use Rattle.std.proofs.Common.{sym, ◌∙◌, ap, ap₂}
 use Rattle.algebra.specs.Field.{Field}
 use Rattle.algebra.specs.laws.Solve.{I, X, ◌⊕◌, ◌⊗◌, ⊝◌, solve, cancel, z_add, z_mul, mul_z}
-use Rattle.algebra.specs.laws.Extension.{no_zero-div}
+use Rattle.algebra.specs.laws.Extension.{no_zero_div}
 use Rattle.theorems_logup.specs.Inverse.{inverse_by, inverse}
 
 module _ (F : Field) where
@@ -54,10 +54,10 @@ module _ (F : Field) where
       go (no k) = absurd (k refl)
 
   pub eq-zero-left : {a c : K} → c ≢ 𝟘 → a * c ≡ 𝟘 → a ≡ 𝟘
-  eq-zero-left {a} {c} n e = no_zero-div F c a (F.ring.mul_comm c a ∙ e) n
+  eq-zero-left {a} {c} n e = no_zero_div F c a (F.ring.mul_comm c a ∙ e) n
 
-  pub eq-zero_right : {a c : K} → c ≢ 𝟘 → c * a ≡ 𝟘 → a ≡ 𝟘
-  eq-zero_right {a} {c} n e = no_zero-div F c a e n
+  pub eq_zero_right : {a c : K} → c ≢ 𝟘 → c * a ≡ 𝟘 → a ≡ 𝟘
+  eq_zero_right {a} {c} n e = no_zero_div F c a e n
 
   pub mul_cancel : (c : K) {a b : K} → c ≢ 𝟘 → a * c ≡ b * c → a ≡ b
   mul_cancel c {a} {b} n e =
@@ -76,8 +76,8 @@ module _ (F : Field) where
   inverse_unique {a} {x} e =
       mul_cancel a (unit_ne e) (F.ring.mul_comm (inverse F a) a ∙ mul-inverse a (unit_ne e) ∙ sym e ∙ F.ring.mul_comm a x)
 
-  pub eq-zero_of_add : {a b : K} → b ≡ 𝟘 → a + b ≡ 𝟘 → a ≡ 𝟘
-  eq-zero_of_add {a} {b} e f = sym (F.ring.add_z a) ∙ ap (λ (x : K). a + x) (sym e) ∙ f
+  pub eq_zero_of_add : {a b : K} → b ≡ 𝟘 → a + b ≡ 𝟘 → a ≡ 𝟘
+  eq_zero_of_add {a} {b} e f = sym (F.ring.add_z a) ∙ ap (λ (x : K). a + x) (sym e) ∙ f
 
   -- one step of the synthetic division of a polynomial by x - a
   pub divide_step : (s r x a y : K) → (s * x + r) * (x - a) + (r * a + y) ≡ (s * (x - a) + r) * x + y

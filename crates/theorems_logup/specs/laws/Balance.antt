@@ -203,12 +203,12 @@ module _ (F : Field) where
         converse : ((r : Pairing K) → Memᴰ r set → (α : K) → Memᴰ α r.alphas → terminal F N α r.beta E₁ ≡ terminal F N α r.beta E₂)
             → (t : List W) → ledger F N E₁ t ≡ ledger F N E₂ t
         converse agree =
-            let many : length set ≡ 1 + (w - 1) * length S * (length S - 1) / 2 = full.betas-many in
+            let many : length set ≡ 1 + (w - 1) * length S * (length S - 1) / 2 = full.betas_many in
             let (β, m, apart) = separating w E₁ E₂ S T₁ T₂ supp (map (λ (r : Pairing K). r.beta) set) full.betas
             (rw length-map (omega arith)) in
             let (r, k, at) = Memᴰ.of_map (λ (r : Pairing K). r.beta) set m in
             back w E₁ E₂ S T₁ T₂ supp r.beta r.alphas (subst (λ β. Apart (combine F N β) S) (sym at) apart)
-            (le_of_eq (sym (full.alphas-many r k))) (full.alphas r k) (full.accepted r k) (agree r k)
+            (le_of_eq (sym (full.alphas_many r k))) (full.alphas r k) (full.accepted r k) (agree r k)
 
     -- one table against none: its ledger is zero exactly where its terminal is at every pair of a full set
     pub vanishes : (w : ℕ) (E : List Entry) (S : List (List W)) (set : List (Pairing K)) → Table F N w E → Support F N E S → FullSet F N w (length S) E [] set

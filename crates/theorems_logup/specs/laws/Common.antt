@@ -3,7 +3,7 @@ use Rattle.std.specs.Prelude.{◌≡◌, refl, ◌≢◌, Bool, cond, [], ◌∷
 use Rattle.std.proofs.Common.{sym, ap, ap₂, ◌∙◌, arith, le_refl}
 use Rattle.algebra.specs.Field.{Field}
 use Rattle.algebra.specs.laws.Solve.{X, ◌⊕◌, ◌⊗◌, solve, mul_z, z_mul}
-use Rattle.algebra.specs.laws.Extension.{no_zero-div}
+use Rattle.algebra.specs.laws.Extension.{no_zero_div}
 use Rattle.lists.specs.laws.Count.{eqb_true, eqb_false}
 use Rattle.theorems_logup.specs.Inverse.{inverse}
 use Rattle.theorems_logup.specs.Sums.{sum_to}
@@ -28,7 +28,7 @@ module _ (F : Field) where
       ∙ solve F.ring (sum_to F f n ∷ f n ∷ c ∷ []) (X 0 ⊗ X 2 ⊕ X 1 ⊗ X 2) ((X 0 ⊕ X 1) ⊗ X 2) tt
 
   pub mul_ne : (a b : A) → a ≢ z → b ≢ z → mul a b ≢ z
-  mul_ne a b n k e = k (no_zero-div F a b e n)
+  mul_ne a b n k e = k (no_zero_div F a b e n)
 
   pub product_to_ne : (f : ℕ → A) (n : ℕ) → ((i : ℕ) → i < n → f i ≢ z) → product_to F f n ≢ z
   product_to_ne f zero ne = F.u≢z

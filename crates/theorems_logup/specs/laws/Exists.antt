@@ -69,9 +69,9 @@ module _ (F : Field) (N : Entries F) where
   open F.ring use {El as K}
   open N use {word as W, Entry, tuple}
 
-  pub full-set_exists : (w : ℕ) (E₁ E₂ : List Entry) (S : List (List W)) → Support F N (E₁ ++ E₂) S → (points : List K) → Distinct points
+  pub full_set_exists : (w : ℕ) (E₁ E₂ : List Entry) (S : List (List W)) → Support F N (E₁ ++ E₂) S → (points : List K) → Distinct points
       → 2 * length S ≤ length points → 1 + (w - 1) * length S * (length S - 1) / 2 ≤ length points → (set : List (Pairing K)) × FullSet F N w (length S) E₁ E₂ set
-  full-set_exists w E₁ E₂ S supp points dist enough many =
+  full_set_exists w E₁ E₂ S supp points dist enough many =
       let betas : ℕ = 1 + (w - 1) * length S * (length S - 1) / 2 in
       let (set, at, fines) =
       pairings (Arithmetic.equal? F) points dist (λ beta. map (combine F N beta) S) (length S) (λ beta. rw length-map (omega arith)) (take betas points)
@@ -79,9 +79,9 @@ module _ (F : Field) (N : Entries F) where
         set,
         record {
           betas = subst Distinct (sym at) (take-distinct betas points dist);
-          betas-many = sym (length-map set (λ (r : Pairing K). r.beta)) ∙ ap length at ∙ length-take-le betas points many;
+          betas_many = sym (length-map set (λ (r : Pairing K). r.beta)) ∙ ap length at ∙ length-take-le betas points many;
           alphas = λ r m. (fines r m).distinct;
-          alphas-many = λ r m. (fines r m).many;
+          alphas_many = λ r m. (fines r m).many;
           accepted = λ r m alpha k. (
             λ e h n. Arithmetic.sub_ne F ((fines r m).off alpha k _ (Memᴰ.map (combine F N r.beta) (supp.covers e (Memᴰ.append_left E₂ h) n))),
             λ e h n. Arithmetic.sub_ne F ((fines r m).off alpha k _ (Memᴰ.map (combine F N r.beta) (supp.covers e (Memᴰ.append_right E₁ h) n))),

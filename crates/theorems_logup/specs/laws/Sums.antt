@@ -61,7 +61,7 @@ module _ (F : Field) where
     -- A pole t and its numerator d come first: what is left, after t is divided out at q, is zero at p.
     descend : (c D : A → K) (t d p q : K) (l : List A) → Off c l p → Off c l q → p - t ≢ 𝟘 → q - t ≢ 𝟘 → q ≢ p
         → d * inverse F (p - t) + fractions F c D l p ≡ 𝟘 → d * inverse F (q - t) + fractions F c D l q ≡ 𝟘 → fractions F c (next c D t q) l p ≡ 𝟘
-    descend c D t d p q l op oq np nq ne zp zq = Arithmetic.eq-zero_right F (Arithmetic.sub_ne F ne) (cancel F.ring _ _ ((q - t) * fractions F c D l q) level)
+    descend c D t d p q l op oq np nq ne zp zq = Arithmetic.eq_zero_right F (Arithmetic.sub_ne F ne) (cancel F.ring _ _ ((q - t) * fractions F c D l q) level)
       where
         level : (q - p) * fractions F c (next c D t q) l p + (q - t) * fractions F c D l q ≡ 𝟘 + (q - t) * fractions F c D l q
         level =
@@ -72,7 +72,7 @@ module _ (F : Field) where
 
     -- The numerators of the rest are zero: so is the first.
     last : (c D : A → K) (t d q : K) (l : List A) → q - t ≢ 𝟘 → ((s : A) → Memᴰ s l → D s ≡ 𝟘) → d * inverse F (q - t) + fractions F c D l q ≡ 𝟘 → d ≡ 𝟘
-    last c D t d q l nq rest z = Arithmetic.eq-zero-left F (Arithmetic.inverse_ne F nq) (Arithmetic.eq-zero_of_add F none z)
+    last c D t d q l nq rest z = Arithmetic.eq-zero-left F (Arithmetic.inverse_ne F nq) (Arithmetic.eq_zero_of_add F none z)
       where
         none : fractions F c D l q ≡ 𝟘
         none = sum_cong l (λ s m. ap (λ z. z * inverse F (q - c s)) (rest s m) ∙ z_mul F.ring (inverse F (q - c s))) ∙ sum-zero l

@@ -391,5 +391,5 @@ computed = (
   },
 )
 
-pub in_each-field : AtWork 1 1677721607 1006632965 × AtWork 2 355117745 1065353221
-in_each-field = (at_work 1 computed.0, at_work 2 computed.1)
+pub in_each_field : AtWork 1 1677721607 1006632965 × AtWork 2 355117745 1065353221
+in_each_field = (at_work 1 computed.0, at_work 2 computed.1)

@@ -30,7 +30,7 @@ use Rattle.theorems_soundness.specs.Lawful.{LawfulFlags}
 use Rattle.theorems_soundness.specs.laws.Joined.{length-joined}
 use Rattle.theorems_soundness.specs.laws.Setting.{same_of_el}
 use Rattle.field.specs.laws.Zero.{one_not_zero}
-use Rattle.theorems_soundness.specs.laws.Elements.{element-sum, sub-zero_iff}
+use Rattle.theorems_soundness.specs.laws.Elements.{element-sum, sub_zero_iff}
 use Rattle.theorems_soundness.specs.laws.Columns.{ones, Lawful}
 use Rattle.theorems_soundness.specs.laws.Terminals.{place-at_pair}
 use Rattle.theorems_soundness.specs.laws.Entered.{Passed, entered, Ledgered, ledgered}
@@ -134,7 +134,7 @@ module _ (m : Limits) (p w : ℕ) (C : Certificate p w) (t : Table) (alpha beta 
       (λ z.
       off (entry p t.lookups (vs r) i k) (entry-there p t r i k lr li lk)
       (same_of_el p w C alpha (combine p w beta es) ea (combine-element es)
-      ((sub-zero_iff p w C alpha (combine p w beta es)).0 (true_of (is_zero (sub4 p alpha (combine p w beta es))) z))))
+      ((sub_zero_iff p w C alpha (combine p w beta es)).0 (true_of (is_zero (sub4 p alpha (combine p w beta es))) z))))
 
   lawful_here : (r i : ℕ) → r < t.traces.shape.height → i < n → exclusive t.lookups.lookups i ≡ true → Lawful (here r i)
   unfolding branches flag

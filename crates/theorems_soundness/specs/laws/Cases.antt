@@ -32,7 +32,7 @@ use Rattle.logup.specs.laws.Cases.{additive, no_lookup}
 use Rattle.theorems_soundness.specs.Soundness.{Buffers, answer_at}
 use Rattle.theorems_soundness.specs.Constraints.{Verdict}
 use Rattle.theorems_soundness.specs.Lawful.{flag_at}
-use Rattle.theorems_soundness.specs.laws.Choices.{in_each-field, by_each_rule}
+use Rattle.theorems_soundness.specs.laws.Choices.{in_each_field, by_each_rule}
 
 -- Two columns of main, and one lookup on the bus "m": the tuple of both columns, counted once.
 abbrev pub two_columns : List ℕ → Table
@@ -315,7 +315,7 @@ each l e = (passed true l e).1
 
 all : (field : ℕ) → T (known_field field) → Passed (tests field)
 all =
-    in_each-field (λ (field : ℕ). Passed (tests field))
+    in_each_field (λ (field : ℕ). Passed (tests field))
     (each (tests 1) (true_of (chain true (tests 1)) (and_left (chain true (tests 1)) (chain true (tests 2)) both_fields)))
     (each (tests 2) (true_of (chain true (tests 2)) (and_right (chain true (tests 1)) (chain true (tests 2)) both_fields)))
 

@@ -30,9 +30,9 @@ one_or_two P one two n ok = by (eqb n 1) refl ok
     by true e t = subst P (sym (eq_of_eqb n 1 e)) one
     by false e t = subst P (sym (eq_of_eqb n 2 (true_of (eqb n 2) t))) two
 
-pub in_each-field : (P : ℕ → Type 0) → P 1 → P 2 → (field : ℕ) → T (known_field field) → P field
+pub in_each_field : (P : ℕ → Type 0) → P 1 → P 2 → (field : ℕ) → T (known_field field) → P field
 unfolding known_field
-in_each-field P one two field ok = one_or_two P one two field ok
+in_each_field P one two field ok = one_or_two P one two field ok
 
 pub by_each_rule : (P : ℕ → Type 0) → P 1 → P 2 → (rule : ℕ) → T (known_rule rule) → P rule
 unfolding known_rule
@@ -70,7 +70,7 @@ module _ (S : Limits → ℕ → Generation → Type 0) (under : UnderEachRule S
       (under (limits_of c.profile) (prime_of c.field) (generation (limits_of c.profile) (prime_of c.field) (w_of c.field)) rule (holds c k))
 
   -- what holds for every prime and value of X⁴ that make a field
-  pub of_every-field : ((m : Limits) (p w : ℕ) → Modulus p → Certificate p w → S m p (generation m p w)) → AtKnownChoices S
-  of_every-field holds =
+  pub of_every_field : ((m : Limits) (p w : ℕ) → Modulus p → Certificate p w → S m p (generation m p w)) → AtKnownChoices S
+  of_every_field holds =
       at_known
       (λ c k. holds (limits_of c.profile) (prime_of c.field) (w_of c.field) (modulus_of c.field) (certificate_of c.field))

@@ -55,8 +55,8 @@ module _ (p w : ℕ) (C : Certificate p w) where
   nonzero a ea e n = true≢false (sym ((zero_iff a ea).1 n) ∙ e)
 
   -- a difference is zero where the two are the same in the field
-  pub sub-zero_iff : (a b : List ℕ) → (is_zero (sub4 p a b) ≡ true) ↔ (⟦ a ⟧ ≡ ⟦ b ⟧)
-  sub-zero_iff a b = (
+  pub sub_zero_iff : (a b : List ℕ) → (is_zero (sub4 p a b) ≡ true) ↔ (⟦ a ⟧ ≡ ⟦ b ⟧)
+  sub_zero_iff a b = (
     λ e. eq_of_sub (K p w C) (sym (el_sub p w C a b) ∙ (zero_iff (sub4 p a b) (element-sub a b)).0 e),
     λ e. (zero_iff (sub4 p a b) (element-sub a b)).1 (el_sub p w C a b ∙ sub_of_eq (K p w C) e),
   )

@@ -23,11 +23,11 @@ use Rattle.logup.specs.Ledger.{has_ledger, Entry, entries, tuples_met, at_pair}
 use Rattle.theorems_soundness.specs.Soundness.{AllWide, Buffers, SameLedger}
 use Rattle.theorems_soundness.specs.Error.{Challenges, Passes, AtMostPass, passing_pairs, SoundnessError, KnownSoundnessError, AllPairs}
 use Rattle.theorems_soundness.specs.Entries.{N}
-use Rattle.theorems_soundness.specs.laws.Choices.{UnderEachRule, of_every-field}
+use Rattle.theorems_soundness.specs.laws.Choices.{UnderEachRule, of_every_field}
 use Rattle.theorems_soundness.specs.laws.Setting.{same_of_el}
-use Rattle.theorems_soundness.specs.laws.Points.{fourth_power, eighth_power, element-pairs, element-pairs-many, element-pairs-distinct, element-pairs_are}
+use Rattle.theorems_soundness.specs.laws.Points.{fourth_power, eighth_power, element-pairs, element-pairs-many, element-pairs-distinct, element_pairs_are}
 use Rattle.theorems_soundness.specs.laws.Ledgers.{ledger_is, table_of}
-use Rattle.theorems_soundness.specs.laws.Rule.{met_under, same-ledger_under, comparable_under}
+use Rattle.theorems_soundness.specs.laws.Rule.{met_under, same_ledger_under, comparable_under}
 use Rattle.theorems_soundness.specs.laws.Soundness.{met-count, words_of, fits_of, sums}
 
 -- how many elements the field has
@@ -54,9 +54,9 @@ module _ (p w : ℕ) (C : Certificate p w) where
   told : (c d : Pair (List ℕ)) → Challenges p c → Challenges p d → in_field c ≡ in_field d → c ≡ d
   told c d kc kd e =
       let a : c.alpha ≡ d.alpha =
-      same_of_el p w C c.alpha d.alpha kc.alpha-element kd.alpha-element (ap (λ (c : Pair (KEl p w C)). c.alpha) e) in
+      same_of_el p w C c.alpha d.alpha kc.alpha_element kd.alpha_element (ap (λ (c : Pair (KEl p w C)). c.alpha) e) in
       let b : c.beta ≡ d.beta =
-      same_of_el p w C c.beta d.beta kc.beta-element kd.beta-element (ap (λ (c : Pair (KEl p w C)). c.beta) e) in
+      same_of_el p w C c.beta d.beta kc.beta_element kd.beta_element (ap (λ (c : Pair (KEl p w C)). c.beta) e) in
       λ i. record { alpha = a i; beta = b i }
 
   few-pairs : AtMost (p ^ 8) (Pair (KEl p w C))
@@ -67,7 +67,7 @@ module _ (p w : ℕ) (C : Certificate p w) where
 
   pub all-pairs : AllPairs p
   all-pairs = (
-    (element-pairs p (h p w C), element-pairs-distinct p (h p w C), element-pairs_are p (h p w C), element-pairs-many p (h p w C)),
+    (element-pairs p (h p w C), element-pairs-distinct p (h p w C), element_pairs_are p (h p w C), element-pairs-many p (h p w C)),
     λ l dist all. rw length-map at (few-pairs (map in_field l) (distinct-map in_field l (λ c d mc md. told c d (all c mc) (all d md)) dist)),
   )
 
@@ -82,8 +82,8 @@ module _ (m : Limits) (p w : ℕ) (M : Modulus p) (C : Certificate p w) (t₁ t�
 
   agrees : (c : Pair (List ℕ)) → Passes p (generation m p w) t₁ t₂ buffers₁ buffers₂ c → AnyField.Agrees (K p w C) (N p w C) E₁ E₂ (in_field p w C c)
   agrees c q =
-      let ea = q.challenges.alpha-element in
-      let eb = q.challenges.beta-element in
+      let ea = q.challenges.alpha_element in
+      let eb = q.challenges.beta_element in
       let s₁ = sums m p w M C t₁ ok₁ buffers₁ c.alpha c.beta ea eb q.accepted₁ in
       let s₂ = sums m p w M C t₂ ok₂ buffers₂ c.alpha c.beta ea eb q.accepted₂ in
       record { accepted₁ = s₁.accepted; accepted₂ = s₂.accepted; agree = sym s₁.is ∙ ap (el p w C) q.agree ∙ s₂.is }
@@ -115,11 +115,11 @@ unfolding at_pair
 at_most_under bound m p g rule few t₁ t₂ bus width pairs buffers₁ buffers₂ c differ dist pass =
     subst (λ (n : ℕ). length pairs ≤ bound p width n) (met_under rule p t₁ t₂)
     (few (table_under rule t₁) (table_under rule t₂) bus width pairs buffers₁ buffers₂ (comparable_under rule c)
-    (λ same. differ ((same-ledger_under rule p width t₁ t₂).0 same)) dist
+    (λ same. differ ((same_ledger_under rule p width t₁ t₂).0 same)) dist
     (λ d k.
     let q = pass d k in
     record { challenges = q.challenges; accepted₁ = q.accepted₁; accepted₂ = q.accepted₂; agree = q.agree }))
 
 -- and so in each field, at the entry point
 pub logup_soundness_error : KnownSoundnessError
-logup_soundness_error = of_every-field SoundnessError (at_most_under passing_pairs) soundness_error
+logup_soundness_error = of_every_field SoundnessError (at_most_under passing_pairs) soundness_error

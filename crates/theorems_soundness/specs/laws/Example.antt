@@ -77,11 +77,11 @@ four-full : (p : ℕ) → babybear ≤ p → FullSet p 2 2 four_pairs
 four-full p lp =
     record {
       betas = two-distinct (lift 7) (lift 8) (lift_apart 7 8 (λ e. omega arith));
-      betas-many = refl;
-      beta-element = of_two (λ (r : Pairing (List ℕ)). Element p r.beta) (lifted p lp 7 (lit< tt)) (lifted p lp 8 (lit< tt));
+      betas_many = refl;
+      beta_element = of_two (λ (r : Pairing (List ℕ)). Element p r.beta) (lifted p lp 7 (lit< tt)) (lifted p lp 8 (lit< tt));
       alphas = of_two (λ (r : Pairing (List ℕ)). Distinct r.alphas) alphas alphas;
-      alphas-many = of_two (λ (r : Pairing (List ℕ)). length r.alphas ≡ 2) refl refl;
-      alpha-element = of_two (λ (r : Pairing (List ℕ)). (a : List ℕ) → Memᴰ a r.alphas → Element p a) elements elements;
+      alphas_many = of_two (λ (r : Pairing (List ℕ)). length r.alphas ≡ 2) refl refl;
+      alpha_element = of_two (λ (r : Pairing (List ℕ)). (a : List ℕ) → Memᴰ a r.alphas → Element p a) elements elements;
     }
   where
     alphas : Distinct (lift 5 ∷ lift 6 ∷ [])
@@ -172,11 +172,11 @@ pub one-full : (p : ℕ) → babybear ≤ p → FullSet p 1 1 one_pair
 one-full p lp =
     record {
       betas = (λ y k. absurd (Memᴰ.not-nil k), tt);
-      betas-many = refl;
-      beta-element = of_one (λ (r : Pairing (List ℕ)). Element p r.beta) (lifted p lp 7 (lit< tt));
+      betas_many = refl;
+      beta_element = of_one (λ (r : Pairing (List ℕ)). Element p r.beta) (lifted p lp 7 (lit< tt));
       alphas = of_one (λ (r : Pairing (List ℕ)). Distinct r.alphas) (λ y k. absurd (Memᴰ.not-nil k), tt);
-      alphas-many = of_one (λ (r : Pairing (List ℕ)). length r.alphas ≡ 1) refl;
-      alpha-element =
+      alphas_many = of_one (λ (r : Pairing (List ℕ)). length r.alphas ≡ 1) refl;
+      alpha_element =
           of_one (λ (r : Pairing (List ℕ)). (a : List ℕ) → Memᴰ a r.alphas → Element p a)
           (of_one (Element p) (lifted p lp 5 (lit< tt)));
     }

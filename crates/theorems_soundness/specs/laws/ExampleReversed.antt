@@ -76,7 +76,7 @@ module _ (field : ℕ) (ok : T (known_field field)) where
         let q = agree_so field rule rising falling 5 1 (reversed-agree field ok rule by) in
         of_one (Passes p (generate_in field rule) rising falling buffers buffers)
         (record {
-          challenges = record { alpha-element = lifted p (prime_least field) 5 (lit< tt); beta-element = lifted p (prime_least field) 1 (lit< tt) };
+          challenges = record { alpha_element = lifted p (prime_least field) 5 (lit< tt); beta_element = lifted p (prime_least field) 1 (lit< tt) };
           accepted₁ = q.accepted₁;
           accepted₂ = q.accepted₂;
           agree = q.agree;

@@ -27,7 +27,7 @@ use Rattle.logup.specs.Constraints.{others, additive_numerator, additive_denomin
 use Rattle.logup.specs.Ledger.{Element}
 use Rattle.theorems_soundness.specs.Entries.{into}
 use Rattle.theorems_soundness.specs.laws.Setting.{same_of_el}
-use Rattle.theorems_soundness.specs.laws.Elements.{element-lift, element-add, element-quotient, nonzero, sub-zero_iff, sum_is, product_is, scale_is}
+use Rattle.theorems_soundness.specs.laws.Elements.{element-lift, element-add, element-quotient, nonzero, sub_zero_iff, sum_is, product_is, scale_is}
 use Rattle.theorems_soundness.specs.laws.Columns.{ones, ones_pos, lawful, flag-zero, chosen_sound, denom-element, additive-element, branch-quotient, used-quotient}
 
 module _ (p w : ℕ) (M : Modulus p) (C : Certificate p w) where
@@ -39,8 +39,8 @@ module _ (p w : ℕ) (M : Modulus p) (C : Certificate p w) where
   -- a - b - c vanishes where a is b + c
   pub step_iff : (a b c : List ℕ) → Element p a → (is_zero (sub4 p (sub4 p a b) c) ≡ true) ↔ (a ≡ add4 p b c)
   step_iff a b c ea = (
-    λ e. same_of_el p w C a (add4 p b c) ea (element-add p w C b c) (into-sum (sym (el_sub p w C a b) ∙ (sub-zero_iff p w C (sub4 p a b) c).0 e) ∙ sym (el_add p w C b c)),
-    λ e. (sub-zero_iff p w C (sub4 p a b) c).1
+    λ e. same_of_el p w C a (add4 p b c) ea (element-add p w C b c) (into-sum (sym (el_sub p w C a b) ∙ (sub_zero_iff p w C (sub4 p a b) c).0 e) ∙ sym (el_add p w C b c)),
+    λ e. (sub_zero_iff p w C (sub4 p a b) c).1
         (el_sub p w C a b ∙ ap (λ (x : KEl p w C). add x (neg ⟦ b ⟧)) (ap (el p w C) e ∙ el_add p w C b c)
         ∙ solve (K p w C).ring (⟦ b ⟧ ∷ ⟦ c ⟧ ∷ []) (X 0 ⊕ X 1 ⊕ ⊝ X 0) (X 1) tt),
   )
@@ -55,8 +55,8 @@ module _ (p w : ℕ) (M : Modulus p) (C : Certificate p w) where
   vanishes_at d n f x ne e ef ex = (
     λ q. same_of_el p w C x f ex ef
         (mul_cancel (K p w C) ⟦ d ⟧ ne ((K p w C).ring.mul_comm ⟦ x ⟧ ⟦ d ⟧ ∙ sym (el_mul p w C d x)
-        ∙ (sub-zero_iff p w C (mul4 p w d x) n).0 q ∙ sym e ∙ (K p w C).ring.mul_comm ⟦ d ⟧ ⟦ f ⟧)),
-    λ q. (sub-zero_iff p w C (mul4 p w d x) n).1 (el_mul p w C d x ∙ ap (λ (x : List ℕ). mul ⟦ d ⟧ ⟦ x ⟧) q ∙ e),
+        ∙ (sub_zero_iff p w C (mul4 p w d x) n).0 q ∙ sym e ∙ (K p w C).ring.mul_comm ⟦ d ⟧ ⟦ f ⟧)),
+    λ q. (sub_zero_iff p w C (mul4 p w d x) n).1 (el_mul p w C d x ∙ ap (λ (x : List ℕ). mul ⟦ d ⟧ ⟦ x ⟧) q ∙ e),
   )
 
   module _ (c : Place) where

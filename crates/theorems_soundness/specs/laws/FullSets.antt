@@ -58,10 +58,10 @@ module _ (m : Limits) (p w : ℕ) (C : Certificate p w) (t₁ t₂ : Table) (wid
   avoid-length : (beta : List ℕ) → length (avoid beta) ≡ length (entries p t₁) + length (entries p t₂)
   avoid-length beta = length-map all (λ (e : Entry). combine p w beta e.tuple) ∙ length-append (entries p t₁) (entries p t₂)
 
-  pub full-set_exists : n + (length (entries p t₁) + length (entries p t₂)) ≤ p * p * p * p → betas ≤ p * p * p * p
+  pub full_set_exists : n + (length (entries p t₁) + length (entries p t₂)) ≤ p * p * p * p → betas ≤ p * p * p * p
       → (set : List (Pairing (List ℕ))) × FullSet p width n set
       × AtEachPair set (AcceptedAt (generation m p w) t₁ buffers₁) × AtEachPair set (AcceptedAt (generation m p w) t₂ buffers₂)
-  full-set_exists enough many =
+  full_set_exists enough many =
       let pos : 0 < p = h p w C in
       let ps : List (List ℕ) = elements p pos in
       let long : length ps ≡ p * p * p * p = elements-many p pos in
@@ -76,11 +76,11 @@ module _ (m : Limits) (p w : ℕ) (C : Certificate p w) (t₁ t₂ : Table) (wid
         set,
         record {
           betas = subst Distinct (sym at) (take-distinct betas ps (elements-distinct p pos));
-          betas-many = sym (length-map set (λ (r : Pairing (List ℕ)). r.beta)) ∙ ap length at ∙ length-take-le betas ps (rw long many);
-          beta-element = beta_ok;
+          betas_many = sym (length-map set (λ (r : Pairing (List ℕ)). r.beta)) ∙ ap length at ∙ length-take-le betas ps (rw long many);
+          beta_element = beta_ok;
           alphas = λ r k. (fines r k).distinct;
-          alphas-many = λ r k. (fines r k).many;
-          alpha-element = alpha_ok;
+          alphas_many = λ r k. (fines r k).many;
+          alpha_element = alpha_ok;
         },
         λ r k a ma.
             accepts_at m p w C t₁ a r.beta (buffers₁ a r.beta) (alpha_ok r k a ma) (beta_ok r k) ok₁ flags₁ (room₁ a r.beta)
@@ -144,7 +144,7 @@ full_sets_exist m p w g C lp t₁ t₂ width buffers₁ buffers₂ lw ok₁ ok�
     let few₂ : length (entries p t₂) ≤ 67108864 = entries-few m p t₂ g (ledgered m p t₂ ok₂).one in
     let few : tuples_met p t₁ t₂ ≤ 134217728 = met-few m p t₁ t₂ g ok₁ ok₂ in
     let many : babybear * babybear * babybear * babybear ≤ p * p * p * p = fourth_least p lp in
-    full-set_exists m p w C t₁ t₂ width buffers₁ buffers₂ ok₁ ok₂ flags₁ flags₂ room₁ room₂
+    full_set_exists m p w C t₁ t₂ width buffers₁ buffers₂ ok₁ ok₂ flags₁ flags₂ room₁ room₂
     (omega arith) (betas-few p width (tuples_met p t₁ t₂) lp lw few)
 
 -- a full set for two tables as a rule reads them is one for the lent tables

@@ -169,17 +169,17 @@ module _ (field : ℕ) (ok : T (known_field field)) where
       attained.1 attained.2
 
   -- so n - 2 for n - 1 is too few
-  pub not_one-alpha-less : ¬ AtMostPass limits p (generate_in field 1) (λ width n. p ^ 4 * ((width - 1) * n * (n - 1) / 2 + (n - 2)))
-  not_one-alpha-less claim =
+  pub not_one_alpha-less : ¬ AtMostPass limits p (generate_in field 1) (λ width n. p ^ 4 * ((width - 1) * n * (n - 1) / 2 + (n - 2)))
+  not_one_alpha-less claim =
       let (pairs, dist, pass, many) = attained in
       none_pass (p ^ 4) (length pairs) many-elements (many ∙ ap (passing_pairs p 1) two-met)
       (subst (λ (n : ℕ). length pairs ≤ p ^ 4 * (0 * n * (n - 1) / 2 + (n - 2))) two-met
       (claim low high m_bus 1 pairs buffers buffers both-tables ledgers_differ dist pass))
 
-  passes_nearly_every-alpha : (b : ℕ) → b < p → combine p w (lift b) (1 ∷ 0 ∷ 0 ∷ []) ≡ lift 1 → combine p w (lift b) (0 ∷ 0 ∷ 1 ∷ []) ≡ lift 1
+  passes_nearly_every_alpha : (b : ℕ) → b < p → combine p w (lift b) (1 ∷ 0 ∷ 0 ∷ []) ≡ lift 1 → combine p w (lift b) (0 ∷ 0 ∷ 1 ∷ []) ≡ lift 1
       → (a : List ℕ) → Element p a → a ≢ lift 1
       → Passes p (generate_in field 1) left_table right_table buffers buffers (record { alpha = a; beta = lift b })
-  passes_nearly_every-alpha b lb e₁ e₂ a ea n =
+  passes_nearly_every_alpha b lb e₁ e₂ a ea n =
       let k = triple_holds field ok in
       subst (λ (g : Generation). Passes p g left_table right_table buffers buffers (record { alpha = a; beta = lift b })) (sym is_generation)
       (passes limits p w M C (1 ∷ 0 ∷ 0 ∷ []) (0 ∷ 0 ∷ 1 ∷ []) 1 1 (of_true k.0) (of_true k.1.0) (left_is p) (right_is p) a (lift b) ea
@@ -237,7 +237,7 @@ module _ (field : ℕ) (ok : T (known_field field)) where
         one-beta b lb e₁ e₂ k =
             let (a, ma, is) = Memᴰ.of_map (with_beta (lift b)) l k in
             subst (Passes p (generate_in field 1) left_table right_table buffers buffers) is
-            (passes_nearly_every-alpha b lb e₁ e₂ a (elements_are p pos a (f.within a ma)) (f.good a ma (lift 1) (Memᴰ.head refl)))
+            (passes_nearly_every_alpha b lb e₁ e₂ a (elements_are p pos a (f.within a ma)) (f.good a ma (lift 1) (Memᴰ.head refl)))
 
     refuted : ¬ AtMostPass limits p (generate_in field 1) (λ width n. p ^ 4 * (n - 1))
     refuted claim =

@@ -12,10 +12,10 @@ use Rattle.theorems_logup.specs.Inverse.{inverse, minus}
 use Rattle.theorems_logup.specs.Tables as Tables
 use Rattle.expression.specs.declared.sizes.Limits.{Limits}
 use Rattle.lookup.specs.Lookups.{tuple_count, exclusive, lookup_at, name_start, tuple_start, tuple_width}
-use Rattle.logup.specs.Tuple.{tuple, combine}
+use Rattle.logup.specs.Tuple.{combine}
 use Rattle.logup.specs.Rows.{used}
 use Rattle.logup.specs.Generation.{generation, terminal_words}
-use Rattle.logup.specs.Ledger.{has_ledger, Entry, Element, count, entries}
+use Rattle.logup.specs.Ledger.{has_ledger, Entry, Element, entries}
 use Rattle.theorems_soundness.specs.Soundness.{AllWide, OnBus, Comparable, AcceptedAt, answer_at}
 use Rattle.theorems_soundness.specs.Error.{Passes}
 use Rattle.theorems_soundness.specs.Lawful.{flag_at, LawfulFlags}
@@ -124,7 +124,7 @@ module _ (m : Limits) (p w : ℕ) (M : Modulus p) (C : Certificate p w) where
       → Passes p (generation m p w) (one es₁ c₁) (one es₂ c₂) buffers buffers (record { alpha = a; beta = b })
   passes es₁ es₂ c₁ c₂ ok₁ ok₂ is₁ is₂ a b ea eb off₁ off₂ same =
       record {
-        challenges = record { alpha-element = ea; beta-element = eb };
+        challenges = record { alpha_element = ea; beta_element = eb };
         accepted₁ = accepted es₁ c₁ ok₁ is₁ a b ea eb off₁;
         accepted₂ = accepted es₂ c₂ ok₂ is₂ a b ea eb off₂;
         agree =

@@ -47,20 +47,20 @@ module _ (p w : ℕ) (C : Certificate p w) where
         betas =
             subst Distinct (sym (betas-map set))
             (distinct-map (el p w C) (map (λ (r : Pairing (List ℕ)). r.beta) set) (λ x y mx my. same_of_el p w C x y (beta_ok x mx) (beta_ok y my)) f.betas);
-        betas-many = length-map set in_field ∙ f.betas-many;
+        betas_many = length-map set in_field ∙ f.betas_many;
         alphas =
             λ r k.
             let (r₀, k₀, at) = Memᴰ.of_map in_field set k in
             subst (λ (r : Pairing (KEl p w C)). Distinct r.alphas) at
-            (distinct-map (el p w C) r₀.alphas (λ x y mx my. same_of_el p w C x y (f.alpha-element r₀ k₀ x mx) (f.alpha-element r₀ k₀ y my)) (f.alphas r₀ k₀));
-        alphas-many =
+            (distinct-map (el p w C) r₀.alphas (λ x y mx my. same_of_el p w C x y (f.alpha_element r₀ k₀ x mx) (f.alpha_element r₀ k₀ y my)) (f.alphas r₀ k₀));
+        alphas_many =
             λ r k.
             let (r₀, k₀, at) = Memᴰ.of_map in_field set k in
-            subst (λ (r : Pairing (KEl p w C)). length r.alphas ≡ n) at (length-map r₀.alphas (el p w C) ∙ f.alphas-many r₀ k₀);
+            subst (λ (r : Pairing (KEl p w C)). length r.alphas ≡ n) at (length-map r₀.alphas (el p w C) ∙ f.alphas_many r₀ k₀);
         accepted = (each-pair set (λ α β. Tables.Accepts (K p w C) (N p w C) α β E₁ × Tables.Accepts (K p w C) (N p w C) α β E₂)).0 acc;
       }
     where
       beta_ok : (x : List ℕ) → Memᴰ x (map (λ (r : Pairing (List ℕ)). r.beta) set) → Element p x
       beta_ok x mx =
           let (r, k, at) = Memᴰ.of_map (λ (r : Pairing (List ℕ)). r.beta) set mx in
-          subst (Element p) at (f.beta-element r k)
+          subst (Element p) at (f.beta_element r k)

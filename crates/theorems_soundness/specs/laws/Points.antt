@@ -114,10 +114,10 @@ module _ (p : ℕ) (pos : 0 < p) where
   unfolding element-pairs
   element-pairs-distinct = points_distinct pair pair_injective (q * q)
 
-  pub element-pairs_are : (c : Pair (List ℕ)) → Memᴰ c element-pairs → Challenges p c
+  pub element_pairs_are : (c : Pair (List ℕ)) → Memᴰ c element-pairs → Challenges p c
   unfolding element-pairs
-  element-pairs_are c m =
+  element_pairs_are c m =
       let (k, l, e) = points_member pair (q * q) c m in
       let some : 0 < q = mul-pos (mul-pos (mul-pos pos pos) pos) pos in
       subst (Challenges p) (sym e)
-      (record { alpha-element = digits-element (k % q) (mod-lt k some); beta-element = digits-element (k / q) (smaller q k q some l) })
+      (record { alpha_element = digits-element (k % q) (mod-lt k some); beta_element = digits-element (k / q) (smaller q k q some l) })

@@ -209,8 +209,8 @@ module _ (rule : ℕ) where
       ∙ length-map (met (entries p t₁ ++ entries p t₂)) (ordered rule)
 
   -- two tables have equal ledgers exactly where they have them as the rule reads them
-  pub same-ledger_under : (p width : ℕ) (t₁ t₂ : Table) → SameLedger p width (table_under rule t₁) (table_under rule t₂) ↔ SameLedger p width t₁ t₂
-  same-ledger_under p width t₁ t₂ = (
+  pub same_ledger_under : (p width : ℕ) (t₁ t₂ : Table) → SameLedger p width (table_under rule t₁) (table_under rule t₂) ↔ SameLedger p width t₁ t₂
+  same_ledger_under p width t₁ t₂ = (
     λ same l k. sym (ledger-ordered p t₁ l) ∙ same (ordered rule l) (listed-ordered k) ∙ ledger-ordered p t₂ l,
     λ same l k. sym (back t₁ l) ∙ same (ordered rule l) (listed-ordered k) ∙ back t₂ l,
   )

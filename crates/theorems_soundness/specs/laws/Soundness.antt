@@ -23,12 +23,12 @@ use Rattle.logup.specs.Generation.{generation}
 use Rattle.logup.specs.Ledger.{has_ledger, Entry, entries, tuples_met, Element, Listed, at_pair}
 use Rattle.theorems_soundness.specs.Soundness.{FullSet, AllWide, Buffers, answer_at, AcceptedAt, AgreeAt, AtEachPair, TerminalsDetermineLedgers, LogUpSoundness, KnownSoundness}
 use Rattle.theorems_soundness.specs.Entries.{N}
-use Rattle.theorems_soundness.specs.laws.Choices.{UnderEachRule, of_every-field}
+use Rattle.theorems_soundness.specs.laws.Choices.{UnderEachRule, of_every_field}
 use Rattle.theorems_soundness.specs.laws.Setting.{same_of_el}
 use Rattle.theorems_soundness.specs.laws.Pairs.{in_field, each-pair, full}
 use Rattle.theorems_soundness.specs.laws.Values.{fitting_of}
 use Rattle.theorems_soundness.specs.laws.Ledgers.{ledger_is, met_is, table_of}
-use Rattle.theorems_soundness.specs.laws.Rule.{met_under, same-ledger_under, comparable_under}
+use Rattle.theorems_soundness.specs.laws.Rule.{met_under, same_ledger_under, comparable_under}
 use Rattle.theorems_soundness.specs.laws.Entered.{ledgered}
 use Rattle.theorems_soundness.specs.laws.Answers.{accepted_of}
 use Rattle.theorems_soundness.specs.laws.Terminals.{Sums, sums_of}
@@ -86,9 +86,9 @@ sums m p w M C t ok buffers a b ea eb acc =
 sums_at : (m : Limits) (p w : ℕ) (M : Modulus p) (C : Certificate p w) (t : Table) (buffers : Buffers) (ok : T (has_ledger m p t))
     (width n : ℕ) (set : List (Pairing (List ℕ))) (f : FullSet p width n set) → AtEachPair set (AcceptedAt (generation m p w) t buffers)
     → (r : Pairing (List ℕ)) (k : Memᴰ r set) (a : List ℕ) (ma : Memᴰ a r.alphas)
-    → Sums m p w M C t a r.beta (words_of m p t ok) (f.alpha-element r k a ma) (f.beta-element r k) (answer_at (generation m p w) t buffers a r.beta)
+    → Sums m p w M C t a r.beta (words_of m p t ok) (f.alpha_element r k a ma) (f.beta_element r k) (answer_at (generation m p w) t buffers a r.beta)
 sums_at m p w M C t buffers ok width n set f acc r k a ma =
-    sums m p w M C t ok buffers a r.beta (f.alpha-element r k a ma) (f.beta-element r k) (acc r k a ma)
+    sums m p w M C t ok buffers a r.beta (f.alpha_element r k a ma) (f.beta_element r k) (acc r k a ma)
 
 -- tables on any buses and tuples of any width
 module _ (m : Limits) (p w : ℕ) (M : Modulus p) (C : Certificate p w) (t₁ t₂ : Table) (width : ℕ) (set : List (Pairing (List ℕ)))
@@ -118,11 +118,11 @@ module _ (m : Limits) (p w : ℕ) (M : Modulus p) (C : Certificate p w) (t₁ t�
       T₂ = table_of p w M C t₂ (words_of m p t₂ ok₂) (fits_of m p t₂ ok₂) width wide₂
 
       at₁ : (r : Pairing (List ℕ)) (k : Memᴰ r set) (a : List ℕ) (ma : Memᴰ a r.alphas)
-          → Sums m p w M C t₁ a r.beta (words_of m p t₁ ok₁) (f.alpha-element r k a ma) (f.beta-element r k) (answer_at (generation m p w) t₁ buffers₁ a r.beta)
+          → Sums m p w M C t₁ a r.beta (words_of m p t₁ ok₁) (f.alpha_element r k a ma) (f.beta_element r k) (answer_at (generation m p w) t₁ buffers₁ a r.beta)
       at₁ = sums_at m p w M C t₁ buffers₁ ok₁ width (tuples_met p t₁ t₂) set f acc₁
 
       at₂ : (r : Pairing (List ℕ)) (k : Memᴰ r set) (a : List ℕ) (ma : Memᴰ a r.alphas)
-          → Sums m p w M C t₂ a r.beta (words_of m p t₂ ok₂) (f.alpha-element r k a ma) (f.beta-element r k) (answer_at (generation m p w) t₂ buffers₂ a r.beta)
+          → Sums m p w M C t₂ a r.beta (words_of m p t₂ ok₂) (f.alpha_element r k a ma) (f.beta_element r k) (answer_at (generation m p w) t₂ buffers₂ a r.beta)
       at₂ = sums_at m p w M C t₂ buffers₂ ok₂ width (tuples_met p t₁ t₂) set f acc₂
 
       n_is : tuples_met p t₁ t₂ ≡ length (support (K p w C) (N p w C) (E₁ ++ E₂))
@@ -155,7 +155,7 @@ terminals_determine_ledgers m p w M C t₁ t₂ bus width set buffers₁ buffers
 soundness_under : UnderEachRule LogUpSoundness
 unfolding at_pair
 soundness_under m p g rule sound t₁ t₂ bus width set buffers₁ buffers₂ c f acc₁ acc₂ =
-    let same = same-ledger_under rule p width t₁ t₂ in
+    let same = same_ledger_under rule p width t₁ t₂ in
     let both =
     sound (table_under rule t₁) (table_under rule t₂) bus width set buffers₁ buffers₂ (comparable_under rule c)
     (subst (λ (n : ℕ). FullSet p width n set) (sym (met_under rule p t₁ t₂)) f) acc₁ acc₂ in
@@ -163,4 +163,4 @@ soundness_under m p g rule sound t₁ t₂ bus width set buffers₁ buffers₂ c
 
 -- and so in each field, at the entry point
 pub logup_soundness : KnownSoundness
-logup_soundness = of_every-field LogUpSoundness soundness_under terminals_determine_ledgers
+logup_soundness = of_every_field LogUpSoundness soundness_under terminals_determine_ledgers

@@ -70,9 +70,9 @@ module _ (p w : ℕ) (l : Lookups) (challenges : List ℕ) (values : ℕ → Lis
             (le-ltb (r + 1) height l)) ∙ d);
       }
 
-  of_row-holds : (r : ℕ) → RowHolds r → row r ≡ none
+  of_row_holds : (r : ℕ) → RowHolds r → row r ≡ none
   unfolding row_verdict
-  of_row-holds r v =
+  of_row_holds r v =
       both_none _ _ (first-all _ n (λ i l. (vanish_iff (by_lookup r i) r i).1 (v.lookups i l)))
       (both_none _ _ (first_case (eqb r 0) refl) (last_case (ltb (r + 1) height) refl))
     where
@@ -87,7 +87,7 @@ module _ (p w : ℕ) (l : Lookups) (challenges : List ℕ) (values : ℕ → Lis
 
   vanish : (rows_verdict p w l challenges values width words e height ≡ none) ↔ Vanishes p w l challenges values height width words e
   unfolding rows_verdict
-  vanish = (λ v r k. row-holds r (first_none row height r v k), λ v. first-all row height (λ r k. of_row-holds r (v r k)))
+  vanish = (λ v r k. row-holds r (first_none row height r v k), λ v. first-all row height (λ r k. of_row_holds r (v r k)))
 
 pub passes_exactly : (p w : ℕ) → PassesExactly p w
 passes_exactly p w l challenges values height width words e = vanish p w l challenges values height width words e

@@ -1,81 +1,24 @@
 use Rattle.lookup.specs.laws.Sizes.{part-within}
 use Rattle.balance.specs.laws.Accumulate.{starts-within, traces-cut, nodes-cut, member_able, member-entered, table_there, few-rows, start_in}
-use native.Mathlib.Omega.{arith}
-use borrow.Author.Rules.{rules}
 use Rattle.balance.specs.Tables.{table_sizes, main_count_size, preprocessed_count_size, public_value_count_size, node_count_size}
 use Rattle.expression.specs.Node.{node_words}
 use Rattle.balance.proofs.accumulate.accumulate_lookup.Goals as goal
-
-pub table_of-t-requires : goal.table_of-t-requires
-table_of-t-requires c = c.requires.0.tables
-
-pub shape_of-shape-requires : goal.shape_of-shape-requires
-shape_of-shape-requires c =
-    (table_there _ _ c.requires.0 _ c.requires.1 c.table_of-t.ensures, c.requires.0.tables)
-
-pub part_start-main_start-requires : goal.part_start-main_start-requires
-part_start-main_start-requires c =
-    (search rules, search rules, search rules, omega (arith, table_there _ _ c.requires.0 _ c.requires.1 c.table_of-t.ensures, c.requires.0.tables))
-
-pub part_end-main_end-requires : goal.part_end-main_end-requires
-part_end-main_end-requires c =
-    (search rules, search rules, search rules, omega (arith, table_there _ _ c.requires.0 _ c.requires.1 c.table_of-t.ensures, c.requires.0.tables))
-
-pub part_start-preprocessed_start-requires : goal.part_start-preprocessed_start-requires
-part_start-preprocessed_start-requires c =
-    (search rules, search rules, search rules, omega (arith, table_there _ _ c.requires.0 _ c.requires.1 c.table_of-t.ensures, c.requires.0.tables))
-
-pub part_end-preprocessed_end-requires : goal.part_end-preprocessed_end-requires
-part_end-preprocessed_end-requires c =
-    (search rules, search rules, search rules, omega (arith, table_there _ _ c.requires.0 _ c.requires.1 c.table_of-t.ensures, c.requires.0.tables))
-
-pub part_start-public_values_start-requires : goal.part_start-public_values_start-requires
-part_start-public_values_start-requires c =
-    (search rules, search rules, search rules, omega (arith, table_there _ _ c.requires.0 _ c.requires.1 c.table_of-t.ensures, c.requires.0.tables))
-
-pub part_end-public_values_end-requires : goal.part_end-public_values_end-requires
-part_end-public_values_end-requires c =
-    (search rules, search rules, search rules, omega (arith, table_there _ _ c.requires.0 _ c.requires.1 c.table_of-t.ensures, c.requires.0.tables))
-
-pub part_start-nodes_start-requires : goal.part_start-nodes_start-requires
-part_start-nodes_start-requires c =
-    (search rules, search rules, search rules, omega (arith, table_there _ _ c.requires.0 _ c.requires.1 c.table_of-t.ensures, c.requires.0.tables))
-
-pub part_end-nodes_end-requires : goal.part_end-nodes_end-requires
-part_end-nodes_end-requires c =
-    (search rules, search rules, search rules, omega (arith, table_there _ _ c.requires.0 _ c.requires.1 c.table_of-t.ensures, c.requires.0.tables))
 
 pub lookup_starts-starts-requires : goal.lookup_starts-starts-requires
 lookup_starts-starts-requires c =
     start_in _ _ c.requires.0 _ c.requires.1
 
-pub slice_bounds-accumulate_rows-start : goal.slice_bounds-accumulate_rows-start
-slice_bounds-accumulate_rows-start c =
-    omega (arith, c.part_start-main_start.ensures.0, c.part_end-main_end.ensures.0)
-
 pub slice_bounds-accumulate_rows-end : goal.slice_bounds-accumulate_rows-end
 slice_bounds-accumulate_rows-end c =
     part-within table_sizes c.args.sizes.now c.args.main.now main_count_size 1 _ _ (table_there _ _ c.requires.0 _ c.requires.1 c.table_of-t.ensures) c.requires.0.main c.part_end-main_end.ensures.0
-
-pub slice_bounds-accumulate_rows-start-2 : goal.slice_bounds-accumulate_rows-start-2
-slice_bounds-accumulate_rows-start-2 c =
-    omega (arith, c.part_start-preprocessed_start.ensures.0, c.part_end-preprocessed_end.ensures.0)
 
 pub slice_bounds-accumulate_rows-end-2 : goal.slice_bounds-accumulate_rows-end-2
 slice_bounds-accumulate_rows-end-2 c =
     part-within table_sizes c.args.sizes.now c.args.preprocessed.now preprocessed_count_size 1 _ _ (table_there _ _ c.requires.0 _ c.requires.1 c.table_of-t.ensures) c.requires.0.preprocessed c.part_end-preprocessed_end.ensures.0
 
-pub slice_bounds-accumulate_rows-start-3 : goal.slice_bounds-accumulate_rows-start-3
-slice_bounds-accumulate_rows-start-3 c =
-    omega (arith, c.part_start-public_values_start.ensures.0, c.part_end-public_values_end.ensures.0)
-
 pub slice_bounds-accumulate_rows-end-3 : goal.slice_bounds-accumulate_rows-end-3
 slice_bounds-accumulate_rows-end-3 c =
     part-within table_sizes c.args.sizes.now c.args.public_values.now public_value_count_size 1 _ _ (table_there _ _ c.requires.0 _ c.requires.1 c.table_of-t.ensures) c.requires.0.public_values c.part_end-public_values_end.ensures.0
-
-pub slice_bounds-accumulate_rows-start-4 : goal.slice_bounds-accumulate_rows-start-4
-slice_bounds-accumulate_rows-start-4 c =
-    omega (arith, c.part_start-nodes_start.ensures.0, c.part_end-nodes_end.ensures.0)
 
 pub slice_bounds-accumulate_rows-end-4 : goal.slice_bounds-accumulate_rows-end-4
 slice_bounds-accumulate_rows-end-4 c =

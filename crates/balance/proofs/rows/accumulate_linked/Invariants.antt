@@ -2,8 +2,7 @@ use Rattle.balance.specs.inner.LookupStarts.{part_lists, source}
 use Prim.Native.Nat.{◌-◌}
 use Rattle.expression.specs.Window.{lent_traces}
 use Rattle.balance_slots.specs.inner.Chain.{plain_work}
-use Rattle.balance.proofs.RowsLoops.{RowsLoop, rows_loop_begins, rows_loop_turn, rows_loop_ends}
-use borrow.Author.Rules.{rules}
+use Rattle.balance.proofs.RowsLoops.{RowsLoop}
 use Rattle.balance.proofs.rows.accumulate_linked.Given as goal
 
 abbrev pub invariant-loop-r : goal.invariant-loop-r

@@ -1,5 +1,4 @@
-use Rattle.balance.proofs.RowsLoops.{row_skipped, row-entered, front_below}
-use borrow.Author.Rules.{rules}
+use Rattle.balance.proofs.RowsLoops.{row_skipped, front_below}
 use Rattle.balance.proofs.rows.accumulate_row.Goals as goal
 
 pub returns-then-u : goal.returns-then-u
@@ -8,7 +7,3 @@ returns-then-u c = row_skipped _ _ c.requires.2 c.if-u.true
 pub add_tuples-requires : goal.add_tuples-requires
 add_tuples-requires c =
     (c.requires.0.modulus, front_below _ _ _ _ c.requires.0 c.row_values.ensures.1, c.requires.2, c.requires.3)
-
-pub returns : goal.returns
-returns c =
-    row-entered _ _ _ _ _ _ _ c.row_values.ensures.1 c.add_tuples.ensures

@@ -1,14 +1,11 @@
-use Rattle.balance.specs.inner.LookupStarts.{part_lists}
 use native.Mathlib.Omega.{arith}
-use Prim.Native.Nat.{◌-◌}
-use Rattle.balance_slots.specs.inner.Chain.{plain_work}
-use Rattle.balance.proofs.RowsLoops.{AddTuplesLoop, add-tuples_loop_begins, add-tuples_loop_turn, add-tuples_loop_ends, part-narrow, ends_in}
+use Rattle.balance.proofs.RowsLoops.{add_tuples_loop_begins, add_tuples_loop_turn, add_tuples_loop_ends, ends_in}
 use borrow.Author.Rules.{rules}
 use Rattle.balance.proofs.rows.add_tuples.Goals as goal
 
 pub loop-k-init : goal.loop-k-init
 loop-k-init c =
-    add-tuples_loop_begins c.requires.3 c.requires.2 (search rules)
+    add_tuples_loop_begins c.requires.3 c.requires.2 (search rules)
 
 pub overflow_add-end : goal.overflow_add-end
 overflow_add-end c =
@@ -17,34 +14,21 @@ overflow_add-end c =
       ends_in c.requires.3 c.loop-k-test.true c.loop-k.invariant.here c.to_usize.ensures.0,
     )
 
-pub entry_count-times-requires : goal.entry_count-times-requires
-entry_count-times-requires c = (
-  search rules,
-  search rules,
-  omega (arith, c.requires.3.multiplicities_in, c.loop-k-test.true),
-  λ x. omega (
-    arith,
-    c.requires.3.flags_in x,
-    c.loop-k-test.true,
-  ),
-)
-
 pub slice_bounds-add_tuple-end : goal.slice_bounds-add_tuple-end
 slice_bounds-add_tuple-end c =
     ends_in c.requires.3 c.loop-k-test.true c.loop-k.invariant.here c.to_usize.ensures.0
 
-pub add_tuple-next-requires : goal.add_tuple-next-requires
-add_tuple-next-requires c =
-    (search rules, part-narrow _ _ c.to_usize.ensures.0 (c.requires.3.narrow _), c.loop-k.invariant.ready)
-
-pub overflow_add-k : goal.overflow_add-k
-overflow_add-k c =
-    omega (arith, c.loop-k-test.true, c.loop-k.invariant.few)
+pub offset_bounds-elements-at : goal.offset_bounds-elements-at
+offset_bounds-elements-at c =
+    omega (
+      arith,
+      ends_in c.requires.3 c.loop-k-test.true c.loop-k.invariant.here c.to_usize.ensures.0,
+    )
 
 pub loop-k-preserved : goal.loop-k-preserved
 loop-k-preserved c =
-    add-tuples_loop_turn c.loop-k.invariant c.loop-k-test.true c.to_usize.ensures.0 c.entry_count-times.ensures c.add_tuple-next.ensures (search
+    add_tuples_loop_turn c.loop-k.invariant c.loop-k-test.true c.to_usize.ensures.0 c.entry_count-times.ensures c.add_tuple-next.ensures (search
     rules) (search rules)
 
 pub returns : goal.returns
-returns c = add-tuples_loop_ends c.loop-k.invariant c.loop-k-test.false
+returns c = add_tuples_loop_ends c.loop-k.invariant c.loop-k-test.false

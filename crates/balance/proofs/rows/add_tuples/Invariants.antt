@@ -1,9 +1,7 @@
 use Rattle.balance.specs.inner.LookupStarts.{part_lists}
-use native.Mathlib.Omega.{arith}
 use Prim.Native.Nat.{◌-◌}
 use Rattle.balance_slots.specs.inner.Chain.{plain_work}
-use Rattle.balance.proofs.RowsLoops.{AddTuplesLoop, add-tuples_loop_begins, add-tuples_loop_turn, add-tuples_loop_ends, part-narrow, ends_in}
-use borrow.Author.Rules.{rules}
+use Rattle.balance.proofs.RowsLoops.{AddTuplesLoop}
 use Rattle.balance.proofs.rows.add_tuples.Given as goal
 
 abbrev pub invariant-loop-k : goal.invariant-loop-k

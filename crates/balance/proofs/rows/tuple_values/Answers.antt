@@ -1,11 +1,6 @@
-use Rattle.balance.proofs.RowsLoops.{TupleValuesLoop, value-begins, value_turn, value-ends}
-use lib.ListN.{length}
-use Prim.Native.Nat.{◌-◌}
+use Rattle.balance.proofs.RowsLoops.{value_turn, value-ends}
 use borrow.Author.Rules.{rules}
 use Rattle.balance.proofs.rows.tuple_values.Goals as goal
-
-pub loop-j-init : goal.loop-j-init
-loop-j-init c = value-begins (search rules)
 
 pub loop-j-preserved : goal.loop-j-preserved
 loop-j-preserved c = value_turn c.loop-j.invariant (search rules) c.word_at-v.ensures c.to_usize.ensures.0

@@ -1,7 +1,6 @@
-use Rattle.balance.proofs.RowsLoops.{TupleValuesLoop, value-begins, value_turn, value-ends}
+use Rattle.balance.proofs.RowsLoops.{TupleValuesLoop}
 use lib.ListN.{length}
 use Prim.Native.Nat.{◌-◌}
-use borrow.Author.Rules.{rules}
 use Rattle.balance.proofs.rows.tuple_values.Given as goal
 
 abbrev pub invariant-loop-j : goal.invariant-loop-j

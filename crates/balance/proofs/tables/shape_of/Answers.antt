@@ -1,5 +1,4 @@
 use Rattle.balance.proofs.TablesLoops.{shape_is}
-use borrow.Author.Rules.{rules}
 use Rattle.balance.proofs.tables.shape_of.Goals as goal
 
 pub returns : goal.returns

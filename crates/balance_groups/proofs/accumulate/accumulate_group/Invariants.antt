@@ -1,11 +1,8 @@
-use mathlib.Core.Logic.{⊎_elim}
-use mathlib.Core.Path.{◌∙◌}
 use Prim.Native.Nat.{◌-◌}
 use Rattle.lookup.specs.Lookups.{lookup_count}
 use Rattle.balance.specs.Tables.{lent_tables}
 use Rattle.balance_slots.specs.inner.Work.{work}
-use Rattle.balance_groups.proofs.AccumulateLoops.{GroupLoop, group_loop_begins, group_loop_one, group_loop_none, group_loop_ends}
-use borrow.Author.Rules.{rules}
+use Rattle.balance_groups.proofs.AccumulateLoops.{GroupLoop}
 use Rattle.balance_groups.proofs.accumulate.accumulate_group.Given as goal
 
 abbrev pub invariant-loop-k : goal.invariant-loop-k

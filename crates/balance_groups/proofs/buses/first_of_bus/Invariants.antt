@@ -1,7 +1,5 @@
-use mathlib.Core.Path.{◌∙◌}
 use Prim.Native.Nat.{◌-◌}
-use Rattle.balance_groups.proofs.AccumulateLoops.{FirstOfBusLoop, first_of_bus_loop_begins, first_of_bus_loop_turn, first_of_bus_loop_ends}
-use borrow.Author.Rules.{rules}
+use Rattle.balance_groups.proofs.AccumulateLoops.{FirstOfBusLoop}
 use Rattle.balance_groups.proofs.buses.first_of_bus.Given as goal
 
 abbrev pub invariant-loop-k : goal.invariant-loop-k

@@ -1,13 +1,12 @@
-use mathlib.Core.Path.{◌∙◌}
+use Rattle.std.proofs.Common.{not, ap, ◌∙◌}
 use Rattle.balance_groups.proofs.AccumulateLoops.{name_in, name_is, same_group-local, same_group_not, same_group-named}
-use borrow.Author.Rules.{rules}
 use Rattle.balance_groups.proofs.buses.same_group.Goals as goal
 
 pub returns-then-not-on_bus : goal.returns-then-not-on_bus
-returns-then-not-on_bus c = same_group-local _ _ _ _ c.on_bus.ensures c.if-not-on_bus.true
+returns-then-not-on_bus c = same_group-local _ _ _ _ c.on_bus.ensures (ap not c.if-not-on_bus.true)
 
 pub returns-then-not-on_bus-2 : goal.returns-then-not-on_bus-2
-returns-then-not-on_bus-2 c = same_group_not _ _ _ _ c.on_bus.ensures c.if-not-on_bus.false c.on_bus-2.ensures c.if-not-on_bus-2.true
+returns-then-not-on_bus-2 c = same_group_not _ _ _ _ c.on_bus.ensures (ap not c.if-not-on_bus.false) c.on_bus-2.ensures (ap not c.if-not-on_bus-2.true)
 
 pub slice_bounds-same_bytes-end : goal.slice_bounds-same_bytes-end
 slice_bounds-same_bytes-end c =
@@ -19,5 +18,5 @@ slice_bounds-same_bytes-end-2 c =
 
 pub returns : goal.returns
 returns c =
-    same_group-named c.args.lookups.now c.args.names.now c.args.m c.args.k c.on_bus.ensures c.if-not-on_bus.false
-    c.on_bus-2.ensures c.if-not-on_bus-2.false (name_is c.args.lookups.now c.args.names.now c.args.m c.requires.3 (c.to_usize.ensures.0 ∙ c.name_length.ensures)) (name_is c.args.lookups.now c.args.names.now c.args.k c.requires.4 (c.to_usize-2.ensures.0 ∙ c.name_length-2.ensures)) c.same_bytes.ensures
+    same_group-named c.args.lookups.now c.args.names.now c.args.m c.args.k c.on_bus.ensures (ap not c.if-not-on_bus.false)
+    c.on_bus-2.ensures (ap not c.if-not-on_bus-2.false) (name_is c.args.lookups.now c.args.names.now c.args.m c.requires.3 (c.to_usize.ensures.0 ∙ c.name_length.ensures)) (name_is c.args.lookups.now c.args.names.now c.args.k c.requires.4 (c.to_usize-2.ensures.0 ∙ c.name_length-2.ensures)) c.same_bytes.ensures

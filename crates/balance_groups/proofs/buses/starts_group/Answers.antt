@@ -1,5 +1,4 @@
 use Rattle.balance_groups.proofs.AccumulateLoops.{starts_group-bus, starts_group-local}
-use borrow.Author.Rules.{rules}
 use Rattle.balance_groups.proofs.buses.starts_group.Goals as goal
 
 pub returns-then-buses : goal.returns-then-buses

@@ -1,13 +1,7 @@
 use lib.ListN.{length}
 use mathlib.Core.Path.{refl}
-use native.Mathlib.Omega.{arith}
 use Rattle.balance_groups.specs.laws.Visits.{entered, left}
-use borrow.Author.Rules.{rules}
 use Rattle.balance_groups.proofs.check.check_group.Goals as goal
-
-pub accumulate_group-u-requires : goal.accumulate_group-u-requires
-accumulate_group-u-requires c =
-    (c.requires.0, c.requires.1, omega arith)
 
 pub group_refusal-verdict-requires : goal.group_refusal-verdict-requires
 group_refusal-verdict-requires c = (

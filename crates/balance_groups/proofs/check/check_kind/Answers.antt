@@ -1,12 +1,6 @@
-use mathlib.Core.Logic.{⊎_elim}
-use Prim.Native.Nat.{◌-◌}
-use lib.ListN.{length}
-use Rattle.lookup.specs.Lookups.{lookup_count}
-use Rattle.balance.specs.Tables.{lent_tables}
-use Rattle.balance_groups.specs.inner.Visits.{visited_of}
-use Rattle.balance_groups.proofs.CheckLoops.{KindLoop, kind_loop_begins, kind_loop_one, kind_loop_none, kind_loop_ends}
-use borrow.Author.Rules.{rules}
+use Rattle.balance_groups.proofs.CheckLoops.{kind_loop_begins, kind_loop_one, kind_loop_none, kind_loop_ends}
 use Rattle.balance_groups.proofs.check.check_kind.Goals as goal
+use Rattle.balance_groups.proofs.check.check_kind.Goals.{then-starts_group-accepted, else-starts_group-accepted}
 
 pub loop-m-init : goal.loop-m-init
 loop-m-init c =
@@ -14,10 +8,10 @@ loop-m-init c =
 
 pub loop-m-preserved : goal.loop-m-preserved
 loop-m-preserved c =
-    ⊎_elim
-    (λ w. kind_loop_one c.loop-m.invariant c.loop-m-test.true c.starts_group.ensures c.accepted.ensures w.0.taken w.2.ensures (search rules) w.5 w.6)
-    (λ w. kind_loop_none c.loop-m.invariant c.loop-m-test.true c.starts_group.ensures c.accepted.ensures w.0.left w.1 w.2)
-    c.if-starts_group-accepted.branch
+    elim c.if-starts_group-accepted.branch [
+      | then-starts_group-accepted w ↦ kind_loop_one c.loop-m.invariant c.loop-m-test.true c.starts_group.ensures c.accepted.ensures w.if-starts_group-accepted.true w.check_group-next.ensures w.check_group-next.auto.workspace w.workspace-is w.checked-is
+      | else-starts_group-accepted w ↦ kind_loop_none c.loop-m.invariant c.loop-m-test.true c.starts_group.ensures c.accepted.ensures w.if-starts_group-accepted.false w.workspace-is w.checked-is
+    ]
 
 pub returns : goal.returns
 returns c = kind_loop_ends c.loop-m.invariant c.loop-m-test.false

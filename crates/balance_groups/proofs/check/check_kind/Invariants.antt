@@ -1,11 +1,9 @@
-use mathlib.Core.Logic.{⊎_elim}
 use Prim.Native.Nat.{◌-◌}
 use lib.ListN.{length}
 use Rattle.lookup.specs.Lookups.{lookup_count}
 use Rattle.balance.specs.Tables.{lent_tables}
 use Rattle.balance_groups.specs.inner.Visits.{visited_of}
-use Rattle.balance_groups.proofs.CheckLoops.{KindLoop, kind_loop_begins, kind_loop_one, kind_loop_none, kind_loop_ends}
-use borrow.Author.Rules.{rules}
+use Rattle.balance_groups.proofs.CheckLoops.{KindLoop}
 use Rattle.balance_groups.proofs.check.check_kind.Given as goal
 
 abbrev pub invariant-loop-m : goal.invariant-loop-m

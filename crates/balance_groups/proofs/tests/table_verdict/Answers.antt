@@ -2,7 +2,6 @@ use mathlib.Core.Path.{◌∙◌, ap₂}
 use Rattle.lists.specs.Count.{or_else}
 use Rattle.balance.specs.Refusals.{covered}
 use Rattle.balance_groups.specs.inner.Lowest.{one_refusal}
-use borrow.Author.Rules.{rules}
 use Rattle.balance_groups.proofs.tests.table_verdict.Goals as goal
 
 pub returns : goal.returns

@@ -3,13 +3,6 @@ use Rattle.balance_groups.specs.laws.Ranges.{lies}
 use Rattle.balance_groups.proofs.TestsLoops.{verdict_is}
 use Rattle.balance_groups.proofs.tests.verdict_at.Goals as goal
 
-pub shape_of-shape-requires : goal.shape_of-shape-requires
-shape_of-shape-requires c = let start = c.requires in (start.2, start.1.tables)
-
-pub table_ranges-ranges-requires : goal.table_ranges-ranges-requires
-table_ranges-ranges-requires c =
-    (c.requires.2, c.requires.1.tables)
-
 pub slice_bounds-table_verdict-count : goal.slice_bounds-table_verdict-count
 slice_bounds-table_verdict-count c =
     (lies c.requires.1 c.requires.2 c.table_ranges-ranges.ensures).main
@@ -130,9 +123,41 @@ pub slice_bounds-table_verdict-end-10 : goal.slice_bounds-table_verdict-end-10
 slice_bounds-table_verdict-end-10 c =
     (lies c.requires.1 c.requires.2 c.table_ranges-ranges.ensures).elements_end
 
-pub table_verdict-requires : goal.table_verdict-requires
-table_verdict-requires c =
-    c.requires.0
+pub offset_bounds-main-main_start : goal.offset_bounds-main-main_start
+offset_bounds-main-main_start c =
+    let r = lies c.requires.1 c.requires.2 c.table_ranges-ranges.ensures in omega (arith, r.main, r.main_end)
+
+pub offset_bounds-preprocessed-preprocessed_start : goal.offset_bounds-preprocessed-preprocessed_start
+offset_bounds-preprocessed-preprocessed_start c =
+    let r = lies c.requires.1 c.requires.2 c.table_ranges-ranges.ensures in omega (arith, r.preprocessed, r.preprocessed_end)
+
+pub offset_bounds-public_values-public_values_start : goal.offset_bounds-public_values-public_values_start
+offset_bounds-public_values-public_values_start c =
+    let r = lies c.requires.1 c.requires.2 c.table_ranges-ranges.ensures in omega (arith, r.public_values, r.public_values_end)
+
+pub offset_bounds-nodes-nodes_start : goal.offset_bounds-nodes-nodes_start
+offset_bounds-nodes-nodes_start c =
+    let r = lies c.requires.1 c.requires.2 c.table_ranges-ranges.ensures in omega (arith, r.nodes, r.nodes_end)
+
+pub offset_bounds-lookups-lookups_start : goal.offset_bounds-lookups-lookups_start
+offset_bounds-lookups-lookups_start c =
+    let r = lies c.requires.1 c.requires.2 c.table_ranges-ranges.ensures in omega (arith, r.lookups, r.lookups_end)
+
+pub offset_bounds-tuples-tuples_start : goal.offset_bounds-tuples-tuples_start
+offset_bounds-tuples-tuples_start c =
+    let r = lies c.requires.1 c.requires.2 c.table_ranges-ranges.ensures in omega (arith, r.tuples, r.tuples_end)
+
+pub offset_bounds-multiplicities-multiplicities_start : goal.offset_bounds-multiplicities-multiplicities_start
+offset_bounds-multiplicities-multiplicities_start c =
+    let r = lies c.requires.1 c.requires.2 c.table_ranges-ranges.ensures in omega (arith, r.multiplicities, r.multiplicities_end)
+
+pub offset_bounds-flags-flags_start : goal.offset_bounds-flags-flags_start
+offset_bounds-flags-flags_start c =
+    let r = lies c.requires.1 c.requires.2 c.table_ranges-ranges.ensures in omega (arith, r.flags, r.flags_end)
+
+pub offset_bounds-elements-elements_start : goal.offset_bounds-elements-elements_start
+offset_bounds-elements-elements_start c =
+    let r = lies c.requires.1 c.requires.2 c.table_ranges-ranges.ensures in omega (arith, r.elements, r.elements_end)
 
 pub returns : goal.returns
 returns c =

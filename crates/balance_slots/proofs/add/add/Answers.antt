@@ -1,5 +1,4 @@
 use Rattle.balance_slots.proofs.ChainsLoops.{step-full, step_skip, step-add}
-use borrow.Author.Rules.{rules}
 use Rattle.balance_slots.proofs.add.add.Goals as goal
 
 pub returns-then-v : goal.returns-then-v

@@ -1,5 +1,4 @@
 use Rattle.balance_slots.proofs.ChainsLoops.{add_nonzero_found, add_nonzero-full, add_nonzero_new}
-use borrow.Author.Rules.{rules}
 use Rattle.balance_slots.proofs.add.add_nonzero.Goals as goal
 
 pub returns-then-k-n : goal.returns-then-k-n

@@ -1,5 +1,4 @@
 use Rattle.balance_slots.proofs.ChainsLoops.{new_chained, new_linkable, new_linked}
-use borrow.Author.Rules.{rules}
 use Rattle.balance_slots.proofs.add.add_slot.Goals as goal
 
 pub returns-then-linked-n : goal.returns-then-linked-n

@@ -1,13 +1,7 @@
 use mathlib.Core.Path.{refl}
-use lib.Dec.{ltb}
-use lib.ListN.{length}
-use Prim.Native.Nat.{◌-◌}
-use Rattle.balance_slots.proofs.DecimalLoops.{LessLoop, agree-begins, agree_turn, agree_differs, agree_longer, agree-ends}
+use Rattle.balance_slots.proofs.DecimalLoops.{agree_turn, agree_differs, agree_longer, agree-ends}
 use borrow.Author.Rules.{rules}
 use Rattle.balance_slots.proofs.decimal.digits_less.Goals as goal
-
-pub loop-i-init : goal.loop-i-init
-loop-i-init c = agree-begins
 
 pub returns-then-y-i : goal.returns-then-y-i
 returns-then-y-i c = agree_longer c.loop-i.invariant (search rules) c.if-y-i.true

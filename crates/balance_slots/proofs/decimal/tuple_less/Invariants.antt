@@ -1,8 +1,7 @@
 use Rattle.balance_slots.specs.Decimal.{text_less}
 use lib.ListN.{length}
 use Prim.Native.Nat.{◌-◌}
-use Rattle.balance_slots.proofs.DecimalLoops.{LessLoop, agree-begins, agree_turn, agree_differs, agree_longer, agree-ends}
-use borrow.Author.Rules.{rules}
+use Rattle.balance_slots.proofs.DecimalLoops.{LessLoop}
 use Rattle.balance_slots.proofs.decimal.tuple_less.Given as goal
 
 abbrev pub invariant-loop-i : goal.invariant-loop-i

@@ -1,6 +1,5 @@
-use Rattle.balance_slots.proofs.ChainsLoops.{ChainLoop, walk_begins, walk_turn, walk_less, walk_ends}
+use Rattle.balance_slots.proofs.ChainsLoops.{walk_begins, walk_turn, walk_less}
 use mathlib.Core.Path.{refl}
-use borrow.Author.Rules.{rules}
 use Rattle.balance_slots.proofs.find.find.Goals as goal
 
 pub loop-cur-init : goal.loop-cur-init
@@ -14,6 +13,3 @@ pub loop-cur-preserved : goal.loop-cur-preserved
 loop-cur-preserved c =
     walk_turn c.loop-cur.invariant c.loop-cur-test.true refl c.older-next.ensures
     c.to_usize-cur-in-loop-cur.ensures.0
-
-pub returns : goal.returns
-returns c = walk_ends c.loop-cur.invariant c.loop-cur-test.false

@@ -1,6 +1,4 @@
-use Rattle.balance_slots.proofs.ChainsLoops.{ChainLoop, walk_begins, walk_turn, walk_less, walk_ends}
-use mathlib.Core.Path.{refl}
-use borrow.Author.Rules.{rules}
+use Rattle.balance_slots.proofs.ChainsLoops.{ChainLoop}
 use Rattle.balance_slots.proofs.find.find.Given as goal
 
 abbrev pub invariant-loop-cur : goal.invariant-loop-cur

@@ -1,5 +1,4 @@
 use Rattle.balance_slots.proofs.ChainsLoops.{older_width, older_yes, older_no}
-use borrow.Author.Rules.{rules}
 use Rattle.balance_slots.proofs.find.older.Goals as goal
 
 pub returns-then-to_usize-n : goal.returns-then-to_usize-n

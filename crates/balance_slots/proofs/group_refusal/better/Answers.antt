@@ -5,10 +5,6 @@ use Rattle.balance_slots.proofs.group_refusal.better.Goals as goal
 pub returns-then-workspace-k-eq0 : goal.returns-then-workspace-k-eq0
 returns-then-workspace-k-eq0 c = better_zero _ _ _ (search rules) c.if-workspace-k-eq0.true
 
-pub slot_less-requires : goal.slot_less-requires
-slot_less-requires c =
-    (search rules, search rules, c.requires.2 _ (search rules), c.requires.2 _ (search rules))
-
 pub returns-then-slot_less : goal.returns-then-slot_less
 returns-then-slot_less c = better_less _ _ _ c.if-workspace-k-eq0.false c.if-b.true c.slot_less.ensures c.if-slot_less.true
 

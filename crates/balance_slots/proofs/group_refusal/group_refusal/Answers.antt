@@ -1,6 +1,5 @@
 use Rattle.balance_slots.proofs.GroupRefusalLoops.{refusal-full, refusal-named, refusal_none}
 use mathlib.Core.Path.{refl, ◌∙◌}
-use borrow.Author.Rules.{rules}
 use Rattle.balance_slots.proofs.group_refusal.group_refusal.Goals as goal
 
 pub returns-then-u : goal.returns-then-u

@@ -1,17 +1,9 @@
-use Rattle.balance_slots.proofs.GroupRefusalLoops.{LeastLoop, least_loop_begins, least_loop_turn, least_loop_ends}
-use Prim.Native.Nat.{◌-◌}
-use native.Mathlib.Omega.{arith}
+use Rattle.balance_slots.proofs.GroupRefusalLoops.{least_loop_begins, least_loop_turn}
 use borrow.Author.Rules.{rules}
 use Rattle.balance_slots.proofs.group_refusal.least.Goals as goal
 
 pub loop-k-init : goal.loop-k-init
 loop-k-init c = least_loop_begins
 
-pub better-next-requires : goal.better-next-requires
-better-next-requires c = (search rules, search rules, λ j h. c.requires.1 j (omega (arith, c.loop-k-test.true)))
-
 pub loop-k-preserved : goal.loop-k-preserved
 loop-k-preserved c = least_loop_turn c.loop-k.invariant (search rules) c.better-next.ensures
-
-pub returns : goal.returns
-returns c = least_loop_ends c.loop-k.invariant (search rules)

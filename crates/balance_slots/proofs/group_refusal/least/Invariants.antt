@@ -1,7 +1,5 @@
-use Rattle.balance_slots.proofs.GroupRefusalLoops.{LeastLoop, least_loop_begins, least_loop_turn, least_loop_ends}
+use Rattle.balance_slots.proofs.GroupRefusalLoops.{LeastLoop}
 use Prim.Native.Nat.{◌-◌}
-use native.Mathlib.Omega.{arith}
-use borrow.Author.Rules.{rules}
 use Rattle.balance_slots.proofs.group_refusal.least.Given as goal
 
 abbrev pub invariant-loop-k : goal.invariant-loop-k

@@ -1,29 +1,11 @@
-use Prim.Native.Nat.{◌-◌}
-use Rattle.balance_slots.proofs.ChainsLoops.{HashLoop, hash_loop_begins, hash_loop_turn, hash_loop_ends, point_fits, factor-fits, step_fits, once-low, twice-low}
-use native.Mathlib.Omega.{arith}
-use borrow.Author.Rules.{rules}
+use Rattle.balance_slots.proofs.ChainsLoops.{hash_loop_begins, hash_loop_turn, hash_loop_ends}
 use Rattle.balance_slots.proofs.hash.hash.Goals as goal
 
 pub loop-j-init : goal.loop-j-init
 loop-j-init c = hash_loop_begins c.to_u64-point.ensures.1 c.to_u64-factor.ensures.1
 
-pub overflow_mul-x : goal.overflow_mul-x
-overflow_mul-x c = omega (arith, point_fits c.loop-j.invariant)
-
-pub overflow_add-x : goal.overflow_add-x
-overflow_add-x c = omega (arith, step_fits (point_fits c.loop-j.invariant) c.to_u64.ensures.1)
-
-pub overflow_add-y : goal.overflow_add-y
-overflow_add-y c = omega (arith, once-low _ (step_fits (point_fits c.loop-j.invariant) c.to_u64.ensures.1))
-
-pub overflow_add-h : goal.overflow_add-h
-overflow_add-h c = omega (arith, twice-low _ (once-low _ (step_fits (point_fits c.loop-j.invariant) c.to_u64.ensures.1)))
-
 pub loop-j-preserved : goal.loop-j-preserved
 loop-j-preserved c = hash_loop_turn c.loop-j.invariant c.loop-j-test.true c.to_u64.ensures.1 c.to_u64.ensures.0
-
-pub overflow_mul-result : goal.overflow_mul-result
-overflow_mul-result c = omega (arith, factor-fits c.loop-j.invariant)
 
 pub returns : goal.returns
 returns c = hash_loop_ends _ c.loop-j.invariant c.loop-j-test.false c.to_u64-point.ensures.0 c.to_u64-factor.ensures.0

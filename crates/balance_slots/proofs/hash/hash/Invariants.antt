@@ -1,7 +1,5 @@
 use Prim.Native.Nat.{◌-◌}
-use Rattle.balance_slots.proofs.ChainsLoops.{HashLoop, hash_loop_begins, hash_loop_turn, hash_loop_ends, point_fits, factor-fits, step_fits, once-low, twice-low}
-use native.Mathlib.Omega.{arith}
-use borrow.Author.Rules.{rules}
+use Rattle.balance_slots.proofs.ChainsLoops.{HashLoop}
 use Rattle.balance_slots.proofs.hash.hash.Given as goal
 
 abbrev pub invariant-loop-j : goal.invariant-loop-j

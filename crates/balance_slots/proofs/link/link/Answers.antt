@@ -1,6 +1,5 @@
 use Rattle.balance_slots.proofs.ChainsLoops.{link_low, link_is}
 use native.Mathlib.Omega.{arith}
-use borrow.Author.Rules.{rules}
 use Rattle.balance_slots.proofs.link.link.Goals as goal
 
 pub overflow_mul-workspace : goal.overflow_mul-workspace

@@ -1,6 +1,5 @@
-use Rattle.balance_slots.proofs.ChainsLoops.{LinkLoop, link_loop_begins, link_loop_turn, link_loop_stops, link_loop_ends}
+use Rattle.balance_slots.proofs.ChainsLoops.{LinkLoop}
 use Prim.Native.Nat.{◌-◌}
-use borrow.Author.Rules.{rules}
 use Rattle.balance_slots.proofs.link.link_slots.Given as goal
 
 abbrev pub invariant-loop-i : goal.invariant-loop-i

@@ -1,5 +1,4 @@
-use Prim.Native.Nat.{◌-◌}
-use Rattle.balance_slots.proofs.ChainsLoops.{UnlinkLoop, unlink_begins, unlink_turn, unlink_ends}
+use Rattle.balance_slots.proofs.ChainsLoops.{unlink_begins, unlink_turn}
 use borrow.Author.Rules.{rules}
 use Rattle.balance_slots.proofs.link.unlink_slots.Goals as goal
 
@@ -8,6 +7,3 @@ loop-i-init c = unlink_begins (search rules)
 
 pub loop-i-preserved : goal.loop-i-preserved
 loop-i-preserved c = unlink_turn c.loop-i.invariant (search rules)
-
-pub returns : goal.returns
-returns c = unlink_ends c.loop-i.invariant (search rules)

@@ -1,6 +1,5 @@
 use Prim.Native.Nat.{◌-◌}
-use Rattle.balance_slots.proofs.ChainsLoops.{UnlinkLoop, unlink_begins, unlink_turn, unlink_ends}
-use borrow.Author.Rules.{rules}
+use Rattle.balance_slots.proofs.ChainsLoops.{UnlinkLoop}
 use Rattle.balance_slots.proofs.link.unlink_slots.Given as goal
 
 abbrev pub invariant-loop-i : goal.invariant-loop-i

@@ -1,6 +1,5 @@
 use mathlib.Core.Path.{refl}
 use Rattle.balance_slots.proofs.SlotsLoops.{added_is}
-use borrow.Author.Rules.{rules}
 use Rattle.balance_slots.proofs.slot.add_count.Goals as goal
 
 pub returns : goal.returns

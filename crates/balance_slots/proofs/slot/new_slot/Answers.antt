@@ -1,9 +1,5 @@
-use Rattle.balance_slots.proofs.SlotsLoops.{new_is, new_part}
-use borrow.Author.Rules.{rules}
+use Rattle.balance_slots.proofs.SlotsLoops.{new_is}
 use Rattle.balance_slots.proofs.slot.new_slot.Goals as goal
-
-pub put_slot-requires : goal.put_slot-requires
-put_slot-requires c = (new_part c.args.workspace.now c.args.n (search rules), search rules)
 
 pub returns : goal.returns
 returns c = new_is _ _ _ _ c.put_slot.ensures

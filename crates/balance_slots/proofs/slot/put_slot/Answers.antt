@@ -1,7 +1,4 @@
-use lib.ListN.{length-set}
-use native.Mathlib.Omega.{arith}
-use Rattle.balance_slots.proofs.SlotsLoops.{PutSlotLoop, put_slot_loop_begins, put_slot_loop_turn, put_slot_loop_ends}
-use Prim.Native.Nat.{◌-◌}
+use Rattle.balance_slots.proofs.SlotsLoops.{put_slot_loop_begins, put_slot_loop_turn, put_slot_loop_ends}
 use borrow.Author.Rules.{rules}
 use Rattle.balance_slots.proofs.slot.put_slot.Goals as goal
 

@@ -1,8 +1,5 @@
-use lib.ListN.{length-set}
-use native.Mathlib.Omega.{arith}
-use Rattle.balance_slots.proofs.SlotsLoops.{PutSlotLoop, put_slot_loop_begins, put_slot_loop_turn, put_slot_loop_ends}
+use Rattle.balance_slots.proofs.SlotsLoops.{PutSlotLoop}
 use Prim.Native.Nat.{◌-◌}
-use borrow.Author.Rules.{rules}
 use Rattle.balance_slots.proofs.slot.put_slot.Given as goal
 
 abbrev pub invariant-loop-j : goal.invariant-loop-j

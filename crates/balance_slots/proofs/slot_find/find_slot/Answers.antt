@@ -1,10 +1,6 @@
-use Rattle.balance_slots.proofs.SlotsLoops.{FindSlotLoop, search_begins, search_turn, search_hits, search_ends}
-use Prim.Native.Nat.{◌-◌}
+use Rattle.balance_slots.proofs.SlotsLoops.{search_turn, search_hits, search_ends}
 use borrow.Author.Rules.{rules}
 use Rattle.balance_slots.proofs.slot_find.find_slot.Goals as goal
-
-pub loop-k-init : goal.loop-k-init
-loop-k-init c = search_begins (search rules)
 
 pub returns-then-slot_matches : goal.returns-then-slot_matches
 returns-then-slot_matches c = search_hits c.loop-k.invariant (search rules) c.slot_matches.ensures c.if-slot_matches.true

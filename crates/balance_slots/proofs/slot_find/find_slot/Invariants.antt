@@ -1,6 +1,5 @@
-use Rattle.balance_slots.proofs.SlotsLoops.{FindSlotLoop, search_begins, search_turn, search_hits, search_ends}
+use Rattle.balance_slots.proofs.SlotsLoops.{FindSlotLoop}
 use Prim.Native.Nat.{◌-◌}
-use borrow.Author.Rules.{rules}
 use Rattle.balance_slots.proofs.slot_find.find_slot.Given as goal
 
 abbrev pub invariant-loop-k : goal.invariant-loop-k

@@ -1,7 +1,6 @@
-use Rattle.lists.specs.laws.Same.{SameSoFar, same-begins, same_turn, same_ends, same_differs, same_lengths}
+use Rattle.lists.specs.laws.Same.{SameSoFar}
 use Prim.Native.Nat.{◌-◌}
 use lib.ListN.{length}
-use borrow.Author.Rules.{rules}
 use Rattle.balance_slots.proofs.slot_find.same_words.Given as goal
 
 abbrev pub invariant-loop-i : goal.invariant-loop-i

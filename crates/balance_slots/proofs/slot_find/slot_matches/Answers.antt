@@ -1,5 +1,4 @@
 use Rattle.balance_slots.proofs.SlotsLoops.{match_no, match_yes}
-use borrow.Author.Rules.{rules}
 use Rattle.balance_slots.proofs.slot_find.slot_matches.Goals as goal
 
 pub returns-then-to_usize-n : goal.returns-then-to_usize-n

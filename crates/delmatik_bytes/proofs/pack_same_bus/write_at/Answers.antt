@@ -1,7 +1,6 @@
 use borrow.Rule.Slice.PartMut.{put_mid}
 use Prim.Native.Nat.{◌-◌}
 use mathlib.Core.Path.{ap}
-use borrow.Author.Rules.{rules}
 use Rattle.delmatik_bytes.proofs.pack_same_bus.write_at.Goals as goal
 
 pub returns : goal.returns

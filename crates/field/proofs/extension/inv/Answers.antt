@@ -3,7 +3,6 @@ use Prim.Native.Nat.{ℕ}
 use Rattle.field.specs.Word.{inverse1}
 use Rattle.field.specs.Element.{mul4, lift, cofactor, inverse4}
 use Rattle.field.specs.Ext.{ext_words}
-use borrow.Author.Rules.{rules}
 use Rattle.field.proofs.extension.inv.Goals as goal
 
 pub returns : goal.returns

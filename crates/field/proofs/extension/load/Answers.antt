@@ -1,6 +1,5 @@
 use Rattle.field.specs.Element.{element}
 use mathlib.Core.Path.{refl}
-use borrow.Author.Rules.{rules}
 use Rattle.field.proofs.extension.load.Goals as goal
 
 pub returns : goal.returns

@@ -1,6 +1,5 @@
 use Rattle.field.specs.laws.Norm.{norm2_hi}
 use Rattle.field.specs.Ext.{ext_words}
-use borrow.Author.Rules.{rules}
 use Rattle.field.proofs.extension.norm_hi.Goals as goal
 
 pub returns : goal.returns

@@ -1,6 +1,5 @@
 use Rattle.field.specs.laws.Norm.{norm2_lo}
 use Rattle.field.specs.Ext.{ext_words}
-use borrow.Author.Rules.{rules}
 use Rattle.field.proofs.extension.norm_lo.Goals as goal
 
 pub returns : goal.returns

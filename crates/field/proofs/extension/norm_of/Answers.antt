@@ -3,7 +3,6 @@ use mathlib.Core.Path.{◌∙◌, ap₂}
 use Prim.Native.Nat.{ℕ}
 use Rattle.field.specs.Word.{add_m, mul_m}
 use Rattle.field.specs.Ext.{ext_words}
-use borrow.Author.Rules.{rules}
 use Rattle.field.proofs.extension.norm_of.Goals as goal
 
 pub returns : goal.returns

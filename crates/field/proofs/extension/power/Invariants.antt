@@ -1,10 +1,5 @@
-use mathlib.Core.Path.{refl, ap}
-use mathlib.Core.Logic.{⊎_elim}
-use Prim.Native.Nat.{◌/◌}
-use native.Mathlib.Omega.{arith}
 use Rattle.field.specs.Ext.{ext_words}
-use Rattle.field.specs.laws.Powers.{Squaring, squaring_begins, squaring_even, squaring_odd, squaring_ends}
-use borrow.Author.Rules.{rules}
+use Rattle.field.specs.laws.Powers.{Squaring}
 use Rattle.field.proofs.extension.power.Given as goal
 
 abbrev pub invariant-loop-k : goal.invariant-loop-k

@@ -1,7 +1,6 @@
 use Rattle.field.specs.laws.Slice.{four-set}
 use native.Mathlib.Omega.{arith}
 use lib.ListN.{length-set}
-use borrow.Author.Rules.{rules}
 use Rattle.field.proofs.extension.store.Goals as goal
 
 pub bounds-out-1 : goal.bounds-out-1

@@ -1,6 +1,5 @@
 use Rattle.field.specs.Known.{w_of}
 use borrow.Author.Tests.{eq-eqb, ne_eqb}
-use borrow.Author.Rules.{rules}
 use Rattle.field.proofs.modulus.w_of.Goals as goal
 
 pub returns-then-field-eq-KOALABEAR_NUMBER : goal.returns-then-field-eq-KOALABEAR_NUMBER

@@ -1,6 +1,5 @@
 use Rattle.field.specs.laws.Reduction.{add-lt, add_ge}
 use native.Mathlib.Omega.{arith}
-use borrow.Author.Rules.{rules}
 use Rattle.field.proofs.word.add.Goals as goal
 
 pub returns-then-s-p : goal.returns-then-s-p

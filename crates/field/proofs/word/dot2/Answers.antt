@@ -3,7 +3,6 @@ use Prim.Native.Nat.{ℕ, ◌+◌, ◌*◌, ◌%◌}
 use native.Mathlib.Nat.{add-mod, mod-eq_of_lt}
 use native.Mathlib.Omega.{arith}
 use Rattle.field.specs.Word.{add_m, mul_m}
-use borrow.Author.Rules.{rules}
 use Rattle.field.proofs.word.dot2.Goals as goal
 
 pub returns : goal.returns

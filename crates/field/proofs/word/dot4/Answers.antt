@@ -1,6 +1,5 @@
 use mathlib.Core.Path.{◌∙◌}
 use Prim.Native.Nat.{◌+◌, ◌%◌}
-use borrow.Author.Rules.{rules}
 use Rattle.field.proofs.word.dot4.Goals as goal
 
 pub returns : goal.returns

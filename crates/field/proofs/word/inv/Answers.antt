@@ -2,9 +2,7 @@ use Rattle.field.specs.laws.Inverse.{inverse1-zero, inverse1_unique}
 use Rattle.field.specs.laws.Known.{modulus}
 use Rattle.field.specs.Word.{inverse1}
 use native.Mathlib.Omega.{arith}
-use Prim.Native.Nat.{ℕ}
 use mathlib.Core.Path.{◌∙◌, sym, ap}
-use borrow.Author.Rules.{rules}
 use Rattle.field.proofs.word.inv.Goals as goal
 
 pub returns-then-a-eq0 : goal.returns-then-a-eq0

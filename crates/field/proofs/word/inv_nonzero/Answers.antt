@@ -5,7 +5,6 @@ use native.Mathlib.Nat.{mod-lt, lt_trans, pos_of_ne-zero, div-le_self, le-div_if
 use native.Mathlib.Omega.{arith}
 use Prim.Native.Nat.{ℕ, ◌<◌}
 use mathlib.Core.Path.{◌≡◌, ◌∙◌, ap}
-use borrow.Author.Rules.{rules}
 use Rattle.field.proofs.word.inv_nonzero.Goals as goal
 
 pub loop-x-init : goal.loop-x-init

@@ -1,7 +1,6 @@
 use mathlib.Core.Path.{◌∙◌}
 use Prim.Native.Nat.{◌%◌}
 use Rattle.field.specs.Word.{mul_m}
-use borrow.Author.Rules.{rules}
 use Rattle.field.proofs.word.mul.Goals as goal
 
 pub returns : goal.returns

@@ -1,6 +1,5 @@
 use Rattle.field.specs.laws.Reduction.{neg-zero, neg-pos}
 use native.Mathlib.Omega.{arith}
-use borrow.Author.Rules.{rules}
 use Rattle.field.proofs.word.neg.Goals as goal
 
 pub returns-then-a-eq0 : goal.returns-then-a-eq0

@@ -2,7 +2,6 @@ use native.Mathlib.Omega.{arith}
 use mathlib.Core.Path.{sym, ap}
 use mathlib.Core.Logic.{⊎_elim}
 use Prim.Native.Nat.{ℕ, ◌%◌}
-use borrow.Author.Rules.{rules}
 use Rattle.field.proofs.word.reduce.Goals as goal
 
 pub returns-then-p-eq-BABYBEAR : goal.returns-then-p-eq-BABYBEAR

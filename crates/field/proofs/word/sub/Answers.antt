@@ -1,6 +1,5 @@
 use Rattle.field.specs.laws.Reduction.{sub-lt, sub_ge}
 use native.Mathlib.Omega.{arith}
-use borrow.Author.Rules.{rules}
 use Rattle.field.proofs.word.sub.Goals as goal
 
 pub returns-then-a-b : goal.returns-then-a-b

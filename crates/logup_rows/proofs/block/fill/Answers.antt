@@ -1,18 +1,13 @@
-use lib.ListN.{replicate}
-use mathlib.Core.List.{[]}
-use mathlib.Core.Logic.{⊎_elim}
 use mathlib.Core.Path.{◌≡◌, refl, sym, ap, ◌∙◌}
 use native.Mathlib.Omega.{arith}
-use Prim.Native.Nat.{◌-◌}
 use Rattle.lists.specs.Count.{or_else}
 use Rattle.expression.specs.Refusal.{refusal}
-use Rattle.logup_column.specs.inner.Requires.{lent_values}
-use Rattle.lookup.specs.Lookups.{lent_lookups}
-use Rattle.logup_column.specs.laws.Values.{vals_are, vals-below, values-within, cleared}
+use Rattle.logup_column.specs.laws.Values.{vals_are, vals-below, cleared}
 use Rattle.logup_rows.proofs.WriteRowLoops.{next-values, nothing_refused}
-use Rattle.logup_rows.proofs.FillLoops.{FillLoop, fill_loop_begins, ms_in, ds_in, ms_part, ds_part, fill_loop_turn, fill_loop_ends}
+use Rattle.logup_rows.proofs.FillLoops.{fill_loop_begins, ms_in, ms_part, ds_part, fill_loop_turn, fill_loop_ends}
 use borrow.Author.Rules.{rules}
 use Rattle.logup_rows.proofs.block.fill.Goals as goal
+use Rattle.logup_rows.proofs.block.fill.Goals.{in-Accepted, in-Refused}
 
 pub loop-j-init : goal.loop-j-init
 loop-j-init c = (
@@ -22,63 +17,9 @@ loop-j-init c = (
   refl,
 )
 
-pub pair_rows-n-requires : goal.pair_rows-n-requires
-pair_rows-n-requires c = (c.loop-j-test.true, omega (arith, c.loop-j.invariant.0.low))
-
-pub overflow_mul-end : goal.overflow_mul-end
-overflow_mul-end c =
-    omega (
-      arith,
-      ms_in c.loop-j.invariant.0 c.pair_rows-n.result c.pair_rows-n.ensures.2,
-      c.loop-j.invariant.0.cap,
-      c.loop-j.invariant.0.ms_len,
-      c.loop-j.invariant.0.ms_size,
-      c.loop-j.invariant.0.ds_size,
-    )
-
-pub overflow_add-end : goal.overflow_add-end
-overflow_add-end c =
-    omega (
-      arith,
-      ms_in c.loop-j.invariant.0 c.pair_rows-n.result c.pair_rows-n.ensures.2,
-      c.loop-j.invariant.0.cap,
-      c.loop-j.invariant.0.ms_len,
-      c.loop-j.invariant.0.ms_size,
-      c.loop-j.invariant.0.ds_size,
-    )
-
-pub overflow_add-r : goal.overflow_add-r
-overflow_add-r c = omega (arith, c.loop-j.invariant.0.low, c.loop-j-test.true)
-
-pub pair_values-requires : goal.pair_values-requires
-pair_values-requires c =
-    (c.requires.1, omega (arith, c.requires.2, c.loop-j-test.true), c.loop-j.invariant.1, c.loop-j.invariant.2)
-
 pub slice_bounds-write_pair-end-in-loop-j-2 : goal.slice_bounds-write_pair-end-in-loop-j-2
 slice_bounds-write_pair-end-in-loop-j-2 c =
     ms_in c.loop-j.invariant.0 c.pair_rows-n.result c.pair_rows-n.ensures.2
-
-pub overflow_mul-at : goal.overflow_mul-at
-overflow_mul-at c =
-    omega (
-      arith,
-      ds_in c.loop-j.invariant.0 c.pair_rows-n.result c.pair_rows-n.ensures.2,
-      c.loop-j.invariant.0.cap,
-      c.loop-j.invariant.0.ds_len,
-    )
-
-pub overflow_mul-end-in-loop-j : goal.overflow_mul-end-in-loop-j
-overflow_mul-end-in-loop-j c =
-    omega (
-      arith,
-      ds_in c.loop-j.invariant.0 c.pair_rows-n.result c.pair_rows-n.ensures.2,
-      c.loop-j.invariant.0.cap,
-      c.loop-j.invariant.0.ds_len,
-    )
-
-pub slice_bounds-write_pair-end-in-loop-j-3 : goal.slice_bounds-write_pair-end-in-loop-j-3
-slice_bounds-write_pair-end-in-loop-j-3 c =
-    ds_in c.loop-j.invariant.0 c.pair_rows-n.result c.pair_rows-n.ensures.2
 
 pub write_pair-fault-requires : goal.write_pair-fault-requires
 write_pair-fault-requires c = (
@@ -92,26 +33,12 @@ write_pair-fault-requires c = (
   ds_part c.loop-j.invariant.0 c.pair_rows-n.result c.pair_rows-n.ensures.2,
 )
 
-pub slice_bounds-vals-end : goal.slice_bounds-vals-end
-slice_bounds-vals-end c =
-    values-within _ _ _ _ c.pair_values.ensures.1
-
-pub slice_bounds-next_vals-end : goal.slice_bounds-next_vals-end
-slice_bounds-next_vals-end c =
-    values-within _ _ _ _ c.pair_values.ensures.3
-
-pub overflow_add-j : goal.overflow_add-j
-overflow_add-j c =
-    omega (arith, c.loop-j.inv.0.low, c.pair_rows-n.ensures.2)
-
-pub loop-j-smaller : goal.loop-j-smaller
-loop-j-smaller c =
-    omega (arith, c.loop-j-test.taken, c.pair_rows-n.ensures.0)
-
 pub loop-j-preserved : goal.loop-j-preserved
 loop-j-preserved c =
-    let e : refusal c.match-fault.verdict ≡ or_else (refusal c.loop-j.verdict) (refusal c.write_pair-fault.result) = ⊎_elim
-    (λ w. ap refusal w.2 ∙ nothing_refused _ _ w.1.given.1) (λ w. ap refusal w.3 ∙ w.2.ensures) c.match-fault.branch in (
+    let e : refusal c.match-fault.verdict ≡ or_else (refusal c.loop-j.verdict) (refusal c.write_pair-fault.result) = elim c.match-fault.branch [
+      | in-Accepted w ↦ ap refusal w.verdict-is ∙ nothing_refused _ _ w.in-Accepted.is
+      | in-Refused w ↦ ap refusal w.verdict-is ∙ w.first-verdict.ensures
+    ] in (
       fill_loop_turn c.loop-j.invariant.0 c.pair_rows-n.result c.pair_rows-n.ensures.2 {verdict' = c.match-fault.verdict} _ _
           c.write_pair-fault.result (c.write_pair-fault.ensures _ (sym (vals_are _ _ _ _ c.pair_values.ensures.1)) (λ h. next-values _ _ _ _
           c.pair_values.ensures.3 (omega (arith, c.requires.2, c.pair_rows-n.ensures.2)))) e,
@@ -121,10 +48,3 @@ loop-j-preserved c =
 
 pub returns : goal.returns
 returns c = fill_loop_ends c.loop-j.invariant.0 (search rules)
-
--- LOST (no need enum_told / enum-told):
--- enum_told : tie.Need-enum-told invariant-loop decreases-loop
--- enum_told c = c.match.keys1
--- LOST (no need enum-told-2 / enum-told-2):
--- enum-told-2 : tie.Need-enum-told-2 invariant-loop decreases-loop
--- enum-told-2 c = c.match.keys2

@@ -1,17 +1,10 @@
 use lib.ListN.{replicate}
 use mathlib.Core.List.{[]}
-use mathlib.Core.Logic.{⊎_elim}
-use mathlib.Core.Path.{◌≡◌, refl, sym, ap, ◌∙◌}
-use native.Mathlib.Omega.{arith}
+use mathlib.Core.Path.{◌≡◌}
 use Prim.Native.Nat.{◌-◌}
-use Rattle.lists.specs.Count.{or_else}
-use Rattle.expression.specs.Refusal.{refusal}
 use Rattle.logup_column.specs.inner.Requires.{lent_values}
 use Rattle.lookup.specs.Lookups.{lent_lookups}
-use Rattle.logup_column.specs.laws.Values.{vals_are, vals-below, values-within, cleared}
-use Rattle.logup_rows.proofs.WriteRowLoops.{next-values, nothing_refused}
-use Rattle.logup_rows.proofs.FillLoops.{FillLoop, fill_loop_begins, ms_in, ds_in, ms_part, ds_part, fill_loop_turn, fill_loop_ends}
-use borrow.Author.Rules.{rules}
+use Rattle.logup_rows.proofs.FillLoops.{FillLoop}
 use Rattle.logup_rows.proofs.block.fill.Given as goal
 
 abbrev pub invariant-loop-j : goal.invariant-loop-j

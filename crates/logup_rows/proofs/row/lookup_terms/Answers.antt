@@ -1,9 +1,7 @@
 use Rattle.logup_column.specs.laws.Lookup.{powers_are, element-word, field-values, one-fits, one-flags, one_same}
 use Rattle.logup_rows.proofs.TermsLoops.{one-count, one_is}
 use Prim.Native.Nat.{ℕ, ◌*◌}
-use native.Mathlib.Omega.{arith}
 use mathlib.Core.Path.{sym, ap, ◌∙◌}
-use borrow.Author.Rules.{rules}
 use Rattle.logup_rows.proofs.row.lookup_terms.Goals as goal
 
 pub lookup-requires : goal.lookup-requires

@@ -1,12 +1,5 @@
-use Rattle.logup_rows.proofs.RowLoops.{LookupsLoop, lookups_loop_begins, ms_part, ds_part, lookups_loop_turn, lookups_loop_ends, no_fault}
-use native.Mathlib.Omega.{arith}
+use Rattle.logup_rows.proofs.RowLoops.{LookupsLoop}
 use Prim.Native.Nat.{◌-◌}
-use mathlib.Core.Path.{◌≡◌, refl, ap, ◌∙◌}
-use mathlib.Core.Logic.{⊎_elim}
-use Rattle.lists.specs.Count.{or_else}
-use Rattle.expression.specs.Refusal.{refusal}
-use Rattle.logup.specs.Rows.{fault_refusal}
-use borrow.Author.Rules.{rules}
 use Rattle.logup_rows.proofs.row.write_row_terms.Given as goal
 
 abbrev pub invariant-loop-i : goal.invariant-loop-i

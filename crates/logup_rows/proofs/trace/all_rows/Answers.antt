@@ -1,10 +1,6 @@
-use Rattle.logup_rows.proofs.TraceLoops.{RowsLoop, starts_at_zero, rows_loop_in, rows_loop_part, rows_loop_now, rows_loop_turn, rows_loop_ends}
-use Rattle.lookup.specs.Lookups.{lent_lookups}
-use Rattle.logup_column.specs.inner.Requires.{lent_values}
-use Prim.Native.Nat.{◌-◌}
+use Rattle.logup_rows.proofs.TraceLoops.{starts_at_zero, rows_loop_in, rows_loop_part, rows_loop_now, rows_loop_turn, rows_loop_ends}
 use native.Mathlib.Nat.{zero-add}
 use native.Mathlib.Omega.{arith}
-use mathlib.Core.List.{[]}
 use mathlib.Core.Path.{refl, sym}
 use borrow.Author.Rules.{rules}
 use Rattle.logup_rows.proofs.trace.all_rows.Goals as goal
@@ -12,24 +8,6 @@ use Rattle.logup_rows.proofs.trace.all_rows.Goals as goal
 pub loop-r-init : goal.loop-r-init
 loop-r-init c =
     starts_at_zero (omega (arith, c.well_formed)) c.requires.2 refl c.requires.4 (omega (arith, c.requires.0.field.modulus.big))
-
-pub overflow_mul-end : goal.overflow_mul-end
-overflow_mul-end c =
-    omega (
-      arith,
-      rows_loop_in _ c.loop-r.invariant c.run_end-next.ensures.0 c.run_end-next.ensures.1,
-      c.loop-r.invariant.cap,
-      c.loop-r.invariant.len,
-    )
-
-pub overflow_add-end : goal.overflow_add-end
-overflow_add-end c =
-    omega (
-      arith,
-      rows_loop_in _ c.loop-r.invariant c.run_end-next.ensures.0 c.run_end-next.ensures.1,
-      c.loop-r.invariant.cap,
-      c.loop-r.invariant.len,
-    )
 
 pub slice_bounds-rows-end : goal.slice_bounds-rows-end
 slice_bounds-rows-end c = rows_loop_in _ c.loop-r.invariant c.run_end-next.ensures.0 c.run_end-next.ensures.1
@@ -44,10 +22,6 @@ rows-progress-requires c = (
   rows_loop_part _ c.loop-r.invariant c.run_end-next.ensures.0 c.run_end-next.ensures.1,
   rows_loop_now c.loop-r.invariant,
 )
-
-pub loop-r-smaller : goal.loop-r-smaller
-loop-r-smaller c =
-    omega (arith, c.run_end-next.ensures.0, c.run_end-next.ensures.1)
 
 pub loop-r-preserved : goal.loop-r-preserved
 loop-r-preserved c =

@@ -1,12 +1,8 @@
-use Rattle.logup_rows.proofs.TraceLoops.{RowsLoop, starts_at_zero, rows_loop_in, rows_loop_part, rows_loop_now, rows_loop_turn, rows_loop_ends}
+use Rattle.logup_rows.proofs.TraceLoops.{RowsLoop}
 use Rattle.lookup.specs.Lookups.{lent_lookups}
 use Rattle.logup_column.specs.inner.Requires.{lent_values}
 use Prim.Native.Nat.{◌-◌}
-use native.Mathlib.Nat.{zero-add}
-use native.Mathlib.Omega.{arith}
 use mathlib.Core.List.{[]}
-use mathlib.Core.Path.{refl, sym}
-use borrow.Author.Rules.{rules}
 use Rattle.logup_rows.proofs.trace.all_rows.Given as goal
 
 abbrev pub invariant-loop-r : goal.invariant-loop-r

@@ -1,11 +1,8 @@
-use Rattle.logup_rows.proofs.TraceLoops.{RowsLoop, rows_loop_begins, rows_loop_in, rows_loop_part, rows_loop_turn, part-ends, block_few}
+use Rattle.logup_rows.proofs.TraceLoops.{RowsLoop}
 use Rattle.lookup.specs.Lookups.{lent_lookups}
 use Rattle.logup_column.specs.inner.Requires.{lent_values}
 use Prim.Native.Nat.{◌-◌}
-use native.Mathlib.Omega.{arith}
 use mathlib.Core.List.{[]}
-use mathlib.Core.Path.{refl}
-use borrow.Author.Rules.{rules}
 use Rattle.logup_rows.proofs.trace.rows.Given as goal
 
 abbrev pub invariant-loop-j : goal.invariant-loop-j

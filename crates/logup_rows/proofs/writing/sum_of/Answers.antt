@@ -1,7 +1,6 @@
-use Rattle.logup_rows.proofs.SumLoops.{SumLoop, sum_loop_begins, sum_loop_turn, sum_loop_ends}
+use Rattle.logup_rows.proofs.SumLoops.{sum_loop_begins, sum_loop_turn, sum_loop_ends}
 use Rattle.field.specs.laws.Slice.{word-element}
 use Rattle.field.specs.Element.{Word4}
-use Prim.Native.Nat.{◌-◌}
 use native.Mathlib.Omega.{arith}
 use mathlib.Core.Path.{refl, sym, subst}
 use borrow.Author.Rules.{rules}

@@ -1,5 +1,4 @@
-use Rattle.logup_rows.proofs.SumLoops.{FractionsLoop, put_length, fractions_loop_begins, fractions_loop_room, fractions_loop_part, fractions_loop_turn, fractions_loop_ends}
-use Prim.Native.Nat.{◌-◌}
+use Rattle.logup_rows.proofs.SumLoops.{put_length, fractions_loop_begins, fractions_loop_room, fractions_loop_turn, fractions_loop_ends}
 use native.Mathlib.Omega.{arith}
 use mathlib.Core.Path.{refl, ◌∙◌}
 use borrow.Author.Rules.{rules}
@@ -10,19 +9,12 @@ loop-i-init c =
     fractions_loop_begins (search rules) (search rules) refl c.requires.1 c.requires.2 (put_length _ c.args.out.now _ c.requires.3
     c.store.ensures) (omega (arith, c.requires.0.modulus.big)) refl
 
-pub tuple_count-requires : goal.tuple_count-requires
-tuple_count-requires c = omega (arith, c.loop-i-test.true, c.loop-i.invariant.words)
-
 pub sum_of-fraction-requires : goal.sum_of-fraction-requires
 sum_of-fraction-requires c = (
   c.requires.0,
   fractions_loop_room c.loop-i.invariant c.loop-i-test.true (c.to_usize-count.ensures.0 ∙
       c.tuple_count.ensures),
 )
-
-pub store-requires-in-loop-i : goal.store-requires-in-loop-i
-store-requires-in-loop-i c =
-    fractions_loop_part c.loop-i.invariant c.loop-i-test.true
 
 pub overflow_add-at : goal.overflow_add-at
 overflow_add-at c =

@@ -1,8 +1,5 @@
-use Rattle.logup_rows.proofs.SumLoops.{FractionsLoop, put_length, fractions_loop_begins, fractions_loop_room, fractions_loop_part, fractions_loop_turn, fractions_loop_ends}
+use Rattle.logup_rows.proofs.SumLoops.{FractionsLoop}
 use Prim.Native.Nat.{◌-◌}
-use native.Mathlib.Omega.{arith}
-use mathlib.Core.Path.{refl, ◌∙◌}
-use borrow.Author.Rules.{rules}
 use Rattle.logup_rows.proofs.writing.write_row.Given as goal
 
 abbrev pub invariant-loop-i : goal.invariant-loop-i

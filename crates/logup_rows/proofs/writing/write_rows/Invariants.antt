@@ -1,8 +1,5 @@
-use Rattle.logup_rows.proofs.SumLoops.{WriteRowsLoop, write_rows-begins, write_rows_in, write_rows-part, write_rows-start, write_rows-room, write_rows_turn, write_rows-ends}
+use Rattle.logup_rows.proofs.SumLoops.{WriteRowsLoop}
 use Prim.Native.Nat.{◌-◌}
-use native.Mathlib.Omega.{arith}
-use mathlib.Core.Path.{refl}
-use borrow.Author.Rules.{rules}
 use Rattle.logup_rows.proofs.writing.write_rows.Given as goal
 
 abbrev pub invariant-loop-j : goal.invariant-loop-j

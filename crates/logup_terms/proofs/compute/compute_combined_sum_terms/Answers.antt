@@ -1,7 +1,7 @@
 use native.Mathlib.Omega.{arith}
-use Prim.Native.Nat.{◌<◌, ℕ, ◌-◌}
+use Prim.Native.Nat.{◌<◌, ℕ}
 use mathlib.Core.Path.{refl, sym, subst, ◌∙◌}
-use Rattle.logup_terms.proofs.TermsLoops.{AdditiveLoop, additive_turn, additive-end, adding_begins, adding_none, tuples_loop_begins, tuples_loop_in, tuples_loop_few}
+use Rattle.logup_terms.proofs.TermsLoops.{additive_turn, additive-end, adding_begins, adding_none, tuples_loop_begins, tuples_loop_in}
 use borrow.Author.Rules.{rules}
 use Rattle.logup_terms.proofs.compute.compute_combined_sum_terms.Goals as goal
 
@@ -12,17 +12,9 @@ loop-k-init c =
       sums = adding_begins (omega (arith, c.requires.0.modulus.big)) refl refl;
     }
 
-pub overflow_add-end : goal.overflow_add-end
-overflow_add-end c =
-    omega (arith, tuples_loop_in c.loop-k.invariant.walk c.loop-k-test.true c.to_usize.ensures.0)
-
 pub slice_bounds-denominator-end : goal.slice_bounds-denominator-end
 slice_bounds-denominator-end c =
     tuples_loop_in c.loop-k.invariant.walk c.loop-k-test.true c.to_usize.ensures.0
-
-pub denominator-d-requires : goal.denominator-d-requires
-denominator-d-requires c =
-    (c.requires.0, c.requires.1, c.requires.2, tuples_loop_few c.loop-k.invariant.walk c.loop-k-test.true c.to_usize.ensures.0)
 
 pub add_term-t-requires : goal.add_term-t-requires
 add_term-t-requires c = (

@@ -1,8 +1,5 @@
-use native.Mathlib.Omega.{arith}
-use Prim.Native.Nat.{◌<◌, ℕ, ◌-◌}
-use mathlib.Core.Path.{refl, sym, subst, ◌∙◌}
-use Rattle.logup_terms.proofs.TermsLoops.{AdditiveLoop, additive_turn, additive-end, adding_begins, adding_none, tuples_loop_begins, tuples_loop_in, tuples_loop_few}
-use borrow.Author.Rules.{rules}
+use Prim.Native.Nat.{◌-◌}
+use Rattle.logup_terms.proofs.TermsLoops.{AdditiveLoop}
 use Rattle.logup_terms.proofs.compute.compute_combined_sum_terms.Given as goal
 
 abbrev pub invariant-loop-k : goal.invariant-loop-k

@@ -1,7 +1,6 @@
 use Rattle.logup_terms.proofs.TermsLoops.{exclusive-ends}
 use Rattle.logup.specs.Column.{branches}
 use mathlib.Core.Path.{refl}
-use borrow.Author.Rules.{rules}
 use Rattle.logup_terms.proofs.compute.compute_exclusive_terms.Goals as goal
 
 pub returns : goal.returns

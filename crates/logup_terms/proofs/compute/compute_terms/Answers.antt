@@ -1,29 +1,15 @@
-use Rattle.logup_terms.proofs.TermsLoops.{flags-enough, exclusive_is, additive_without_flags}
+use Rattle.logup_terms.proofs.TermsLoops.{exclusive_is, additive_without_flags}
 use Rattle.logup_column.specs.inner.Own.{own_place}
 use Rattle.logup_column.specs.inner.Powers.{beta_of}
 use Rattle.field.specs.Ext.{ext_words}
 use mathlib.Core.Path.{sym, ◌∙◌}
-use borrow.Author.Rules.{rules}
 use Rattle.logup_terms.proofs.compute.compute_terms.Goals as goal
-
-pub compute_exclusive_terms-requires : goal.compute_exclusive_terms-requires
-compute_exclusive_terms-requires c = (
-  c.requires.0,
-  c.requires.1,
-  c.requires.2,
-  c.requires.3,
-  flags-enough c.args.own.now c.args.flags.now c.exclusive.ensures c.if-exclusive.true c.requires.4,
-)
 
 pub returns-then-exclusive : goal.returns-then-exclusive
 returns-then-exclusive c =
     exclusive_is (own_place c.args.own.now c.args.widths.now c.args.multiplicities.now c.args.flags.now
     c.args.nodes.now c.args.vals.now (ext_words c.args.alpha) (beta_of c.args.powers))
     (sym c.exclusive.ensures ∙ c.if-exclusive.true) c.compute_exclusive_terms.ensures
-
-pub compute_combined_sum_terms-requires : goal.compute_combined_sum_terms-requires
-compute_combined_sum_terms-requires c =
-    (c.requires.0, c.requires.1, c.requires.2, c.requires.3)
 
 pub returns : goal.returns
 returns c =

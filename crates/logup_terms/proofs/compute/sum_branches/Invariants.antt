@@ -1,8 +1,5 @@
-use native.Mathlib.Omega.{arith}
-use Prim.Native.Nat.{◌<◌, ℕ, ◌-◌}
-use mathlib.Core.Path.{refl, sym, subst, ◌∙◌}
-use Rattle.logup_terms.proofs.TermsLoops.{ExclusiveLoop, exclusive_turn, exclusive-end, summed-begins, tuples_loop_begins, tuples_loop_in, tuples_loop_few}
-use borrow.Author.Rules.{rules}
+use Prim.Native.Nat.{◌-◌}
+use Rattle.logup_terms.proofs.TermsLoops.{ExclusiveLoop}
 use Rattle.logup_terms.proofs.compute.sum_branches.Given as goal
 
 abbrev pub invariant-loop-k : goal.invariant-loop-k

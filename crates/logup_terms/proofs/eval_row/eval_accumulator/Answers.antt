@@ -4,7 +4,6 @@ use Prim.Native.Nat.{ℕ}
 use Rattle.field.specs.Ext.{ext_words}
 use Rattle.logup_terms.specs.inner.ConstraintRow.{accumulator_verdict}
 use Rattle.logup_terms.proofs.EvalRowsLoops.{accumulator_is}
-use borrow.Author.Rules.{rules}
 use Rattle.logup_terms.proofs.eval_row.eval_accumulator.Goals as goal
 
 pub returns : goal.returns

@@ -1,7 +1,6 @@
 use mathlib.Core.Path.{◌∙◌}
 use Rattle.logup_terms.specs.laws.Same.{vanishing-same}
 use Rattle.logup_column.specs.laws.Lookup.{powers_are, element-word, field-values, one-fits, one-flags, one_same}
-use borrow.Author.Rules.{rules}
 use Rattle.logup_terms.proofs.eval_row.eval_fraction.Goals as goal
 
 pub lookup_constraint-requires : goal.lookup_constraint-requires

@@ -1,7 +1,6 @@
-use Rattle.logup_terms.proofs.EvalRowLoops.{LookupsLoop, lookups_loop_begins, lookups_loop_turn, lookups_loop_ends}
+use Rattle.logup_terms.proofs.EvalRowLoops.{lookups_loop_begins, lookups_loop_turn}
 use Rattle.logup_column.specs.laws.Lookup.{element-word}
 use mathlib.Core.Path.{refl}
-use Prim.Native.Nat.{◌-◌}
 use native.Mathlib.Omega.{arith}
 use borrow.Author.Rules.{rules}
 use Rattle.logup_terms.proofs.eval_row.eval_fractions.Goals as goal
@@ -9,19 +8,6 @@ use Rattle.logup_terms.proofs.eval_row.eval_fractions.Goals as goal
 pub loop-i-init : goal.loop-i-init
 loop-i-init c =
     lookups_loop_begins (search rules) (omega (arith, c.requires.0.field.modulus.big)) refl c.requires.3
-
-pub next_starts-end-requires : goal.next_starts-end-requires
-next_starts-end-requires c =
-    (c.requires.0.lists, omega (arith, c.loop-i-test.true, c.loop-i.invariant.count), c.loop-i.invariant.stands)
-
-pub overflow_add-i : goal.overflow_add-i
-overflow_add-i c = omega (arith, c.loop-i.invariant.cap, c.loop-i.invariant.room, c.loop-i-test.true)
-
-pub overflow_add-base : goal.overflow_add-base
-overflow_add-base c = omega (arith, c.loop-i.invariant.cap, c.loop-i.invariant.room, c.loop-i-test.true)
-
-pub load-cell-requires : goal.load-cell-requires
-load-cell-requires c = omega (arith, c.loop-i.invariant.cap, c.loop-i.invariant.room, c.loop-i-test.true)
 
 pub eval_fraction-value-requires : goal.eval_fraction-value-requires
 eval_fraction-value-requires c = (
@@ -40,18 +26,8 @@ pub add-sum-requires : goal.add-sum-requires
 add-sum-requires c =
     (c.requires.0.field.modulus, c.loop-i.invariant.word4, element-word _ c.requires.2 c.load-cell.ensures)
 
-pub overflow_add-i-in-loop-i : goal.overflow_add-i-in-loop-i
-overflow_add-i-in-loop-i c =
-    omega (arith, c.loop-i.invariant.cap, c.loop-i.invariant.room, c.loop-i-test.true)
-
-pub loop-i-smaller : goal.loop-i-smaller
-loop-i-smaller c = omega (arith, c.loop-i-test.true)
-
 pub loop-i-preserved : goal.loop-i-preserved
 loop-i-preserved c =
     lookups_loop_turn c.must_vanish.result c.loop-i.invariant c.loop-i-test.true c.next_starts-end.ensures.0
     c.load-cell.ensures c.eval_fraction-value.ensures c.must_vanish.ensures
     c.first-verdict.ensures c.add-sum.ensures
-
-pub returns : goal.returns
-returns c = lookups_loop_ends c.loop-i.invariant c.loop-i-test.false

@@ -1,9 +1,5 @@
-use Rattle.logup_terms.proofs.EvalRowLoops.{LookupsLoop, lookups_loop_begins, lookups_loop_turn, lookups_loop_ends}
-use Rattle.logup_column.specs.laws.Lookup.{element-word}
-use mathlib.Core.Path.{refl}
+use Rattle.logup_terms.proofs.EvalRowLoops.{LookupsLoop}
 use Prim.Native.Nat.{◌-◌}
-use native.Mathlib.Omega.{arith}
-use borrow.Author.Rules.{rules}
 use Rattle.logup_terms.proofs.eval_row.eval_fractions.Given as goal
 
 abbrev pub invariant-loop-i : goal.invariant-loop-i

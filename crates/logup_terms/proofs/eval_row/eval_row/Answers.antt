@@ -1,26 +1,8 @@
 use mathlib.Core.Path.{refl, sym}
-use native.Mathlib.Omega.{arith}
 use Rattle.logup_column.specs.laws.Lookup.{element-word}
 use Rattle.expression.specs.Refusal.{refusal}
-use Rattle.logup_terms.proofs.EvalRowsLoops.{row_in, fractions_in, accumulator_in, next_in, row_is}
-use borrow.Author.Rules.{rules}
+use Rattle.logup_terms.proofs.EvalRowsLoops.{next_in, row_is}
 use Rattle.logup_terms.proofs.eval_row.eval_row.Goals as goal
-
-pub eval_fractions-fractions-requires : goal.eval_fractions-fractions-requires
-eval_fractions-fractions-requires c = (
-  c.requires.0,
-  c.requires.1,
-  c.requires.2.below,
-  fractions_in _ c.requires.2 c.requires.5 c.requires.4,
-)
-
-pub load-accumulator-requires : goal.load-accumulator-requires
-load-accumulator-requires c =
-    accumulator_in _ c.requires.2 c.requires.5 c.requires.4
-
-pub overflow_add-base : goal.overflow_add-base
-overflow_add-base c =
-    omega (arith, row_in _ c.requires.2 c.requires.5 c.requires.4, c.well_formed.1.1.1.1.1.1.1.1.1.1.1.0)
 
 pub eval_accumulator-requires : goal.eval_accumulator-requires
 eval_accumulator-requires c = (
@@ -35,7 +17,7 @@ eval_accumulator-requires c = (
 )
 
 pub returns : goal.returns
-returns c =
+returns c values h =
     row_is _ _ _ _ values _ _ _ _ _ (refusal c.eval_fractions-fractions.result.verdict) (refusal c.eval_accumulator.result) c.requires.5
     (sym h) c.eval_fractions-fractions.ensures.sum≡ c.eval_fractions-fractions.ensures.verdict≡
     c.load-accumulator.ensures refl c.eval_accumulator.ensures c.first.ensures

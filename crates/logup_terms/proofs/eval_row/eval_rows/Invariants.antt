@@ -1,16 +1,12 @@
 use lib.ListN.{replicate}
 use mathlib.Core.List.{[]}
-use mathlib.Core.Path.{◌≡◌, refl, sym}
-use native.Mathlib.Omega.{arith}
+use mathlib.Core.Path.{◌≡◌}
 use Prim.Native.Nat.{◌-◌}
 use Rattle.field.specs.Ext.{ext_words}
-use Rattle.expression.specs.Refusal.{refusal}
 use Rattle.lookup.specs.Lookups.{lent_lookups, lookup_count}
-use Rattle.logup.specs.Constraints.{row_verdict, rows_verdict}
+use Rattle.logup.specs.Constraints.{row_verdict}
 use Rattle.logup_column.specs.inner.Requires.{lent_values}
-use Rattle.logup_column.specs.laws.Values.{vals_are, vals-below, values-within, cleared}
-use Rattle.logup_terms.proofs.EvalRowsLoops.{row_in, RowsLoop, rows_loop_begins, rows_loop_turn, rows_loop_stops, rows_loop_ends}
-use borrow.Author.Rules.{rules}
+use Rattle.logup_terms.proofs.EvalRowsLoops.{RowsLoop}
 use Rattle.logup_terms.proofs.eval_row.eval_rows.Given as goal
 
 abbrev pub invariant-loop-r : goal.invariant-loop-r

@@ -1,15 +1,11 @@
 use Rattle.logup_column.specs.laws.Lookup.{element-word}
 use Rattle.logup_terms.specs.inner.ConstraintRow.{next_accumulator}
 use borrow.Author.Tests.{lt-ltb, le-ltb}
-use borrow.Author.Rules.{rules}
 use Rattle.logup_terms.proofs.eval_row.next_accumulator.Goals as goal
 
 pub returns-then-height-r : goal.returns-then-height-r
 unfolding next_accumulator
 returns-then-height-r c = (c.requires.3, rw (le-ltb _ _ c.if-height-r.true))
-
-pub load-requires : goal.load-requires
-load-requires c = c.requires.2 c.if-height-r.false
 
 pub returns : goal.returns
 unfolding next_accumulator

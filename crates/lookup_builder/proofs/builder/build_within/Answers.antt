@@ -1,7 +1,6 @@
 use native.Mathlib.Omega.{arith}
 use Rattle.lookup_builder.specs.FromInteractions.{lent_interactions}
 use Rattle.lookup_builder.proofs.Answers.{size-refused, fits_asks, answer-refused, answer-built}
-use borrow.Author.Rules.{rules}
 use Rattle.lookup_builder.proofs.builder.build_within.Goals as goal
 
 pub returns-then-not-building_fits : goal.returns-then-not-building_fits

@@ -1,6 +1,5 @@
 use Rattle.lookup_builder.specs.FromInteractions.{lent_interactions}
 use Rattle.lookup_builder.proofs.Answers.{built-tested}
-use borrow.Author.Rules.{rules}
 use Rattle.lookup_builder.proofs.builder.built_verdict.Goals as goal
 
 pub returns : goal.returns

@@ -2,7 +2,6 @@ use Rattle.lookup_builder.specs.FromInteractions.{lent_interactions, in_numbers}
 use Rattle.lookup_builder.proofs.Answers.{choice_unknown, choices_known}
 use Rattle.expression.specs.laws.Tested.{limits_sane}
 use mathlib.Core.Path.{ap}
-use borrow.Author.Rules.{rules}
 use Rattle.lookup_builder.proofs.builder.from_interactions.Goals as goal
 
 pub returns-then-not-known : goal.returns-then-not-known

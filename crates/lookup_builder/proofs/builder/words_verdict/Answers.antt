@@ -1,6 +1,5 @@
 use Rattle.lookup.specs.Lookups.{lent_lookups}
 use Rattle.lookup_builder.proofs.Answers.{locals_asks, form_refused, locals-tested}
-use borrow.Author.Rules.{rules}
 use Rattle.lookup_builder.proofs.builder.words_verdict.Goals as goal
 
 pub locals_verdict-requires : goal.locals_verdict-requires

@@ -1,6 +1,5 @@
 use native.Mathlib.Omega.{arith}
 use Rattle.lookup_builder.proofs.Sizes.{few, even, fits-many, fits_odd, fits-rest}
-use borrow.Author.Rules.{rules}
 use Rattle.lookup_builder.proofs.fits.building_fits.Goals as goal
 
 pub returns-then-not-few_kinds : goal.returns-then-not-few_kinds

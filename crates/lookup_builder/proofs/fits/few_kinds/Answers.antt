@@ -1,6 +1,5 @@
 use native.Mathlib.Omega.{arith}
 use Rattle.lookup_builder.proofs.Sizes.{each_within, one-over}
-use borrow.Author.Rules.{rules}
 use Rattle.lookup_builder.proofs.fits.few_kinds.Goals as goal
 
 pub overflow_add-result : goal.overflow_add-result

@@ -1,8 +1,5 @@
 use mathlib.Core.Path.{refl}
-use Prim.Native.Nat.{◌+◌, ◌-◌}
-use lib.Dec.{eqb}
-use Rattle.lookup_builder.specs.Building.{tuple_number}
-use Rattle.lists.specs.laws.Turns.{Testing, test_begins, test_turn, test_ends}
+use Rattle.lists.specs.laws.Turns.{test_begins, test_turn, test_ends}
 use borrow.Author.Rules.{rules}
 use Rattle.lookup_builder.proofs.fits.globals_single.Goals as goal
 

@@ -1,9 +1,7 @@
-use mathlib.Core.Path.{refl}
 use Prim.Native.Nat.{◌+◌, ◌-◌}
 use lib.Dec.{eqb}
 use Rattle.lookup_builder.specs.Building.{tuple_number}
-use Rattle.lists.specs.laws.Turns.{Testing, test_begins, test_turn, test_ends}
-use borrow.Author.Rules.{rules}
+use Rattle.lists.specs.laws.Turns.{Testing}
 use Rattle.lookup_builder.proofs.fits.globals_single.Given as goal
 
 abbrev pub invariant-loop-j : goal.invariant-loop-j

@@ -1,5 +1,4 @@
 use Rattle.lookup_builder.proofs.Finds.{tuples_in, first_in, local_none, local-some}
-use borrow.Author.Rules.{rules}
 use Rattle.lookup_builder.proofs.locals.local_verdict.Goals as goal
 
 pub returns-then-not-tuple_count : goal.returns-then-not-tuple_count

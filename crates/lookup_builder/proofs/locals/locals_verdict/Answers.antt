@@ -1,7 +1,6 @@
-use Prim.Native.Nat.{◌-◌}
 use Rattle.expression.specs.Refusal.{refusal}
-use Rattle.lookup_builder.specs.Building.{local_refusal, locals_refusal}
-use Rattle.lists.specs.laws.Turns.{Finding, find_begins, find_turn, find_ends}
+use Rattle.lookup_builder.specs.Building.{locals_refusal}
+use Rattle.lists.specs.laws.Turns.{find_begins, find_turn, find_ends}
 use borrow.Author.Rules.{rules}
 use Rattle.lookup_builder.proofs.locals.locals_verdict.Goals as goal
 

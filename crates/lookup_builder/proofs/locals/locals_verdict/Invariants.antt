@@ -1,8 +1,7 @@
 use Prim.Native.Nat.{◌-◌}
 use Rattle.expression.specs.Refusal.{refusal}
-use Rattle.lookup_builder.specs.Building.{local_refusal, locals_refusal}
-use Rattle.lists.specs.laws.Turns.{Finding, find_begins, find_turn, find_ends}
-use borrow.Author.Rules.{rules}
+use Rattle.lookup_builder.specs.Building.{local_refusal}
+use Rattle.lists.specs.laws.Turns.{Finding}
 use Rattle.lookup_builder.proofs.locals.locals_verdict.Given as goal
 
 abbrev pub invariant-loop-i : goal.invariant-loop-i

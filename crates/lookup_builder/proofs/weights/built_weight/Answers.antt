@@ -1,5 +1,4 @@
 use Rattle.lookup_builder.proofs.Built.{weights_in, weight-local, weight_other}
-use borrow.Author.Rules.{rules}
 use Rattle.lookup_builder.proofs.weights.built_weight.Goals as goal
 
 pub sum_of-requires : goal.sum_of-requires

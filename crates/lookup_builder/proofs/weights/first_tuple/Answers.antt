@@ -1,5 +1,4 @@
 use Rattle.lookup_builder.specs.Building.{first_tuple}
-use borrow.Author.Rules.{rules}
 use Rattle.lookup_builder.proofs.weights.first_tuple.Goals as goal
 
 pub returns : goal.returns

@@ -1,7 +1,5 @@
 use mathlib.Core.Path.{refl}
-use Prim.Native.Nat.{◌+◌, ◌-◌}
-use Rattle.expression.specs.Words.{word}
-use Rattle.lookup_degree.specs.laws.Rising.{Rising, rise_begins, rise_turn, rise_ends}
+use Rattle.lookup_degree.specs.laws.Rising.{rise_begins, rise_turn, rise_ends}
 use borrow.Author.Rules.{rules}
 use Rattle.lookup_builder.proofs.weights.largest_of.Goals as goal
 

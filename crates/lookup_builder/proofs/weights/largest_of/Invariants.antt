@@ -1,8 +1,6 @@
-use mathlib.Core.Path.{refl}
 use Prim.Native.Nat.{◌+◌, ◌-◌}
 use Rattle.expression.specs.Words.{word}
-use Rattle.lookup_degree.specs.laws.Rising.{Rising, rise_begins, rise_turn, rise_ends}
-use borrow.Author.Rules.{rules}
+use Rattle.lookup_degree.specs.laws.Rising.{Rising}
 use Rattle.lookup_builder.proofs.weights.largest_of.Given as goal
 
 abbrev pub invariant-loop-k : goal.invariant-loop-k

@@ -1,6 +1,4 @@
-use Prim.Native.Nat.{◌+◌, ◌-◌}
-use Rattle.expression.specs.Words.{word}
-use Rattle.lists.specs.laws.Turns.{Summing, sum-begins, sum_turn, sum-ends}
+use Rattle.lists.specs.laws.Turns.{sum-begins, sum_turn, sum-ends}
 use borrow.Author.Rules.{rules}
 use Rattle.lookup_builder.proofs.weights.sum_of.Goals as goal
 

@@ -1,7 +1,6 @@
 use Prim.Native.Nat.{◌+◌, ◌-◌}
 use Rattle.expression.specs.Words.{word}
-use Rattle.lists.specs.laws.Turns.{Summing, sum-begins, sum_turn, sum-ends}
-use borrow.Author.Rules.{rules}
+use Rattle.lists.specs.laws.Turns.{Summing}
 use Rattle.lookup_builder.proofs.weights.sum_of.Given as goal
 
 abbrev pub invariant-loop-k : goal.invariant-loop-k

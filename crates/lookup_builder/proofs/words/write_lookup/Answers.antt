@@ -3,7 +3,6 @@ use native.Mathlib.Omega.{arith}
 use lib.ListN.{length-set}
 use Rattle.expression.specs.Words.{low_half, high_half}
 use Rattle.lookup_builder.proofs.Built.{words_put}
-use borrow.Author.Rules.{rules}
 use Rattle.lookup_builder.proofs.words.write_lookup.Goals as goal
 
 pub bounds-out-3 : goal.bounds-out-3

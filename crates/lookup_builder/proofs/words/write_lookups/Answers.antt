@@ -1,9 +1,7 @@
-use Prim.Native.Nat.{◌-◌}
 use lib.ListN.{length}
 use mathlib.Core.Path.{refl, ◌∙◌, ap}
-use Rattle.lookup.specs.Lookups.{lookup_words}
-use Rattle.lookup_builder.specs.Building.{built_words, built}
-use Rattle.lists.specs.laws.Writing.{Writing, begins, turn, ends}
+use Rattle.lookup_builder.specs.Building.{built}
+use Rattle.lists.specs.laws.Writing.{begins, turn, ends}
 use Rattle.lookup_builder.proofs.Built.{words-nine}
 use borrow.Author.Rules.{rules}
 use Rattle.lookup_builder.proofs.words.write_lookups.Goals as goal

@@ -1,11 +1,7 @@
 use Prim.Native.Nat.{◌-◌}
-use lib.ListN.{length}
-use mathlib.Core.Path.{refl, ◌∙◌, ap}
 use Rattle.lookup.specs.Lookups.{lookup_words}
-use Rattle.lookup_builder.specs.Building.{built_words, built}
-use Rattle.lists.specs.laws.Writing.{Writing, begins, turn, ends}
-use Rattle.lookup_builder.proofs.Built.{words-nine}
-use borrow.Author.Rules.{rules}
+use Rattle.lookup_builder.specs.Building.{built_words}
+use Rattle.lists.specs.laws.Writing.{Writing}
 use Rattle.lookup_builder.proofs.words.write_lookups.Given as goal
 
 abbrev pub invariant-loop-i : goal.invariant-loop-i

@@ -1,6 +1,6 @@
 use Rattle.lookup_buses.specs.laws.Tables.{lies}
 use Rattle.lookup_buses.specs.CheckBusWidths.{table_fits}
-use Rattle.lists.specs.laws.Turns.{test_begins, test_turn, test_ends}
+use Rattle.lists.specs.laws.Turns.{test_begins, test_turn}
 use native.Mathlib.Omega.{arith}
 use mathlib.Core.Bool.{Bool, ◌&&◌}
 use mathlib.Core.Path.{◌∙◌, ap}
@@ -56,6 +56,3 @@ pub loop-t-preserved : goal.loop-t-preserved
 loop-t-preserved c =
     test_turn c.loop-t.invariant (search rules) (ap (λ (b : Bool). c.loop-t.ok && b) (c.table_fits-ok.ensures ∙ ap (table_fits c.args.limits)
     (lies c.requires.1 c.loop-t-test.true c.spans_of-s.ensures).table))
-
-pub returns : goal.returns
-returns c = test_ends c.loop-t.invariant (search rules)

@@ -1,4 +1,4 @@
-use Rattle.lists.specs.laws.Turns.{find_begins, find_turn, find_ends}
+use Rattle.lists.specs.laws.Turns.{find_begins, find_turn}
 use Rattle.lookup_buses.proofs.Finds.{width_is}
 use Rattle.lookup_buses.specs.inner.Requires.{width_option}
 use Rattle.lookup_buses.specs.Widths.{tuple_refusal}
@@ -14,8 +14,3 @@ pub loop-k-preserved : goal.loop-k-preserved
 loop-k-preserved c =
     find_turn (refusal c.tuple_verdict-other.result) c.loop-k.invariant (search rules) c.first-verdict.ensures (c.tuple_verdict-other.ensures ∙
     ap (tuple_refusal c.args.i (width_option c.args.expected)) (width_is c.args.lookups.now c.args.tuples.now c.args.i c.loop-k.k c.tuple_start-start.ensures.0))
-
-pub returns : goal.returns
-returns c =
-    rw (← c.tuple_count.ensures, ← c.to_usize-n.ensures.0) (find_ends c.loop-k.invariant (search
-    rules))

@@ -1,4 +1,4 @@
-use Rattle.lookup_buses.proofs.Loops.{arranging_begins, arranging_fits, arranging_turn, arranging_ends}
+use Rattle.lookup_buses.proofs.Loops.{arranging_begins, arranging_fits, arranging_turn}
 use borrow.Author.Rules.{rules}
 use Rattle.lookup_buses.proofs.order.arrange.Goals as goal
 
@@ -11,6 +11,3 @@ push_place-end-requires c = (search rules, search rules, arranging_fits c.loop-k
 pub loop-k-preserved : goal.loop-k-preserved
 loop-k-preserved c =
     arranging_turn c.loop-k.invariant (search rules) (search rules) c.push_place-end.ensures
-
-pub returns : goal.returns
-returns c = arranging_ends c.loop-k.invariant (search rules)

@@ -1,12 +1,9 @@
-use Rattle.lookup_buses.proofs.Loops.{search_begins, search_turn, search_hits, search_ends, place-alone, place-bus}
+use Rattle.lookup_buses.proofs.Loops.{search_turn, search_hits, search_ends, place-alone, place-bus}
 use borrow.Author.Rules.{rules}
 use Rattle.lookup_buses.proofs.order.place_of.Goals as goal
 
 pub returns-then-alone : goal.returns-then-alone
 returns-then-alone c = place-alone _ _ _ _ c.alone.ensures c.if-alone.true
-
-pub loop-j-init : goal.loop-j-init
-loop-j-init c = search_begins
 
 pub returns-then-same_bus : goal.returns-then-same_bus
 returns-then-same_bus c =

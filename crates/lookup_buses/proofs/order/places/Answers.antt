@@ -1,4 +1,4 @@
-use Rattle.lookup_buses.proofs.Loops.{placing_begins, placing_turn, placing_ends}
+use Rattle.lookup_buses.proofs.Loops.{placing_begins, placing_turn}
 use borrow.Author.Rules.{rules}
 use Rattle.lookup_buses.proofs.order.places.Goals as goal
 
@@ -7,6 +7,3 @@ loop-i-init c = placing_begins
 
 pub loop-i-preserved : goal.loop-i-preserved
 loop-i-preserved c = placing_turn c.loop-i.invariant (search rules) (search rules) c.place_of-place.ensures
-
-pub returns : goal.returns
-returns c = placing_ends c.loop-i.invariant (search rules)

@@ -1,4 +1,4 @@
-use Rattle.lookup_buses.proofs.Loops.{pushing_begins, pushing_room, pushing_yes, pushing_no, pushing_ends}
+use Rattle.lookup_buses.proofs.Loops.{pushing_begins, pushing_room, pushing_yes, pushing_no}
 use borrow.Author.Rules.{rules}
 use Rattle.lookup_buses.proofs.order.push_place.Goals as goal
 use Rattle.lookup_buses.proofs.order.push_place.Goals.{then-places-i, else-places-i}
@@ -15,6 +15,3 @@ loop-i-preserved c =
       | then-places-i w ↦ pushing_yes c.loop-i.invariant (search rules) w.if-places-i.true w.order-is w.end-is
       | else-places-i w ↦ pushing_no c.loop-i.invariant (search rules) w.if-places-i.false w.order-is w.end-is
     ]
-
-pub returns : goal.returns
-returns c = pushing_ends c.loop-i.invariant (search rules)

@@ -1,5 +1,5 @@
 use Rattle.lists.specs.laws.Turns.{find_begins, find_turn, find_ends}
-use Rattle.lookup_buses.proofs.Finds.{named, bus_at, bus-below}
+use Rattle.lookup_buses.proofs.Finds.{bus_at, bus-below}
 use Rattle.lookup_buses.specs.CheckBusWidths.{lent_bus_tables, tables_of}
 use Rattle.lookup_buses.specs.Widths.{lookup_refusal, table_refusal}
 use Rattle.expression.specs.Refusal.{refusal}
@@ -7,9 +7,6 @@ use Rattle.lookup.specs.Lookups.{bus_lookups}
 use mathlib.Core.Path.{◌∙◌, ap}
 use borrow.Author.Rules.{rules}
 use Rattle.lookup_buses.proofs.tables.table_verdict.Goals as goal
-
-pub order-ordered-requires : goal.order-ordered-requires
-order-ordered-requires c = named c.requires.1
 
 pub loop-k-init : goal.loop-k-init
 loop-k-init c = find_begins

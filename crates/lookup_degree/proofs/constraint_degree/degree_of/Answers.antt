@@ -1,24 +1,7 @@
-use Rattle.lookup_degree.proofs.Calls.{degrees_are, degrees-long, degree_of_is}
+use Rattle.lookup_degree.proofs.Calls.{degrees_are, degree_of_is}
 use Rattle.lookup_degree.specs.laws.Formed.{few}
 use Rattle.lookup.specs.Lookups.{lent_lookups}
-use native.Mathlib.Omega.{arith}
 use Rattle.lookup_degree.proofs.constraint_degree.degree_of.Goals as goal
-
-pub slice_bounds-tuple_degrees-end : goal.slice_bounds-tuple_degrees-end
-slice_bounds-tuple_degrees-end c =
-    let args = c.args in
-    let own = lent_lookups args.lookups.now args.names.now args.tuples.now args.multiplicities.now args.flags.now args.elements.now in
-    degrees-long args.limits args.nodes.now own args.t c.requires.0 (degrees_are args.limits args.nodes.now own args.t c.requires.0 c.requires.2 c.fill_degrees-low.ensures)
-
-pub tuple_degrees-of_tuples-requires : goal.tuple_degrees-of_tuples-requires
-tuple_degrees-of_tuples-requires c =
-    (c.requires.0.few_tuples, omega (arith, c.requires.0.fitting.elements))
-
-pub slice_bounds-lookup_degree-end : goal.slice_bounds-lookup_degree-end
-slice_bounds-lookup_degree-end c =
-    let args = c.args in
-    let own = lent_lookups args.lookups.now args.names.now args.tuples.now args.multiplicities.now args.flags.now args.elements.now in
-    degrees-long args.limits args.nodes.now own args.t c.requires.0 (degrees_are args.limits args.nodes.now own args.t c.requires.0 c.requires.2 c.fill_degrees-low.ensures)
 
 pub lookup_degree-requires : goal.lookup_degree-requires
 lookup_degree-requires c =

@@ -1,4 +1,4 @@
-use Rattle.lookup_degree.specs.laws.Rising.{rise_begins, rise_turn, rise_ends}
+use Rattle.lookup_degree.specs.laws.Rising.{rise_begins, rise_turn}
 use Rattle.expression.specs.Words.{word}
 use Prim.Native.Nat.{◌+◌}
 use mathlib.Core.Path.{◌∙◌, ap, ap₂}
@@ -11,6 +11,3 @@ loop-k-init c = rise_begins
 pub loop-k-preserved : goal.loop-k-preserved
 loop-k-preserved c =
     rise_turn _ c.loop-k.invariant (search rules) c.largest-top.ensures (ap₂ ◌+◌ (c.to_u64-flag.ensures.0 ∙ c.word_at-in-loop-k-3.ensures ∙ ap (word c.args.nodes.now) (c.to_usize-in-loop-k.ensures.0 ∙ c.word_at-in-loop-k-2.ensures)) (c.to_u64-multiplicity.ensures.0 ∙ c.word_at-in-loop-k.ensures ∙ ap (word c.args.nodes.now) (c.to_usize.ensures.0 ∙ c.word_at.ensures)))
-
-pub returns : goal.returns
-returns c = rise_ends c.loop-k.invariant (search rules)

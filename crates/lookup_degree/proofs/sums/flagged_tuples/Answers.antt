@@ -1,4 +1,4 @@
-use Rattle.lookup_degree.specs.laws.Rising.{rise_begins, rise_turn, rise_ends}
+use Rattle.lookup_degree.specs.laws.Rising.{rise_begins, rise_turn}
 use Rattle.expression.specs.Words.{word}
 use Prim.Native.Nat.{◌+◌}
 use native.Mathlib.Omega.{arith}
@@ -20,6 +20,3 @@ loop-k-preserved c = (
     c.to_u64-tuple.ensures.1,
   ),
 )
-
-pub returns : goal.returns
-returns c = (rise_ends c.loop-k.invariant.0 (search rules), c.loop-k.invariant.1)

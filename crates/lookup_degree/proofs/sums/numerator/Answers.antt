@@ -1,4 +1,4 @@
-use Rattle.lookup_degree.specs.laws.Rising.{rise_begins, rise_turn, rise_ends}
+use Rattle.lookup_degree.specs.laws.Rising.{rise_begins, rise_turn}
 use Rattle.lookup_degree.proofs.Loops.{one_of}
 use Rattle.expression.specs.Words.{word}
 use Prim.Native.Nat.{ℕ, ◌+◌, ◌-◌}
@@ -21,6 +21,3 @@ pub loop-k-preserved : goal.loop-k-preserved
 loop-k-preserved c =
     rise_turn _ c.loop-k.invariant (search rules) c.largest-top.ensures (ap₂ (λ (x y : ℕ). x + (c.args.sum - y)) (c.to_u64-multiplicity.ensures.0
     ∙ c.word_at-in-loop-k-2.ensures ∙ ap (word c.args.nodes.now) (c.to_usize.ensures.0 ∙ c.word_at-in-loop-k.ensures)) (c.to_u64-tuple.ensures.0 ∙ c.word_at.ensures))
-
-pub returns : goal.returns
-returns c = rise_ends c.loop-k.invariant (search rules)

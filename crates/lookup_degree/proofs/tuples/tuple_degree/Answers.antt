@@ -1,9 +1,6 @@
-use Rattle.lookup_degree.proofs.Loops.{topping_begins, topping_turn, topping_ends}
+use Rattle.lookup_degree.proofs.Loops.{topping_turn, topping_ends}
 use borrow.Author.Rules.{rules}
 use Rattle.lookup_degree.proofs.tuples.tuple_degree.Goals as goal
-
-pub loop-i-init : goal.loop-i-init
-loop-i-init c = topping_begins
 
 pub loop-i-preserved : goal.loop-i-preserved
 loop-i-preserved c =

@@ -1,4 +1,4 @@
-use Rattle.lookup_degree.proofs.Loops.{degreed_begins, degreed_room, degreed_turn, degreed_ends}
+use Rattle.lookup_degree.proofs.Loops.{degreed_begins, degreed_room, degreed_turn}
 use native.Mathlib.Omega.{arith}
 use borrow.Author.Rules.{rules}
 use Rattle.lookup_degree.proofs.tuples.tuple_degrees.Goals as goal
@@ -21,6 +21,3 @@ offset_bounds-elements-start c =
 pub loop-j-preserved : goal.loop-j-preserved
 loop-j-preserved c =
     degreed_turn c.loop-j.invariant (search rules) (search rules) c.to_usize.ensures.0 c.tuple_degree-degree.ensures
-
-pub returns : goal.returns
-returns c = degreed_ends c.loop-j.invariant (search rules)

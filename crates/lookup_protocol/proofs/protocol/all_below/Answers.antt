@@ -1,6 +1,4 @@
-use Prim.Native.Nat.{◌-◌}
-use Rattle.lookup_protocol.specs.Terminals.{terminal_below}
-use Rattle.lists.specs.laws.Turns.{Testing, test_begins, test_turn, test_ends}
+use Rattle.lists.specs.laws.Turns.{test_begins, test_turn}
 use borrow.Author.Rules.{rules}
 use Rattle.lookup_protocol.proofs.protocol.all_below.Goals as goal
 
@@ -9,6 +7,3 @@ loop-i-init c = test_begins
 
 pub loop-i-preserved : goal.loop-i-preserved
 loop-i-preserved c = test_turn c.loop-i.invariant (search rules) (rw c.terminal_below-ok.ensures)
-
-pub returns : goal.returns
-returns c = test_ends c.loop-i.invariant (search rules)

@@ -1,7 +1,6 @@
 use Prim.Native.Nat.{◌-◌}
 use Rattle.lookup_protocol.specs.Terminals.{terminal_below}
-use Rattle.lists.specs.laws.Turns.{Testing, test_begins, test_turn, test_ends}
-use borrow.Author.Rules.{rules}
+use Rattle.lists.specs.laws.Turns.{Testing}
 use Rattle.lookup_protocol.proofs.protocol.all_below.Given as goal
 
 abbrev pub invariant-loop-i : goal.invariant-loop-i

@@ -1,8 +1,6 @@
-use mathlib.Core.Path.{refl}
 use lib.ListN.{length}
 use Prim.Native.Nat.{◌-◌}
-use Rattle.lookup_protocol.specs.laws.Height.{SmallSoFar, small_none, small-next, small_all, part_in, part-few}
-use borrow.Author.Rules.{rules}
+use Rattle.lookup_protocol.specs.laws.Height.{SmallSoFar}
 use Rattle.lookup_protocol.proofs.protocol.all_small.Given as goal
 
 abbrev pub invariant-loop-t : goal.invariant-loop-t

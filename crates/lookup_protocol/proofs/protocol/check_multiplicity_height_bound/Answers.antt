@@ -2,7 +2,6 @@ use mathlib.Core.Path.{ap}
 use Rattle.expression.specs.Refusal.{numbers}
 use Rattle.expression.specs.laws.Tested.{limits_sane}
 use Rattle.lookup_protocol.specs.Height.{height_at}
-use borrow.Author.Rules.{rules}
 use Rattle.lookup_protocol.proofs.protocol.check_multiplicity_height_bound.Goals as goal
 
 pub returns-then-not-known : goal.returns-then-not-known

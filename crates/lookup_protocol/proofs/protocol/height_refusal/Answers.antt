@@ -1,7 +1,6 @@
 use borrow.Author.Tests.{lt-ltb, le-ltb}
 use Rattle.lookup_protocol.specs.laws.Height.{counted-tested}
 use Rattle.lookup_protocol.specs.Height.{height_refusal}
-use borrow.Author.Rules.{rules}
 use Rattle.lookup_protocol.proofs.protocol.height_refusal.Goals as goal
 
 pub returns-then-not-tables_fit : goal.returns-then-not-tables_fit

@@ -1,8 +1,6 @@
-use mathlib.Core.Path.{refl}
 use lib.ListN.{length}
 use Prim.Native.Nat.{◌-◌}
-use Rattle.lookup_protocol.specs.laws.Height.{WeightSoFar, weight_none, weight-next, weight-all, part_in, part-weights}
-use borrow.Author.Rules.{rules}
+use Rattle.lookup_protocol.specs.laws.Height.{WeightSoFar}
 use Rattle.lookup_protocol.proofs.protocol.height_sum.Given as goal
 
 abbrev pub invariant-loop-t : goal.invariant-loop-t

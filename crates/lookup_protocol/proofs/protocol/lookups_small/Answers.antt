@@ -1,5 +1,4 @@
 use Rattle.lookup_protocol.specs.Height.{lookups_small}
-use borrow.Author.Rules.{rules}
 use Rattle.lookup_protocol.proofs.protocol.lookups_small.Goals as goal
 
 pub returns : goal.returns

@@ -1,6 +1,5 @@
 use native.Mathlib.Omega.{arith}
 use Rattle.lookup_protocol.specs.laws.Height.{weight-fits}
-use borrow.Author.Rules.{rules}
 use Rattle.lookup_protocol.proofs.protocol.table_weight.Goals as goal
 
 pub overflow_mul-result : goal.overflow_mul-result

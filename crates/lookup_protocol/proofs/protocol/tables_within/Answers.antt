@@ -1,5 +1,4 @@
 use Rattle.lookup_protocol.specs.Height.{tables_within}
-use borrow.Author.Rules.{rules}
 use Rattle.lookup_protocol.proofs.protocol.tables_within.Goals as goal
 
 pub returns : goal.returns

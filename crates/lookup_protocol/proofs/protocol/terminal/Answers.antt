@@ -1,6 +1,5 @@
 use mathlib.Core.Path.{refl}
 use Rattle.lookup_protocol.specs.Terminals.{terminal}
-use borrow.Author.Rules.{rules}
 use Rattle.lookup_protocol.proofs.protocol.terminal.Goals as goal
 
 pub returns : goal.returns

@@ -1,5 +1,4 @@
 use Rattle.lookup_protocol.specs.Terminals.{terminal_below}
-use borrow.Author.Rules.{rules}
 use Rattle.lookup_protocol.proofs.protocol.terminal_below.Goals as goal
 
 pub returns : goal.returns

@@ -1,8 +1,7 @@
 use lib.ListN.{length}
-use Prim.Native.Nat.{◌-◌, ◌/◌}
-use Rattle.field.specs.Ext.{ext_words}
+use Prim.Native.Nat.{◌/◌}
 use Rattle.lists.specs.laws.Tests.{every_true}
-use Rattle.lookup_protocol.specs.laws.Terminals.{Adding, begins, turn, ends}
+use Rattle.lookup_protocol.specs.laws.Terminals.{begins, turn}
 use Rattle.lookup_protocol.specs.Terminals.{terminal_below}
 use borrow.Author.Rules.{rules}
 use Rattle.lookup_protocol.proofs.protocol.terminal_sum.Goals as goal
@@ -20,6 +19,3 @@ with_terminal-sum-requires c = (
 
 pub loop-i-preserved : goal.loop-i-preserved
 loop-i-preserved c = turn c.loop-i.invariant (search rules) c.with_terminal-sum.ensures
-
-pub returns : goal.returns
-returns c = ends c.loop-i.invariant (search rules)

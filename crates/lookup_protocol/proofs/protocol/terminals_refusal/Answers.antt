@@ -1,10 +1,4 @@
-use lib.ListN.{length}
-use lib.Dec.{eqb, leb}
-use Prim.Native.Nat.{◌/◌, ◌%◌}
-use mathlib.Core.Path.{sym, ◌∙◌}
-use mathlib.Core.Bool.{◌&&◌}
 use Rattle.lookup_protocol.specs.Terminals.{terminals_refusal}
-use borrow.Author.Rules.{rules}
 use Rattle.lookup_protocol.proofs.protocol.terminals_refusal.Goals as goal
 
 pub returns-then-not-whole-few : goal.returns-then-not-whole-few
@@ -19,10 +13,6 @@ returns-then-not-all_below c =
       ← c.all_below.ensures,
       c.if-not-all_below.true,
     )
-
-pub terminal_sum-requires : goal.terminal_sum-requires
-terminal_sum-requires c =
-    (c.requires, sym c.all_below.ensures ∙ c.if-not-all_below.false)
 
 pub returns-then-is_zero : goal.returns-then-is_zero
 unfolding terminals_refusal

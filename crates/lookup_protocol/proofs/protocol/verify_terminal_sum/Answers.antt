@@ -2,7 +2,6 @@ use mathlib.Core.Path.{ap}
 use Rattle.field.specs.laws.Known.{known-prime}
 use Rattle.expression.specs.Refusal.{numbers}
 use Rattle.lookup_protocol.specs.Terminals.{terminals_at}
-use borrow.Author.Rules.{rules}
 use Rattle.lookup_protocol.proofs.protocol.verify_terminal_sum.Goals as goal
 
 pub returns-then-not-known : goal.returns-then-not-known

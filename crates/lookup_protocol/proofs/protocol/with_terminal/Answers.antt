@@ -1,6 +1,5 @@
 use Rattle.lookup_protocol.specs.laws.Terminals.{terminal-word}
 use Rattle.lookup_protocol.specs.Terminals.{with_terminal}
-use borrow.Author.Rules.{rules}
 use Rattle.lookup_protocol.proofs.protocol.with_terminal.Goals as goal
 
 pub add-requires : goal.add-requires

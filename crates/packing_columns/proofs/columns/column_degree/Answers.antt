@@ -1,5 +1,4 @@
 use Rattle.packing_columns.specs.inner.Columns.{column_degree}
-use borrow.Author.Rules.{rules}
 use Rattle.packing_columns.proofs.columns.column_degree.Goals as goal
 
 pub returns : goal.returns

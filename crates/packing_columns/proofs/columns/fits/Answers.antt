@@ -1,5 +1,4 @@
 use Rattle.packing_columns.specs.inner.Columns.{fits}
-use borrow.Author.Rules.{rules}
 use Rattle.packing_columns.proofs.columns.fits.Goals as goal
 
 pub returns : goal.returns

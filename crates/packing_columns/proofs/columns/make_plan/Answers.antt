@@ -1,8 +1,5 @@
-use Rattle.packing_columns.proofs.PlanLoops.{Planning, order_asks, plan_begins, plan_turn, plan_ends, taken_in}
-use Rattle.packing_columns.specs.inner.Columns.{plan_source}
-use Rattle.lookup.specs.Lookups.{lookup_count}
+use Rattle.packing_columns.proofs.PlanLoops.{order_asks, plan_begins, plan_turn, plan_ends, taken_in}
 use mathlib.Core.Path.{refl}
-use Prim.Native.Nat.{◌-◌}
 use native.Mathlib.Omega.{arith}
 use borrow.Author.Rules.{rules}
 use Rattle.packing_columns.proofs.columns.make_plan.Goals as goal

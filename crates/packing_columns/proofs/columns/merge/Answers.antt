@@ -1,6 +1,5 @@
 use native.Mathlib.Omega.{arith}
 use Rattle.packing_columns.specs.inner.Columns.{merge}
-use borrow.Author.Rules.{rules}
 use Rattle.packing_columns.proofs.columns.merge.Goals as goal
 
 pub overflow_add-result-3 : goal.overflow_add-result-3

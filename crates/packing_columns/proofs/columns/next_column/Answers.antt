@@ -1,8 +1,5 @@
 use Rattle.packing_columns.specs.laws.Numbers.{numbered}
-use Rattle.packing_columns.proofs.ColumnsLoops.{small, merged-small, Filling, fill_begins, fill_turn, fill_stops, fill-ends}
-use Rattle.packing_columns.specs.inner.Columns.{plan_source}
-use lib.ListN.{length}
-use Prim.Native.Nat.{◌-◌}
+use Rattle.packing_columns.proofs.ColumnsLoops.{small, merged-small, fill_begins, fill_turn, fill_stops, fill-ends}
 use borrow.Author.Rules.{rules}
 use Rattle.packing_columns.proofs.columns.next_column.Goals as goal
 

@@ -1,7 +1,6 @@
 use Rattle.packing_columns.proofs.ColumnsLoops.{column_put}
 use lib.ListN.{length-set}
 use native.Mathlib.Omega.{arith}
-use borrow.Author.Rules.{rules}
 use Rattle.packing_columns.proofs.columns.put_column.Goals as goal
 
 pub bounds-out-4 : goal.bounds-out-4

@@ -1,5 +1,4 @@
 use Rattle.packing_columns.proofs.ColumnsLoops.{top_is}
-use borrow.Author.Rules.{rules}
 use Rattle.packing_columns.proofs.columns.top_of.Goals as goal
 
 pub returns : goal.returns

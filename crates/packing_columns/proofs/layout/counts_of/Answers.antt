@@ -1,6 +1,5 @@
 use Rattle.packing_columns.proofs.LayoutLoops.{counts_are}
 use native.Mathlib.Omega.{arith}
-use borrow.Author.Rules.{rules}
 use Rattle.packing_columns.proofs.layout.counts_of.Goals as goal
 
 pub slice_bounds-list_total-end : goal.slice_bounds-list_total-end

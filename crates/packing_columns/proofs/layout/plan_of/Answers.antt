@@ -1,7 +1,6 @@
 use Rattle.packing_columns.proofs.LayoutLoops.{degrees_are, degrees-long, ready, layout_is}
 use native.Mathlib.Omega.{arith}
 use Rattle.lookup.specs.Lookups.{lent_lookups}
-use borrow.Author.Rules.{rules}
 use Rattle.packing_columns.proofs.layout.plan_of.Goals as goal
 
 pub slice_bounds-tuple_degrees-end : goal.slice_bounds-tuple_degrees-end

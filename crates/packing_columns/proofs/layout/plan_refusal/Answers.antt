@@ -1,5 +1,4 @@
 use Rattle.packing_columns.proofs.Refusals.{refuse_widths, refuse_over, refuse_none}
-use borrow.Author.Rules.{rules}
 use Rattle.packing_columns.proofs.layout.plan_refusal.Goals as goal
 
 pub returns-in-Refused : goal.returns-in-Refused

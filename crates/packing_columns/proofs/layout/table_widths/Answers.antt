@@ -1,6 +1,5 @@
 use Rattle.packing_columns.proofs.Refusals.{one_tabled, one_refusal}
 use mathlib.Core.Path.{◌∙◌}
-use borrow.Author.Rules.{rules}
 use Rattle.packing_columns.proofs.layout.table_widths.Goals as goal
 
 pub bus_widths-requires : goal.bus_widths-requires

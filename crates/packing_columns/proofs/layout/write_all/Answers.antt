@@ -1,7 +1,6 @@
 use Rattle.packing_columns.proofs.LayoutLoops.{names-room, tuples-room, multiplicities-room, flags-room, elements-room}
 use Rattle.lookup.specs.Lookups.{lent_lookups}
 use native.Mathlib.Omega.{arith}
-use borrow.Author.Rules.{rules}
 use Rattle.packing_columns.proofs.layout.write_all.Goals as goal
 
 pub overflow_mul-used : goal.overflow_mul-used

@@ -1,7 +1,6 @@
-use Rattle.packing_columns.proofs.LookupListLoops.{Copying, copy_begins, copy_turn, copy_ends}
+use Rattle.packing_columns.proofs.LookupListLoops.{Copying}
 use lib.ListN.{length}
 use Prim.Native.Nat.{◌-◌}
-use borrow.Author.Rules.{rules}
 use Rattle.packing_columns.proofs.lookup_lists.copy.Given as goal
 
 abbrev pub invariant-loop-i : goal.invariant-loop-i

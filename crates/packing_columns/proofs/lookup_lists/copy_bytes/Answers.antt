@@ -1,6 +1,4 @@
-use Rattle.packing_columns.proofs.LookupListLoops.{Copying, copy_begins, copy_turn, copy_ends}
-use lib.ListN.{length}
-use Prim.Native.Nat.{◌-◌}
+use Rattle.packing_columns.proofs.LookupListLoops.{copy_begins, copy_turn, copy_ends}
 use borrow.Author.Rules.{rules}
 use Rattle.packing_columns.proofs.lookup_lists.copy_bytes.Goals as goal
 

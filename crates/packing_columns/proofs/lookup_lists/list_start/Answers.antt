@@ -2,7 +2,6 @@ use Rattle.packing_columns.specs.inner.LookupLists.{list_start}
 use Rattle.lookup.specs.Lookups.{element_start}
 use mathlib.Core.Path.{◌∙◌, ap}
 use native.Mathlib.Omega.{arith}
-use borrow.Author.Rules.{rules}
 use Rattle.packing_columns.proofs.lookup_lists.list_start.Goals as goal
 
 pub element_start-requires : goal.element_start-requires

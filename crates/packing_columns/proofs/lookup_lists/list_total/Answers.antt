@@ -1,10 +1,6 @@
 use Rattle.packing_columns.proofs.LookupListLoops.{span_is, start-next}
 use Rattle.packing_columns.specs.laws.Numbers.{numbered}
-use Rattle.lists.specs.laws.Turns.{Summing, sum-begins, sum_turn, sum-ends}
-use Rattle.packing_columns.specs.inner.LookupLists.{list_length}
-use Rattle.expression.specs.Words.{word}
-use lib.ListN.{length}
-use Prim.Native.Nat.{◌-◌}
+use Rattle.lists.specs.laws.Turns.{sum-begins, sum_turn, sum-ends}
 use native.Mathlib.Omega.{arith}
 use borrow.Author.Rules.{rules}
 use Rattle.packing_columns.proofs.lookup_lists.list_total.Goals as goal

@@ -1,8 +1,6 @@
-use Rattle.packing_columns.proofs.LookupListLoops.{Writing, write_begins, write_room, write_turn, write_ends, start-next, next-part, copied, copy_room}
+use Rattle.packing_columns.proofs.LookupListLoops.{write_begins, write_room, write_turn, write_ends, next-part, copied, copy_room}
 use Rattle.packing_columns.specs.laws.Numbers.{numbered}
-use Rattle.packing_columns.specs.inner.LookupLists.{list_part, list_parts}
-use lib.ListN.{length}
-use Prim.Native.Nat.{◌-◌}
+use Rattle.packing_columns.specs.inner.LookupLists.{list_parts}
 use native.Mathlib.Omega.{arith}
 use Rattle.packing_columns.specs.declared.lookup_lists.LookupList.TheVariants.{Names}
 use mathlib.Core.List.{[]}

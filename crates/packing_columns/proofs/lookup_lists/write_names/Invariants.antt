@@ -1,12 +1,9 @@
-use Rattle.packing_columns.proofs.LookupListLoops.{Writing, write_begins, write_room, write_turn, write_ends, start-next, next-part, copied, copy_room}
-use Rattle.packing_columns.specs.laws.Numbers.{numbered}
-use Rattle.packing_columns.specs.inner.LookupLists.{list_part, list_parts}
+use Rattle.packing_columns.proofs.LookupListLoops.{Writing}
+use Rattle.packing_columns.specs.inner.LookupLists.{list_part}
 use lib.ListN.{length}
 use Prim.Native.Nat.{◌-◌}
-use native.Mathlib.Omega.{arith}
 use Rattle.packing_columns.specs.declared.lookup_lists.LookupList.TheVariants.{Names}
 use mathlib.Core.List.{[]}
-use borrow.Author.Rules.{rules}
 use Rattle.packing_columns.proofs.lookup_lists.write_names.Given as goal
 
 abbrev pub invariant-loop-t : goal.invariant-loop-t

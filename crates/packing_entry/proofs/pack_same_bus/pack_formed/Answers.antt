@@ -1,6 +1,5 @@
 use Rattle.packing_entry.proofs.Answers.{same-refusal, accepted_is, roomy, packed_is, refused_is}
 use Rattle.lookup.specs.Lookups.{lent_lookups}
-use borrow.Author.Rules.{rules}
 use Rattle.packing_entry.proofs.pack_same_bus.pack_formed.Goals as goal
 
 pub write_all-requires : goal.write_all-requires

@@ -3,7 +3,6 @@ use Rattle.expression.specs.laws.Tested.{limits_sane}
 use Rattle.packing_entry.proofs.Answers.{choice_unknown, choices_known}
 use Rattle.lookup.specs.Lookups.{lent_lookups}
 use mathlib.Core.Path.{ap}
-use borrow.Author.Rules.{rules}
 use Rattle.packing_entry.proofs.pack_same_bus.pack_same_bus.Goals as goal
 
 pub returns-then-not-known : goal.returns-then-not-known

@@ -4,7 +4,6 @@ use Rattle.lookup_degree.specs.laws.Formed.{formed}
 use Rattle.lookup.specs.Lookups.{lent_lookups}
 use Rattle.expression.specs.Refusal.{refusal}
 use mathlib.Core.Path.{◌∙◌, sym, ap}
-use borrow.Author.Rules.{rules}
 use Rattle.packing_entry.proofs.pack_same_bus.pack_within.Goals as goal
 
 pub returns-then-not-counts_hold : goal.returns-then-not-counts_hold
