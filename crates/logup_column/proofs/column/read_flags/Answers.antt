@@ -1,5 +1,5 @@
 use mathlib.Core.Path.{refl}
-use Rattle.logup_column.proofs.FlagsLoops.{flags_loop_begins, flags_loop_turn, flags_loop_ends}
+use Rattle.logup_column.proofs.FlagsLoops.{flags_loop_begins, flags_loop_turn}
 use borrow.Author.Rules.{rules}
 use Rattle.logup_column.proofs.column.read_flags.Goals as goal
 
@@ -10,6 +10,3 @@ pub loop-k-preserved : goal.loop-k-preserved
 loop-k-preserved c =
     flags_loop_turn c.loop-k.invariant c.loop-k-test.true c.value-f.ensures c.either-over.ensures
     c.one_if-ones.ensures c.pick-chosen.ensures
-
-pub returns : goal.returns
-returns c = flags_loop_ends c.loop-k.invariant (search rules)

@@ -1,33 +1,17 @@
-use Rattle.logup_column.proofs.TermsLoops.{terms_begin, terms_in, terms_few, terms_part, terms_turn, terms_end}
+use Rattle.logup_column.proofs.TermsLoops.{terms_begin, terms_in, terms_turn}
 use mathlib.Core.Path.{refl}
 use native.Mathlib.Omega.{arith}
-use borrow.Author.Rules.{rules}
 use Rattle.logup_column.proofs.column.write_terms.Goals as goal
 
 pub loop-k-init : goal.loop-k-init
 loop-k-init c =
     terms_begin c.requires.3 (omega (arith, c.well_formed)) (omega (arith, c.well_formed)) refl c.requires.4 c.requires.5
 
-pub overflow_add-end : goal.overflow_add-end
-overflow_add-end c =
-    omega (arith, terms_in c.loop-k.invariant c.loop-k-test.true c.size_at.ensures.0, c.well_formed)
-
 pub slice_bounds-term_of-end : goal.slice_bounds-term_of-end
 slice_bounds-term_of-end c =
     terms_in c.loop-k.invariant c.loop-k-test.true c.size_at.ensures.0
-
-pub term_of-t-requires : goal.term_of-t-requires
-term_of-t-requires c =
-    (c.requires.0, c.requires.1, c.requires.2, terms_few c.loop-k.invariant c.loop-k-test.true c.size_at.ensures.0)
-
-pub store-requires : goal.store-requires
-store-requires c =
-    terms_part c.loop-k.invariant c.loop-k-test.true
 
 pub loop-k-preserved : goal.loop-k-preserved
 loop-k-preserved c =
     terms_turn c.loop-k.invariant c.loop-k-test.true _ c.value-m.ensures c.size_at.ensures.0
     c.contributes_nothing-nothing.ensures c.term_of-t.ensures c.store.ensures c.is_zero.ensures c.either-zero.ensures
-
-pub returns : goal.returns
-returns c = terms_end c.loop-k.invariant (search rules)

@@ -1,5 +1,5 @@
 use Rattle.logup_column.specs.laws.Lookup.{element-word}
-use Rattle.logup_column.proofs.TableLoops.{table_loop_begins, table_loop_part, table_loop_turn, table_loop_ends}
+use Rattle.logup_column.proofs.TableLoops.{table_loop_begins, table_loop_part, table_loop_turn}
 use borrow.Author.Rules.{rules}
 use Rattle.logup_column.proofs.powers.write_table.Goals as goal
 
@@ -17,6 +17,3 @@ write_powers-requires c = (
 pub loop-i-preserved : goal.loop-i-preserved
 loop-i-preserved c =
     table_loop_turn _ c.loop-i.invariant c.loop-i-test.true c.load-beta.ensures c.write_powers.ensures
-
-pub returns : goal.returns
-returns c = table_loop_ends c.loop-i.invariant (search rules)

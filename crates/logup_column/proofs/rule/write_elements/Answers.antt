@@ -9,10 +9,6 @@ loop-k-init c = elements_loop_begins c.requires.0 c.requires.1
 pub slice_bounds-write_tuple-end : goal.slice_bounds-write_tuple-end
 slice_bounds-write_tuple-end c = omega (arith, c.to_usize.ensures.0, (elements_loop_next c.loop-k.invariant c.loop-k-test.true).1)
 
-pub slice_bounds-write_tuple-end-in-loop-k : goal.slice_bounds-write_tuple-end-in-loop-k
-slice_bounds-write_tuple-end-in-loop-k c =
-    omega (arith, c.to_usize.ensures.0, c.loop-k.invariant.out≡.len, c.loop-k.invariant.room, (elements_loop_next c.loop-k.invariant c.loop-k-test.true).1)
-
 pub loop-k-preserved : goal.loop-k-preserved
 loop-k-preserved c =
     elements_loop_turn _ c.loop-k.invariant c.loop-k-test.true (omega (arith, c.to_usize.ensures.0)) c.write_tuple.ensures
