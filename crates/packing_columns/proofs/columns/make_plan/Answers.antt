@@ -1,6 +1,5 @@
-use Rattle.packing_columns.proofs.PlanLoops.{order_asks, plan_begins, plan_turn, plan_ends, taken_in}
+use Rattle.packing_columns.proofs.PlanLoops.{order_asks, plan_begins, plan_turn, plan_ends}
 use mathlib.Core.Path.{refl}
-use native.Mathlib.Omega.{arith}
 use borrow.Author.Rules.{rules}
 use Rattle.packing_columns.proofs.columns.make_plan.Goals as goal
 
@@ -14,20 +13,6 @@ next_column-next-requires c = (
   (order_asks
       c.args.lookups.now c.args.names.now c.requires.named.few c.order-order.ensures).1 _ c.loop-k-test.true,
 )
-
-pub overflow_cast-heads : goal.overflow_cast-heads
-overflow_cast-heads c =
-    omega (arith, c.next_column-next.ensures.head, c.requires.named.few)
-
-pub put_column-requires : goal.put_column-requires
-put_column-requires c = (search rules, c.next_column-next.ensures.head)
-
-pub on_bus-requires : goal.on_bus-requires
-on_bus-requires c = omega (arith, c.next_column-next.ensures.head)
-
-pub loop-k-smaller : goal.loop-k-smaller
-loop-k-smaller c =
-    omega (arith, c.loop-k-test.true, c.next_column-next.ensures.above, taken_in c.order-order.ensures c.next_column-next.ensures)
 
 pub loop-k-preserved : goal.loop-k-preserved
 loop-k-preserved c =

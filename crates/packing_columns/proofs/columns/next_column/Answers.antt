@@ -1,24 +1,11 @@
 use Rattle.packing_columns.specs.laws.Numbers.{numbered}
-use Rattle.packing_columns.proofs.ColumnsLoops.{small, merged-small, fill_begins, fill_turn, fill_stops, fill-ends}
+use Rattle.packing_columns.proofs.ColumnsLoops.{merged-small, fill_begins, fill_turn, fill_stops, fill-ends}
 use borrow.Author.Rules.{rules}
 use Rattle.packing_columns.proofs.columns.next_column.Goals as goal
-
-pub opened-open-requires : goal.opened-open-requires
-opened-open-requires c =
-    let below = numbered c.requires.1 c.requires.2 c.to_usize-first.ensures.0 in
-    (c.requires.0.each _ below, c.requires.0.weights _ below, c.requires.0.low)
 
 pub loop-end-init : goal.loop-end-init
 loop-end-init c =
     fill_begins c.requires.2 c.requires.1.short c.to_usize-first.ensures.0 (numbered c.requires.1 c.requires.2 c.to_usize-first.ensures.0) c.opened-open.ensures
-
-pub opened-alone-requires : goal.opened-alone-requires
-opened-alone-requires c =
-    let below = numbered c.requires.1 (search rules) c.to_usize-i.ensures.0 in
-    (c.requires.0.each _ below, c.requires.0.weights _ below, c.requires.0.low)
-
-pub merge-merged-requires : goal.merge-merged-requires
-merge-merged-requires c = (small c.loop-end.invariant, c.opened-alone.ensures.1)
 
 pub fits-requires : goal.fits-requires
 fits-requires c = (

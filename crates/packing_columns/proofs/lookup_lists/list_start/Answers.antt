@@ -4,10 +4,6 @@ use mathlib.Core.Path.{◌∙◌, ap}
 use native.Mathlib.Omega.{arith}
 use Rattle.packing_columns.proofs.lookup_lists.list_start.Goals as goal
 
-pub element_start-requires : goal.element_start-requires
-element_start-requires c =
-    omega (arith, c.tuple_start-in-Elements.ensures.0, c.requires.0.short _ c.requires.1)
-
 pub returns-in-Names : goal.returns-in-Names
 unfolding list_start
 returns-in-Names c =

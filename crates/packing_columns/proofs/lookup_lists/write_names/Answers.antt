@@ -1,7 +1,5 @@
-use Rattle.packing_columns.proofs.LookupListLoops.{write_begins, write_room, write_turn, write_ends, next-part, copied, copy_room}
-use Rattle.packing_columns.specs.laws.Numbers.{numbered}
+use Rattle.packing_columns.proofs.LookupListLoops.{write_begins, write_room, write_turn, write_ends, next-part, copied}
 use Rattle.packing_columns.specs.inner.LookupLists.{list_parts}
-use native.Mathlib.Omega.{arith}
 use Rattle.packing_columns.specs.declared.lookup_lists.LookupList.TheVariants.{Names}
 use mathlib.Core.List.{[]}
 use borrow.Author.Rules.{rules}
@@ -11,25 +9,10 @@ pub loop-t-init : goal.loop-t-init
 unfolding list_parts
 loop-t-init c = write_begins c.requires.3
 
-pub list_start-start-requires : goal.list_start-start-requires
-list_start-start-requires c =
-    (c.requires.0, omega (arith, numbered c.requires.1 (search rules) c.to_usize-i.ensures.0))
-
-pub list_start-next-requires : goal.list_start-next-requires
-list_start-next-requires c =
-    (c.requires.0, omega (arith, numbered c.requires.1 (search rules) c.to_usize-i.ensures.0))
-
 pub overflow_sub-new_end : goal.overflow_sub-new_end
 overflow_sub-new_end c =
     (next-part Names c.args.lookups.now [] c.args.order.now c.args.src.now _ c.requires.1 c.requires.2 (search rules)
     c.to_usize-i.ensures.0 c.list_start-start.ensures.0 c.list_start-next.ensures.0).le
-
-pub overflow_add-new_end : goal.overflow_add-new_end
-overflow_add-new_end c =
-    omega (
-      arith,
-      write_room _ c.loop-t.invariant (search rules) (next-part Names c.args.lookups.now [] c.args.order.now c.args.src.now _ c.requires.1 c.requires.2 (search rules) c.to_usize-i.ensures.0 c.list_start-start.ensures.0 c.list_start-next.ensures.0).long,
-    )
 
 pub slice_bounds-copy_bytes-count : goal.slice_bounds-copy_bytes-count
 slice_bounds-copy_bytes-count c =
@@ -50,13 +33,6 @@ pub slice_bounds-copy_bytes-end-in-loop-t : goal.slice_bounds-copy_bytes-end-in-
 slice_bounds-copy_bytes-end-in-loop-t c =
     write_room _ c.loop-t.invariant (search rules) (next-part Names c.args.lookups.now [] c.args.order.now c.args.src.now _
     c.requires.1 c.requires.2 (search rules) c.to_usize-i.ensures.0 c.list_start-start.ensures.0 c.list_start-next.ensures.0).long
-
-pub copy_bytes-requires : goal.copy_bytes-requires
-copy_bytes-requires c =
-    copy_room _ _ _ _ _ (next-part Names c.args.lookups.now [] c.args.order.now c.args.src.now _ c.requires.1 c.requires.2 (search rules) c.to_usize-i.ensures.0 c.list_start-start.ensures.0 c.list_start-next.ensures.0).le (next-part Names
-    c.args.lookups.now [] c.args.order.now c.args.src.now _ c.requires.1 c.requires.2 (search rules) c.to_usize-i.ensures.0 c.list_start-start.ensures.0 c.list_start-next.ensures.0).in_list (write_room _ c.loop-t.invariant (search
-    rules) (next-part Names c.args.lookups.now [] c.args.order.now c.args.src.now _ c.requires.1 c.requires.2
-    (search rules) c.to_usize-i.ensures.0 c.list_start-start.ensures.0 c.list_start-next.ensures.0).long)
 
 pub loop-t-preserved : goal.loop-t-preserved
 loop-t-preserved c =
