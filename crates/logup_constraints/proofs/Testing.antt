@@ -1,16 +1,14 @@
 -- The tests of the entry point: what they answer, and what they leave of a trace that passed them.
-use mathlib.Core.Path.{◌≡◌, refl, sym, ap, ap₂, ◌∙◌, subst}
+use mathlib.Core.Path.{◌≡◌, refl, sym, ap, ◌∙◌, subst}
 use mathlib.Core.Bool.{Bool, true, false, cond, ◌&&◌, ◌||◌, not, true≢false}
 use mathlib.Core.Option.{Option, none, some}
-use mathlib.Core.List.{List, [], ◌∷◌}
+use mathlib.Core.List.{List}
 use Prim.Native.Nat.{ℕ, ◌+◌, ◌*◌, ◌/◌, ◌%◌, ◌<◌, ◌≤◌}
-use native.Mathlib.Nat.{mul-zero, mul-div_cancel, mul-mod_left, div-add-mod'}
 use native.Mathlib.Omega.{arith}
 use lib.Dec.{eqb, leb}
 use lib.ListN.{length}
 use borrow.Author.Tests.{eqb-true, leb-true}
-use Rattle.lists.specs.laws.Count as Count
-use Rattle.lists.specs.laws.Tests.{both_left, both_right, passed}
+use Rattle.lists.specs.laws.Tests.{both_left, both_right}
 use Rattle.field.specs.Element.{Word4}
 use Rattle.expression.specs.Words.{all_below}
 use Rattle.expression.specs.Refusal.{unless}
@@ -33,36 +31,6 @@ use Rattle.expression.specs.laws.Refusal.{unless_none}
 use Rattle.logup_column.specs.laws.Tested.{tested-lookups, tested-tuples, tested-lists, tested-traces}
 use Rattle.logup_terms.specs.inner.ConstraintRow.{TraceInputs}
 use Rattle.logup_constraints.specs.inner.Refusals.{trace_tests}
-
--- the trace's size without a product
-pub fits_none : (h w n : ℕ) → h ≡ 0 → eqb n 0 ≡ eqb n (w * h * 4)
-fits_none h w n e = let k : w * h ≡ 0 = ap (λ (x : ℕ). w * x) e ∙ mul-zero w in ap (eqb n) (omega (arith, k))
-
-same_tests : (a b : Bool) → (a ≡ true → b ≡ true) → (b ≡ true → a ≡ true) → a ≡ b
-same_tests true b f g = sym (f refl)
-same_tests false true f g = g refl
-same_tests false false f g = refl
-
-pub fits_is : (h w n : ℕ) → 0 < h → (eqb (n % 4) 0 && eqb (n / 4 % h) 0 && eqb (n / 4 / h) w) ≡ eqb n (w * h * 4)
-fits_is h w n pos = same_tests (eqb (n % 4) 0 && eqb (n / 4 % h) 0 && eqb (n / 4 / h) w) (eqb n (w * h * 4)) forth back
-  where
-    forth : (eqb (n % 4) 0 && eqb (n / 4 % h) 0 && eqb (n / 4 / h) w) ≡ true → eqb n (w * h * 4) ≡ true
-    forth t =
-        let k = passed (eqb (n % 4) 0) (eqb (n / 4 % h) 0 ∷ eqb (n / 4 / h) w ∷ []) t in
-        let four : n % 4 ≡ 0 = eqb-true (n % 4) 0 k.0 in
-        let whole : n / 4 % h ≡ 0 = eqb-true (n / 4 % h) 0 k.1.0 in
-        let wide : n / 4 / h ≡ w = eqb-true (n / 4 / h) w k.1.1.0 in
-        let e : n ≡ w * h * 4 = omega (arith, four, whole, ap (λ (x : ℕ). x * h) wide, div-add-mod' (n / 4) h) in
-        Count.eqb_true e
-
-    back : eqb n (w * h * 4) ≡ true → (eqb (n % 4) 0 && eqb (n / 4 % h) 0 && eqb (n / 4 / h) w) ≡ true
-    back t =
-        let e : n ≡ w * h * 4 = eqb-true n (w * h * 4) t in
-        let four : n % 4 ≡ 0 = omega (arith, e) in
-        let q : n / 4 ≡ w * h = omega (arith, e) in
-        let whole : n / 4 % h ≡ 0 = ap (λ (x : ℕ). x % h) q ∙ mul-mod_left w h in
-        let wide : n / 4 / h ≡ w = ap (λ (x : ℕ). x / h) q ∙ mul-div_cancel w pos in
-        ap₂ ◌&&◌ (ap₂ ◌&&◌ (Count.eqb_true four) (Count.eqb_true whole)) (Count.eqb_true wide)
 
 -- the two runs of tests are the definition's
 pub entry_is : (m : Limits) (p w : ℕ) (t : Table) (cs : List ℕ) (width : ℕ) (words : List ℕ) (o : Option (List ℕ))

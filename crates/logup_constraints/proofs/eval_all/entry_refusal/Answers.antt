@@ -6,7 +6,6 @@ use lib.ListN.{length}
 use Rattle.logup_constraints.specs.inner.Refusals.{trace_tests}
 use Rattle.logup_column.specs.laws.Refusals.{entry-some, entry_none, accepted-answer, refused-answer}
 use Rattle.logup_column.specs.laws.Tested.{tested, tested-lookups}
-use borrow.Author.Rules.{rules}
 use Rattle.logup_constraints.proofs.eval_all.entry_refusal.Goals as goal
 
 pub trace_refusal-requires : goal.trace_refusal-requires

@@ -3,7 +3,6 @@ use Rattle.expression.specs.Refusal.{numbers}
 use Rattle.expression.specs.laws.Tested.{limits_sane}
 use Rattle.logup_column.specs.laws.Tested.{field_of}
 use Rattle.logup_constraints.proofs.Deciding.{choice_unknown, choices_known}
-use borrow.Author.Rules.{rules}
 use Rattle.logup_constraints.proofs.eval_all.eval_all.Goals as goal
 
 pub returns-then-not-known-known_rule : goal.returns-then-not-known-known_rule

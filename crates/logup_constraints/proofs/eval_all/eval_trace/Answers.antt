@@ -4,7 +4,6 @@ use Rattle.logup_constraints.specs.Refusals.{terminal_of}
 use Rattle.logup_column.specs.laws.Refusals.{accepted-answer, refused-answer}
 use Rattle.logup_constraints.proofs.Testing.{entry_is, rows-ready}
 use Rattle.logup_constraints.proofs.Deciding.{refused_is, absent_is, given_is}
-use borrow.Author.Rules.{rules}
 use Rattle.logup_constraints.proofs.eval_all.eval_trace.Goals as goal
 
 pub rows_verdict-requires : goal.rows_verdict-requires

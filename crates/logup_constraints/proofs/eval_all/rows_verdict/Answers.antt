@@ -3,7 +3,6 @@ use native.Mathlib.Omega.{arith}
 use Rattle.logup_column.specs.laws.Table.{powered}
 use Rattle.logup_column.specs.laws.Rule.{few-elements, front_is, listed_under}
 use Rattle.logup_constraints.specs.laws.Unnamed.{unnamed-verdict}
-use borrow.Author.Rules.{rules}
 use Rattle.logup_constraints.proofs.eval_all.rows_verdict.Goals as goal
 
 pub write_elements-requires : goal.write_elements-requires

@@ -1,5 +1,4 @@
 use Rattle.logup_constraints.proofs.Testing.{trace_8, trace_9, trace_10, trace_11, trace_passed}
-use borrow.Author.Rules.{rules}
 use Rattle.logup_constraints.proofs.eval_all.trace_refusal.Goals as goal
 
 pub returns-then-not-some-n : goal.returns-then-not-some-n

@@ -1,7 +1,6 @@
 use mathlib.Core.Path.{refl, sym}
 use Rattle.logup_column.specs.laws.Tested.{tested, tested-height, tested-lookups}
 use Rattle.logup_column.specs.laws.Refusals.{entry-some, entry_none, accepted-answer, refused-answer}
-use borrow.Author.Rules.{rules}
 use Rattle.logup_generation.proofs.generate_permutation.entry_refusal.Goals as goal
 
 pub trace_refusal-requires : goal.trace_refusal-requires

@@ -1,7 +1,6 @@
 use Rattle.expression.specs.laws.Tested.{limits_sane}
 use Rattle.logup_column.specs.laws.Tested.{field_of}
 use Rattle.logup_generation.proofs.Finishing.{choice_unknown, choices_known}
-use borrow.Author.Rules.{rules}
 use Rattle.logup_generation.proofs.generate_permutation.generate.Goals as goal
 
 pub returns-then-not-known-known_rule : goal.returns-then-not-known-known_rule

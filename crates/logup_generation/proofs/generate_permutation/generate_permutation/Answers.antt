@@ -3,7 +3,6 @@ use Rattle.expression.specs.Refusal.{refusal}
 use Rattle.logup_generation.proofs.Finishing.{refused_is, absent_is, rows_are}
 use Rattle.logup_column.specs.laws.Refusals.{accepted-answer, refused-answer}
 use Rattle.logup_generation.proofs.Testing.{entry_is, rows-ready}
-use borrow.Author.Rules.{rules}
 use Rattle.logup_generation.proofs.generate_permutation.generate_permutation.Goals as goal
 
 pub generate_rows-requires : goal.generate_rows-requires

@@ -2,8 +2,7 @@ use native.Mathlib.Omega.{arith}
 use Rattle.logup.specs.Rows.{first_fault}
 use Rattle.logup_column.specs.laws.Table.{powered}
 use Rattle.logup_column.specs.laws.Rule.{few-elements, front_is, listed_under}
-use Rattle.logup_generation.proofs.Finishing.{room_after, rows_finished}
-use borrow.Author.Rules.{rules}
+use Rattle.logup_generation.proofs.Finishing.{rows_finished}
 use Rattle.logup_generation.proofs.generate_permutation.generate_rows.Goals as goal
 
 pub write_elements-requires : goal.write_elements-requires
@@ -28,14 +27,6 @@ all_rows-progress-requires c = (
   c.requires.7,
   c.requires.8,
 )
-
-pub used_words-requires : goal.used_words-requires
-used_words-requires c =
-    (c.requires.5, c.requires.6)
-
-pub finish-requires : goal.finish-requires
-finish-requires c =
-    room_after _ _ _ _ _ _ _ c.all_rows-progress.ensures.1 c.used_words.ensures c.requires.8
 
 pub returns : goal.returns
 unfolding first_fault

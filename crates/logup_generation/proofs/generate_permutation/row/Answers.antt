@@ -3,7 +3,6 @@ use Prim.Native.Nat.{◌+◌, ◌*◌}
 use lib.ListN.{length}
 use native.Mathlib.Omega.{arith}
 use Rattle.logup_generation.proofs.Reading.{row_fits, empty_first, empty_second, first-left, whole_row}
-use borrow.Author.Rules.{rules}
 use Rattle.logup_generation.proofs.generate_permutation.row.Goals as goal
 
 pub returns-then-lookups-trace : goal.returns-then-lookups-trace
@@ -14,20 +13,6 @@ returns-then-lookups-trace c =
       begins = λ h. absurd (omega arith);
     }
 
-pub overflow_add-width : goal.overflow_add-width
-overflow_add-width c =
-    omega (
-      arith,
-      (first-left (length c.args.trace.now) c.args.lookups c.args.height c.args.r c.if-lookups-trace.false).1,
-    )
-
-pub overflow_mul-width : goal.overflow_mul-width
-overflow_mul-width c =
-    omega (
-      arith,
-      (first-left (length c.args.trace.now) c.args.lookups c.args.height c.args.r c.if-lookups-trace.false).1,
-    )
-
 pub returns-then-trace-width : goal.returns-then-trace-width
 returns-then-trace-width c =
     record {
@@ -35,23 +20,6 @@ returns-then-trace-width c =
       same_memory = refl;
       begins = λ h. absurd (omega arith);
     }
-
-pub overflow_mul-start : goal.overflow_mul-start
-overflow_mul-start c =
-    omega (
-      arith,
-      row_fits (length c.args.trace.now) ((c.args.lookups + 1) * 4) c.args.r c.if-trace-width.false,
-    )
-
-pub overflow_add-result : goal.overflow_add-result
-overflow_add-result c =
-    omega (
-      arith,
-      row_fits (length c.args.trace.now) ((c.args.lookups + 1) * 4) c.args.r c.if-trace-width.false,
-    )
-
-pub slice_bounds-result-end-2 : goal.slice_bounds-result-end-2
-slice_bounds-result-end-2 c = row_fits (length c.args.trace.now) ((c.args.lookups + 1) * 4) c.args.r c.if-trace-width.false
 
 pub returns : goal.returns
 returns c =

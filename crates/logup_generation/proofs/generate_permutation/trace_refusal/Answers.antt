@@ -1,5 +1,4 @@
 use Rattle.logup_generation.proofs.Testing.{trace_8, trace_9, trace_10, trace_passed}
-use borrow.Author.Rules.{rules}
 use Rattle.logup_generation.proofs.generate_permutation.trace_refusal.Goals as goal
 
 pub returns-then-not-none-challenges : goal.returns-then-not-none-challenges
