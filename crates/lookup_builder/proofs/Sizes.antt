@@ -1,12 +1,12 @@
 -- The tests of refusal 1, and what they say.
-use mathlib.Core.Path.{◌≡◌, refl, sym, ap, ◌∙◌}
+use mathlib.Core.Path.{◌≡◌, sym, ◌∙◌}
 use mathlib.Core.Bool.{Bool, true, false, ◌&&◌}
 use mathlib.Core.List.{List, [], ◌∷◌}
 use Prim.Native.Nat.{ℕ, ◌+◌, ◌*◌, ◌≤◌}
 use native.Mathlib.Omega.{arith}
 use lib.Dec.{eqb, leb}
 use lib.ListN.{length}
-use borrow.Author.Tests.{eqb-true, eq-eqb, ne_eqb, leb-true, le-leb}
+use borrow.Author.Tests.{eqb-true, eq-eqb, ne_eqb, leb-true}
 use Rattle.lists.specs.Count.{every}
 use Rattle.lists.specs.laws.Tests.{passed}
 use Rattle.expression.specs.Limits.{Sane}
@@ -16,22 +16,6 @@ use Rattle.lookup_builder.specs.Building.{interaction_count, tuple_number, first
 use Rattle.lookup_builder.specs.FromInteractions.{building_fits}
 use Rattle.lookup_builder.specs.declared.answer.Kinds.{Kinds}
 use Rattle.lookup_builder.specs.inner.Requires.{InteractionsSized}
-
--- `few_kinds`: the three numbers, each within
-pub each_within : (m : ℕ) (k : Kinds) → (leb k.locals m && leb k.globals m && leb k.exclusives m) ≡ true → (k.locals ≤ m) × (k.globals ≤ m) × (k.exclusives ≤ m)
-each_within m k e =
-    let p = passed (leb k.locals m) (leb k.globals m ∷ leb k.exclusives m ∷ []) e in
-    (leb-true k.locals m p.0, leb-true k.globals m p.1.0, leb-true k.exclusives m p.1.1.0)
-
--- where one is over, so is the sum
-pub one-over : (m : ℕ) (k : Kinds) → (leb k.locals m && leb k.globals m && leb k.exclusives m) ≡ false → false ≡ leb (interaction_count k) m
-one-over m k e = sum_over (leb (interaction_count k) m) refl
-  where
-    sum_over : (b : Bool) → leb (interaction_count k) m ≡ b → false ≡ b
-    sum_over false g = refl
-    sum_over true g =
-        let h : interaction_count k ≤ m = leb-true (interaction_count k) m g in
-        sym e ∙ rw (le-leb k.locals m (omega arith), le-leb k.globals m (omega arith), le-leb k.exclusives m (omega arith)) refl
 
 -- `building_fits`, return by return
 module _ (m : Limits) (k : Kinds) (interactions weights tuples : List ℕ) (room : ℕ) {b : Bool} (e : b ≡ leb (interaction_count k) m.lookups) where
@@ -45,9 +29,6 @@ module _ (m : Limits) (k : Kinds) (interactions weights tuples : List ℕ) (room
   pub fits_odd : {n : ℕ} → b ≡ true → n ≡ interaction_count k → (length interactions ≡ 2 * n → ⊥) → false ≡ building_fits m k interactions weights tuples room
   unfolding building_fits
   fits_odd {n} z q y = rw (sym e ∙ z, ← q, ne_eqb (length interactions) (2 * n) y)
-
-  pub even : {n : ℕ} → n ≡ interaction_count k → length interactions ≡ 2 * n → length interactions ≡ 2 * interaction_count k
-  even {n} q y = y ∙ ap (λ (x : ℕ). 2 * x) q
 
   pub fits-rest : {n f : ℕ} {g : Bool} → b ≡ true → n ≡ interaction_count k → length interactions ≡ 2 * n → f ≡ first_tuple interactions n
       → g ≡ every (λ j. eqb (tuple_number interactions (k.locals + j)) 1) k.globals

@@ -6,7 +6,7 @@ use mathlib.Core.List.{List, ◌++◌}
 use Prim.Native.Nat.{ℕ, ◌+◌, ◌<◌, ◌≤◌}
 use native.Mathlib.Omega.{arith}
 use native.Mathlib.Nat.{add-zero}
-use borrow.Author.Tests.{eq-eqb, ne_eqb, lt-ltb, le-ltb}
+use borrow.Author.Tests.{lt-ltb, le-ltb}
 use lib.ListN.{length, drop, get_or, replicate}
 use Rattle.lists.specs.Same.{same_list}
 use Rattle.lists.specs.Count.{first}
@@ -20,11 +20,8 @@ use Rattle.lookup_buses.specs.Order.{arranged}
 use Rattle.lookup_buses.specs.laws.Order.{arranged-below}
 use Rattle.lists.specs.laws.Parts.{get_or_pad}
 use Rattle.expression.specs.declared.refusal.Refusal.{Refusal}
-use Rattle.expression.specs.declared.refusal.Refusal.TheVariants.{WidthsDiffer}
 use Rattle.lookup_buses.specs.Widths.{Tables, width_in_lookup, expected, tuple_refusal, by_bus, lookup_refusal, widest_in_lookup}
-use Rattle.lookup_buses.specs.inner.Requires.{BusLists, width_option}
-use Rattle.lookup_buses.specs.declared.lookup_widths.FirstWidth.{FirstWidth}
-use Rattle.lookup_buses.specs.declared.lookup_widths.FirstWidth.TheVariants.{Width}
+use Rattle.lookup_buses.specs.inner.Requires.{BusLists}
 
 pub named : {l m t : List ℕ} → BusLists l m t → BusNames l m
 named a = record { few = a.few; room = a.names_in }
@@ -65,13 +62,6 @@ widest-local l m t i e z = rw (sym e ∙ z)
 pub widest-bus : {b : Bool} {r : ℕ} (l m t : List ℕ) (i : ℕ) → b ≡ on_bus l i → b ≡ true → r ≡ greatest (tuple_width l t i) (tuple_count l i) → r ≡ widest_in_lookup (bus_lookups l m t) i
 unfolding widest_in_lookup
 widest-bus l m t i e z g = rw (sym e ∙ z) g
-
--- `tuple_verdict`
-pub widths_same : {e : FirstWidth} {x w : ℕ} (i : ℕ) → e ≡ Width x → w ≡ x → none ≡ tuple_refusal i (width_option e) w
-widths_same {e} {x} {w} i p q = rw (p, eq-eqb w x q)
-
-pub widths_differ : {e : FirstWidth} {x w x' w' : ℕ} (i : ℕ) → e ≡ Width x → (w ≡ x → ⊥) → x' ≡ x → w' ≡ w → some (WidthsDiffer i x' w') ≡ tuple_refusal i (width_option e) w
-widths_differ {e} {x} {w} {x'} {w'} i p q ex ew = rw (p, ne_eqb w x q, ex, ew)
 
 -- `lookup_verdict`
 module _ (ts : Tables) (l m t : List ℕ) (i : ℕ) where

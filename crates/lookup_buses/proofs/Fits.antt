@@ -1,8 +1,8 @@
 -- What the tests say, and the answer.
 use mathlib.Core.Path.{◌≡◌, refl, sym, ap, ◌∙◌}
 use mathlib.Core.Bool.{Bool, true, false, ◌&&◌}
-use mathlib.Core.List.{List, [], ◌∷◌}
-use Prim.Native.Nat.{ℕ, ◌*◌, ◌%◌, ◌≤◌}
+use mathlib.Core.List.{[], ◌∷◌}
+use Prim.Native.Nat.{ℕ, ◌*◌, ◌%◌}
 use native.Mathlib.Omega.{arith}
 use lib.Dec.{eqb, leb}
 use lib.ListN.{length}
@@ -27,10 +27,6 @@ use Rattle.lookup_buses.specs.CheckBusWidths.{BusTables, bus_sizes, lookup_count
 use Rattle.lookup_buses.specs.inner.Requires.{BusLists, BusListsCover, BusTablesFit}
 use Rattle.lookup_buses.specs.declared.check_bus_widths.WidthsAnswer.{WidthsAnswer}
 use Rattle.lookup_buses.specs.declared.check_bus_widths.WidthsAnswer.TheVariants.{Widest, Refused}
-
-pub few_tables : (m : Limits) (sizes : List ℕ) → Sane m → (eqb (length sizes % bus_sizes) 0 && leb (table_count bus_sizes sizes) m.tables) ≡ true → table_count bus_sizes sizes ≤ 16
-few_tables m sizes g h =
-    let k = passed (eqb (length sizes % bus_sizes) 0) (leb (table_count bus_sizes sizes) m.tables ∷ []) h in omega (arith, leb-true (table_count bus_sizes sizes) m.tables k.1.0, g.tables)
 
 -- `lists_fit`
 module _ (m : Limits) (l : BusTables) where

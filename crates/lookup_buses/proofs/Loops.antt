@@ -24,9 +24,6 @@ pub record Searched (f : ℕ → Bool) (n j : ℕ) : Type 0 where
   pub rest : j + position f (drop j (numbers n)) ≡ position f (numbers n)
   pub within : j ≤ n
 
-pub search_begins : {f : ℕ → Bool} {n : ℕ} → Searched f n 0
-search_begins {f} {n} = record { rest = omega arith; within = zero-le }
-
 search_step : (f : ℕ → Bool) (n j : ℕ) → j < n → position f (drop j (numbers n)) ≡ cond (f j) 0 (suc (position f (drop (suc j) (numbers n))))
 unfolding position
 search_step f n j h = rw (drop-cons (numbers n) j 0 (rw (numbers-length n) h), numbers_at n j h)
@@ -71,9 +68,6 @@ placing_turn {f} {n} {i} {v} {d} {b} s h g e = record {
   within = omega arith;
   zeros = s.zeros;
 }
-
-pub placing_ends : {f : ℕ → ℕ} {n i : ℕ} {d b : List ℕ} → Placing f n i d b → n ≤ i → b ≡ tab f 0 n ++ drop n (replicate 64 0)
-placing_ends {f} {n} {i} {d} {b} s h = let e : i ≡ n = omega (arith, s.within) in s.out.is ∙ ap₂ (λ (k : ℕ) (l : List ℕ). tab f 0 k ++ drop k l) e s.zeros
 
 -- the lookups of one place
 of_place-one : (places : List ℕ) (k i : ℕ) → of_place places k (i + 1) ≡ of_place places k i ++ cond (eqb (get_or places i 0) k) (i ∷ []) []
@@ -128,11 +122,6 @@ pushing_no {places} {d} {b} {b'} {k} {n} {start} {i} {end} {end'} s h e eb ee =
     let m : of_place places k (i + 1) ≡ of_place places k i = rw (of_place-one places k i, ne_eqb (get_or places i 0) k e) (append-nil (of_place places k i)) in
     record { out = rw (eb, ee, m) s.out; ends = rw (m, ee) s.ends; within = omega arith; fits = s.fits }
 
-pub pushing_ends : {places d b : List ℕ} {k n start i end : ℕ} → Pushing places k n start i end d b → n ≤ i
-    → (end ≡ start + length (of_place places k n)) × (b ≡ (take start d ++ of_place places k n) ++ drop end d)
-pushing_ends {places} {d} {b} {k} {n} {start} {i} {end} s h =
-    let e : i ≡ n = omega (arith, s.within) in (rw e at s.ends, rw e at s.out.is)
-
 -- place after place
 order-one : (places : List ℕ) (k n : ℕ) → order_of places (k + 1) n ≡ order_of places k n ++ of_place places k n
 unfolding order_of of_place by_place
@@ -182,12 +171,6 @@ arranging_turn {places} {d} {b} {b'} {n} {k} {end} {e} s h g (ee, eb) =
       out = rw (order-one places k n) (record { is = q; size = z; room = omega (arith, arranging_fits s g, s.out.len); len = ap length q ∙ through_length d (P ++ K) e z (omega (arith, arranging_fits s g, s.out.len)) });
       within = omega arith;
     }
-
-pub arranging_ends : {places d b : List ℕ} {n k end : ℕ} → Arranging places n k end d b → n + 1 ≤ k
-    → (end ≡ length (order_of places (n + 1) n)) × (b ≡ order_of places (n + 1) n ++ drop end d)
-arranging_ends {places} {d} {b} {n} {k} {end} s h =
-    let e : k ≡ n + 1 = omega (arith, s.within) in
-    (sym s.out.size ∙ ap (λ (j : ℕ). length (order_of places j n)) e, rw e at s.out.is)
 
 -- the order from the list of places
 pub order_is : {r : ℕ} {ps b : List ℕ} (alone : ℕ → Bool) (name : ℕ → List ℕ) (n : ℕ) → ps ≡ tab (place alone name n) 0 n ++ drop n (replicate 64 0)

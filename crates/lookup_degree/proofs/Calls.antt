@@ -6,7 +6,7 @@ use native.Mathlib.Omega.{arith}
 use native.Mathlib.Nat.{zero-add}
 use mathlib.Core.Bool.{Bool, true, false, ◌&&◌}
 use lib.Dec.{leb, ltb}
-use lib.ListN.{length, drop, replicate, length-append, length-replicate}
+use lib.ListN.{length, drop, replicate}
 use borrow.Author.Tests.{leb-true, ltb-true}
 use Rattle.lists.specs.Count.{total}
 use Rattle.lists.specs.Tab.{tab}
@@ -19,7 +19,7 @@ use Rattle.expression.specs.Node.{node_count}
 use Rattle.expression.specs.Degree.{degrees}
 use Rattle.expression.specs.Choices.{known, limits_of}
 use Rattle.expression.specs.Refusal.{refusal}
-use Rattle.expression.specs.laws.Degree.{degrees-length, degrees_low_at}
+use Rattle.expression.specs.laws.Degree.{degrees_low_at}
 use Rattle.expression.specs.laws.Below.{word-zeros}
 use Rattle.expression.specs.declared.choices.Choices.{Choices}
 use Rattle.expression.specs.declared.sizes.Limits.{Limits}
@@ -66,11 +66,6 @@ pub degrees_are : {r : Bool} {b : List ℕ} (m : Limits) (nodes : List ℕ) (l :
     → (r ≡ all_within m.degree (degrees t nodes (node_count nodes))) × (r ≡ true → b ≡ degrees t nodes (node_count nodes) ++ replicate (1024 - node_count nodes) 0)
     → b ≡ degrees t nodes (node_count nodes) ++ replicate (1024 - node_count nodes) 0
 degrees_are m nodes l t f h e = e.1 (e.0 ∙ degrees_low_at m t nodes h f.low)
-
-pub degrees-long : {b : List ℕ} (m : Limits) (nodes : List ℕ) (l : Lookups) (t : ℕ) → Formed m nodes l → b ≡ degrees t nodes (node_count nodes) ++ replicate (1024 - node_count nodes) 0 → 1024 ≡ length b
-degrees-long m nodes l t f e =
-    rw (ap length e ∙ length-append (degrees t nodes (node_count nodes)) (replicate (1024 - node_count nodes) 0), degrees-length t nodes (node_count nodes), length-replicate {A = ℕ} (1024 - node_count nodes) 0)
-    (omega (arith, f.few_nodes))
 
 -- the degrees of the tuples stand in the other
 pub tuples_right : {b : List ℕ} (deg : ℕ → ℕ) (tuples elements : List ℕ) → b ≡ tab (tuple_degree_at deg tuples elements) 0 (length tuples) ++ drop (length tuples) (replicate 64 0)

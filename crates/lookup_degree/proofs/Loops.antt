@@ -23,9 +23,6 @@ pub record Topping (f : ℕ → ℕ) (xs : List ℕ) (i m : ℕ) : Type 0 where
   pub rest : max m (largest_of f (drop i xs)) ≡ largest_of f xs
   pub within : i ≤ length xs
 
-pub topping_begins : {f : ℕ → ℕ} {xs : List ℕ} → Topping f xs 0 0
-topping_begins {f} {xs} = record { rest = omega arith; within = zero-le }
-
 top-step : (f : ℕ → ℕ) (xs : List ℕ) (i : ℕ) → i < length xs → largest_of f (drop i xs) ≡ max (f (get_or xs i 0)) (largest_of f (drop (suc i) xs))
 unfolding largest_of
 top-step f xs i h = rw (drop-cons xs i 0 h)
@@ -67,11 +64,6 @@ degreed_turn {f} {tuples} {elements} {d} {b} {j} {start} {w} {x} s h g ew ex =
       start_is = ap₂ ◌+◌ s.start_is ew ∙ sym (total-one (word tuples) j);
       zeros = s.zeros;
     }
-
-pub degreed_ends : {f : ℕ → ℕ} {tuples elements d b : List ℕ} {j start : ℕ} → Degreed f tuples elements j start d b → length tuples ≤ j
-    → b ≡ tab (tuple_degree_at f tuples elements) 0 (length tuples) ++ drop (length tuples) (replicate 64 0)
-degreed_ends {f} {tuples} {elements} {d} {b} {j} {start} s h =
-    let e : j ≡ length tuples = omega (arith, s.within) in s.out.is ∙ ap₂ (λ (k : ℕ) (l : List ℕ). tab (tuple_degree_at f tuples elements) 0 k ++ drop k l) e s.zeros
 
 -- one denominator is no more than all
 pub one_of : {x : ℕ} (f : ℕ → ℕ) (n k s : ℕ) → total f n ≤ s → k < n → x ≡ f k → x ≤ s

@@ -4,13 +4,13 @@ use mathlib.Core.Bool.{Bool, true}
 use mathlib.Core.List.{List, [], ◌∷◌, ◌++◌}
 use Prim.Native.Nat.{ℕ, suc, ◌*◌, ◌-◌, ◌≤◌, zero-le}
 use native.Mathlib.Omega.{arith}
-use lib.ListN.{length, take, drop, replicate, length-append, length-replicate}
+use lib.ListN.{length, take, drop, replicate, length-append}
 use lib.Seq.{take_at}
 use Rattle.lists.specs.Tab.{tab}
 use Rattle.expression.specs.Words.{word, all_within}
 use Rattle.expression.specs.Node.{node_count}
 use Rattle.expression.specs.Degree.{degrees}
-use Rattle.expression.specs.laws.Degree.{degrees-length, degrees_low_at}
+use Rattle.expression.specs.laws.Degree.{degrees_low_at}
 use Rattle.expression.specs.laws.Below.{word-zeros, within-tested}
 use Rattle.expression.specs.declared.sizes.Limits.{Limits}
 use Rattle.lookup.specs.Lookups.{Lookups, lookup_count, tuple_start, element_start}
@@ -40,11 +40,6 @@ module _ (m : Limits) (nodes : List ℕ) (l : Lookups) (f : Formed m nodes l) wh
   pub degrees_are : {r : Bool} {b : List ℕ} → (r ≡ all_within m.degree (degrees 0 nodes (node_count nodes))) × (r ≡ true → b ≡ degrees 0 nodes (node_count nodes) ++ replicate (1024 - node_count nodes) 0)
       → b ≡ degrees 0 nodes (node_count nodes) ++ replicate (1024 - node_count nodes) 0
   degrees_are e = e.1 (e.0 ∙ degrees_low_at m 0 nodes zero-le f.low)
-
-  pub degrees-long : {b : List ℕ} → b ≡ degrees 0 nodes (node_count nodes) ++ replicate (1024 - node_count nodes) 0 → 1024 ≡ length b
-  degrees-long e =
-      rw (ap length e ∙ length-append (degrees 0 nodes (node_count nodes)) (replicate (1024 - node_count nodes) 0), degrees-length 0 nodes (node_count nodes), length-replicate {A = ℕ} (1024 - node_count nodes) 0)
-      (omega (arith, f.few_nodes))
 
   pub ready : {b : List ℕ} → b ≡ degrees 0 nodes (node_count nodes) ++ replicate (1024 - node_count nodes) 0 → PlanInputs b l.lookups l.names
   ready {b} e =

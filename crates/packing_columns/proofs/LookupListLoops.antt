@@ -22,16 +22,9 @@ pub record Copying (src d b : List ℕ) (i : ℕ) : Type 0 where
   pub within : i ≤ length src
   pub room : length src ≤ length d
 
-pub copy_begins : {src d : List ℕ} → length src ≤ length d → Copying src d d 0
-copy_begins h = record { out = filled_none; within = zero-le; room = h }
-
 pub copy_turn : {src d b : List ℕ} {i : ℕ} → Copying src d b i → i < length src → Copying src d (set b i (get_or src i 0)) (i + 1)
 copy_turn {src} {d} {b} {i} s h =
     record { out = filled-one (get_or src i 0) 0 s.out (omega (arith, s.room)) (take-one src i 0 h); within = omega arith; room = s.room }
-
-pub copy_ends : {src d b : List ℕ} {i : ℕ} → Copying src d b i → length src ≤ i → b ≡ src ++ drop (length src) d
-copy_ends {src} {d} {b} {i} s h =
-    let e : i ≡ length src = omega (arith, s.within) in s.out.is ∙ ap₂ (λ (x : List ℕ) (n : ℕ). x ++ drop n d) (take_all i src h) e
 
 -- the parts of the first t are written
 module _ (f : ℕ → List ℕ) where
@@ -111,6 +104,3 @@ copied {ys} f src out a b end e l y =
     let z : drop (length (take (b - a) (drop a src))) (take (end + (b - a) - end) (drop end out)) ≡ [] =
     drop_of_length-le (take (end + (b - a) - end) (drop end out)) {i = length (take (b - a) (drop a src))} (rw n (simp length-take (omega arith))) in
     y ∙ ap (λ (x : List ℕ). take (b - a) (drop a src) ++ x) z ∙ append-nil (take (b - a) (drop a src)) ∙ e
-
-pub copy_room : (src out : List ℕ) (a b end : ℕ) → a ≤ b → b ≤ length src → end + (b - a) ≤ length out → length (take (b - a) (drop a src)) ≤ length (take (end + (b - a) - end) (drop end out))
-copy_room src out a b end h g r = simp (length-take, length-drop) (omega arith)

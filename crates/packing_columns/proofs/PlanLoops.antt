@@ -135,9 +135,3 @@ plan_ends {s} {heads} {words} {order} {over} {c} {k} p h eo =
       words = p.words_are.is ∙ ap (λ (x : List OpenColumn). words_from s.lookups 0 x ++ drop (9 * c) (replicate 576 0)) all;
       over = p.over_is ∙ ap (over_of s.lookups) all;
     }
-
--- the next column begins within the order
-pub taken_in : {s : PlanSource} {order : List ℕ} {k : ℕ} {r : NextColumn} → order ≡ ordered s.lookups s.names ++ drop (lookup_count s.lookups) (replicate 64 0)
-    → ColumnTaken s (take (lookup_count s.lookups - 0) (drop 0 order)) k r → r.end ≤ lookup_count s.lookups
-taken_in {s} {order} {k} {r} eo t =
-    omega (arith, t.within, ap length (order-part s.lookups s.names eo), arranged-length (alone_at true s.lookups) (name_at s.lookups s.names) (lookup_count s.lookups))
