@@ -76,13 +76,7 @@ pub fn delmatik_generate(
 }
 
 // Row r of a trace of so many lookups and rows, as a part of it: where it begins, and how many words it has; 0 and 0 where it is empty.
-pub fn delmatik_row(
-    trace: &[u32],
-    lookups: usize,
-    height: usize,
-    r: u64,
-    part: &mut [u64; 2],
-)
+pub fn delmatik_row(trace: &[u32], lookups: usize, height: usize, r: u64, part: &mut [u64; 2])
     ensures { record {
       part = part.exit.now;
       words = take (word part.exit.now 1) (drop (word part.exit.now 0) trace.now);
