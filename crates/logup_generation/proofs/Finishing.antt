@@ -3,30 +3,24 @@ use mathlib.Core.Path.{◌≡◌, refl, sym, ap, ap₂, ◌∙◌}
 use mathlib.Core.Bool.{Bool, true, false, ◌&&◌}
 use mathlib.Core.Option.{Option, none, some}
 use mathlib.Core.List.{List, [], ◌++◌}
-use Prim.Native.Nat.{ℕ, ◌+◌, ◌*◌, ◌-◌, ◌≤◌, zero-le}
+use Prim.Native.Nat.{ℕ, ◌+◌, ◌*◌}
 use native.Mathlib.Omega.{arith}
-use lib.ListN.{length, take, drop, replicate, length-append}
+use lib.ListN.{length, drop, replicate}
 use lib.Seq.{drop_at}
-use borrow.Rule.Slice.PartMut.{put_mid}
-use Rattle.lists.specs.laws.Filled.{put_mid_is}
-use Rattle.lists.specs.laws.Parts.{part_length}
 use Rattle.field.specs.Known.{prime_of, w_of}
 use Rattle.expression.specs.Choices.{known, known_rule, limits_of}
-use Rattle.expression.specs.Refusal.{refusal}
 use Rattle.expression.specs.Values.{row_values}
 use Rattle.expression.specs.declared.choices.Choices.{Choices}
 use Rattle.expression.specs.declared.sizes.Limits.{Limits}
 use Rattle.expression.specs.declared.refusal.Refusal.{Refusal}
 use Rattle.expression.specs.declared.refusal.Refusal.TheVariants.{SizeAtOdds}
-use Rattle.expression.specs.declared.refusal.Verdict.{Verdict}
-use Rattle.expression.specs.declared.refusal.Verdict.TheVariants.{Accepted, Refused}
 use Rattle.expression.specs.declared.sizes.Shape.{Shape}
 use Rattle.lookup.specs.Lookups.{Lookups, lent_lookups, lookup_count}
 use Rattle.lookup.specs.Table.{Table, lent_table, values_of}
 use Rattle.lookup.specs.Tests.{has_lookups}
 use Rattle.logup.specs.Rule.{table_under}
 use Rattle.logup.specs.Rows.{accumulator, row_words, trace, first_fault, used}
-use Rattle.logup.specs.Generation.{Answer, refused, absent, terminal, rows_outcome, entry_refusal, entry_outcome, generation, generation_at}
+use Rattle.logup.specs.Generation.{Answer, refused, absent, rows_outcome, entry_refusal, entry_outcome, generation, generation_at}
 use Rattle.logup.specs.laws.Choices.{generation_unknown}
 use Rattle.logup.specs.laws.Rule.{refusal_under}
 use Rattle.logup_generation.specs.inner.Outcome.{rows_answer, cleared}
@@ -35,25 +29,10 @@ use Rattle.lists.specs.laws.Joined.{joined_length}
 use Rattle.logup_rows.specs.laws.Lengths.{row-length}
 use Rattle.logup_rows.specs.laws.Unnamed.{unnamed-accumulator, unnamed-trace, unnamed-first_fault}
 
-pub finish_none : (v : Verdict) (e b : List ℕ) (u : ℕ) → v ≡ Accepted → (terminal e ≡ rows_answer (refusal v) e) × (b ≡ cleared (refusal v) u b)
-finish_none v e b u k = (rw k, rw k)
-
-pub finish_some : {zs : List ℕ} (v : Verdict) (f : Refusal) (e b : List ℕ) (u : ℕ) → v ≡ Refused f → u ≤ length b → zs ≡ replicate (length (take (u - 0) (drop 0 b))) 0
-    → (refused f ≡ rows_answer (refusal v) e) × (put_mid 0 (u - 0) b zs ≡ cleared (refusal v) u b)
-finish_some {zs} v f e b u k h z = (rw k, put_mid_is b 0 u (z ∙ ap (λ (x : ℕ). replicate x 0) size) zero-le ∙ rw k)
-  where
-    size : length (take (u - 0) (drop 0 b)) ≡ u
-    size = part_length b 0 u zero-le h ∙ omega arith
-
 trace-length : (p w : ℕ) (l : Lookups) (cs : List ℕ) (values : ℕ → List ℕ) (height : ℕ) → length (trace p w l cs values height) ≡ used l.lookups height
 unfolding trace used
 trace-length p w l cs values height =
     joined_length (row_words p w l cs values) (4 * lookup_count l.lookups + 4) height (row-length p w l cs values) ∙ omega arith
-
--- the buffer is no shorter than it was
-pub room_after : {b : List ℕ} {u : ℕ} (p w : ℕ) (l : Lookups) (cs : List ℕ) (values : ℕ → List ℕ) (height : ℕ) (buffer : List ℕ)
-    → b ≡ trace p w l cs values height ++ drop (used l.lookups height) buffer → u ≡ used l.lookups height → used l.lookups height ≤ length buffer → u ≤ length b
-room_after {b} {u} p w l cs values height buffer e f h = rw e (simp length-append (omega (arith, trace-length p w l cs values height)))
 
 -- the answer and the buffer after the rows are the definition's
 module _ (m : Limits) (p w : ℕ) (t : Table) (cs buffer : List ℕ) where

@@ -3,8 +3,7 @@ use mathlib.Core.Path.{◌≡◌, refl, sym, ap, ap₂, ◌∙◌, subst}
 use mathlib.Core.Bool.{Bool, true, false, ◌||◌, not}
 use mathlib.Core.Option.{Option, none, some}
 use mathlib.Core.List.{List}
-use Prim.Native.Nat.{ℕ, ◌+◌, ◌*◌, ◌/◌, ◌%◌, ◌≤◌}
-use native.Mathlib.Nat.{mul-le-mul}
+use Prim.Native.Nat.{ℕ, ◌*◌, ◌/◌, ◌%◌, ◌≤◌}
 use native.Mathlib.Omega.{arith}
 use lib.Dec.{eqb, leb}
 use lib.ListN.{length}
@@ -54,9 +53,6 @@ trace-ready s lookups challenges room h e =
       rows = b;
       fits = leb-true (used lookups s.height) room (subst (λ (x : Bool). (not x || leb (used lookups s.height) room) ≡ true) h c);
     }
-
-pub used-small : (h n : ℕ) → h ≤ 1048576 → n ≤ 64 → h * (n + 1) ≤ 1048576 * 65
-used-small h n a b = mul-le-mul a (let c : n + 1 ≤ 65 = omega arith in c)
 
 module _ (s : Shape) (lookups : List ℕ) (n room : ℕ) where
   abbrev F : Bool → Bool

@@ -3,12 +3,11 @@ use mathlib.Core.Path.{◌≡◌, refl, sym, ap, ap₂, ◌∙◌, subst}
 use mathlib.Core.List.{List}
 use Prim.Native.Nat.{ℕ, ◌+◌, ◌*◌, ◌-◌, ◌<◌, ◌≤◌, zero-le}
 use native.Mathlib.Omega.{arith}
-use lib.ListN.{length, take, drop, replicate, length-replicate}
+use lib.ListN.{length, take, drop}
 use lib.Seq.{take_at}
 use borrow.Rule.Slice.PartMut.{put_mid}
 use Rattle.lists.specs.Count.{first, joined}
 use Rattle.lists.specs.laws.Filled.{Filled, filled_none, filled-part}
-use Rattle.lists.specs.laws.Parts.{part_length}
 use Rattle.field.specs.Element.{at}
 use Rattle.field.specs.Ext.{ext_words}
 use Rattle.field.specs.declared.extension.Ext.{Ext}
@@ -108,7 +107,3 @@ module _ {p w : ℕ} {ms ds : List ℕ} (l : Lookups) (cs : List ℕ) (values : 
 
         whole : qs ≡ joined (quotient_at p w (joined (row_multiplicities p w l cs values) from k) (joined (row_denominators p w l cs values) from k)) 0 (k * size)
         whole = block_is ∙ ap (λ (x : ℕ). joined (quotient_at p w (joined (row_multiplicities p w l cs values) from k) (joined (row_denominators p w l cs values) from k)) 0 (k * x)) e
-
--- the parts of the local arrays that are lent
-pub lent_length : (e n : ℕ) → e ≤ n → length (take (e - 0) (replicate {A = ℕ} n 0)) ≡ e
-lent_length e n h = part_length (replicate {A = ℕ} n 0) 0 e zero-le (omega (arith, length-replicate {A = ℕ} n 0)) ∙ omega arith

@@ -5,12 +5,11 @@ use mathlib.Core.List.{List, ◌++◌}
 use Prim.Native.Nat.{ℕ, ◌+◌, ◌*◌, ◌-◌, ◌<◌, ◌≤◌, zero-le}
 use native.Mathlib.Nat.{add-zero, zero-add, suc-mul, zero-mul, mul-le-mul_right}
 use native.Mathlib.Omega.{arith}
-use lib.ListN.{length, take, drop}
+use lib.ListN.{length}
 use borrow.Rule.Slice.PartMut.{put_mid}
 use Rattle.lists.specs.Count.{or_else, first, joined}
 use Rattle.lists.specs.laws.Count.{joined-one, first_one}
 use Rattle.lists.specs.laws.Filled.{Filled, filled_none, filled-part, filled-whole}
-use Rattle.lists.specs.laws.Parts.{part_length}
 use Rattle.expression.specs.Refusal.{refusal}
 use Rattle.expression.specs.declared.refusal.Refusal.{Refusal}
 use Rattle.expression.specs.declared.refusal.Verdict.{Verdict}
@@ -61,13 +60,6 @@ pub lent : {size n : ℕ} (dm dd : List ℕ) → 4 * length dd < 184467440737095
 lent {size} {n} dm dd c h em ed =
     let k : size ≤ n * size = rw (suc-mul, zero-mul, zero-add) at (mul-le-mul_right size h) in
     record { cap = c; ms_size = em; ds_size = ed; ms_first = omega arith; ds_first = omega arith }
-
-module _ {size n : ℕ} {dm dd : List ℕ} (s : Lent size n dm dd) where
-  pub ms_one : length (take (size - 0) (drop 0 dm)) ≡ size
-  ms_one = part_length dm 0 size zero-le s.ms_first ∙ omega arith
-
-  pub ds_one : length (take (4 * size - 0) (drop 0 dd)) ≡ 4 * size
-  ds_one = part_length dd 0 (4 * size) zero-le s.ds_first ∙ omega arith
 
 -- the first row's terms stand in ms and ds
 pub record FirstRow (p w : ℕ) (l : Lookups) (cs : List ℕ) (r size n : ℕ) (v dm dd ms ds : List ℕ) : Type 0 where
@@ -120,12 +112,6 @@ module _ {p w : ℕ} {l : Lookups} {cs : List ℕ} {r size n : ℕ} {v dm dd ms 
     pub ds_in : 4 * (size + size) ≤ length ds
     ds_in = omega (arith, two, t.lent≡.ds_size, t.ds≡.len)
 
-    pub ms_other : length (take (size + size - size) (drop size ms)) ≡ size
-    ms_other = part_length ms size (size + size) (omega arith) ms_in ∙ omega arith
-
-    pub ds_other : length (take (4 * (size + size) - 4 * size) (drop (4 * size) ds)) ≡ 4 * size
-    ds_other = part_length ds (4 * size) (4 * (size + size)) (omega arith) ds_in ∙ omega arith
-
     module _ {ys zs : List ℕ} (u : List ℕ) (other : Verdict)
         (eo : RowTerms p w l cs (λ _. u) (r + 1) other ys zs) where
       ms_whole : Filled dm (row_multiplicities p w l cs (λ _. v) r ++ ys) (size + size) (put_mid size (size + size - size) ms ys)
@@ -133,12 +119,6 @@ module _ {p w : ℕ} {l : Lookups} {cs : List ℕ} {r size n : ℕ} {v dm dd ms 
 
       ds_whole : Filled dd (row_denominators p w l cs (λ _. v) r ++ zs) (4 * (size + size)) (put_mid (4 * size) (4 * (size + size) - 4 * size) ds zs)
       ds_whole = filled-part zs t.ds≡ (omega arith) (omega (arith, ds_in, t.ds≡.len)) (ap length eo.denominators≡ ∙ row_ds_length p w l cs (λ _. u) (r + 1) ∙ omega (arith, t.size≡)) refl
-
-      pub ms_back : length (put_mid size (size + size - size) ms ys) ≡ length dm
-      ms_back = ms_whole.len
-
-      pub ds_back : length (put_mid (4 * size) (4 * (size + size) - 4 * size) ds zs) ≡ length dd
-      ds_back = ds_whole.len
 
       pub two_rows : (fault both : Verdict) → refusal fault ≡ row_fault p w l cs (λ _. v) r → refusal both ≡ or_else (refusal fault) (refusal other)
           → (values : ℕ → List ℕ) → values r ≡ v → (1 < n → values (r + 1) ≡ u)

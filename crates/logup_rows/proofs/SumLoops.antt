@@ -11,7 +11,6 @@ use borrow.Rule.Slice.PartMut.{put_mid}
 use Rattle.lists.specs.Count.{joined, total}
 use Rattle.lists.specs.laws.Count.{joined-one, total-one, total_in}
 use Rattle.lists.specs.laws.Filled.{Filled, filled_none, filled-part, filled-whole}
-use Rattle.lists.specs.laws.Parts.{part_length}
 use Rattle.field.specs.declared.extension.Ext.{Ext}
 use Rattle.field.specs.Ext.{ext_words}
 use Rattle.field.specs.Element.{Word4, zero4, add4, sum4, element}
@@ -19,7 +18,7 @@ use Rattle.field.specs.laws.Element.{four-sum4}
 use Rattle.lookup.specs.Lookups.{lookup_words, lookup_count, tuple_count, tuple_start}
 use Rattle.logup_column.specs.laws.Powers.{word-zero}
 use Rattle.lists.specs.laws.Joined.{joined_length}
-use Rattle.logup_rows.specs.inner.Sums.{sum_from, fraction_in, row_sum_in, running, row_in, Quotients, RowWritten, RowsWritten}
+use Rattle.logup_rows.specs.inner.Sums.{sum_from, fraction_in, row_sum_in, running, row_in, Quotients, RowWritten}
 
 pub record SumLoop (p : ℕ) (qs : List ℕ) (at n : ℕ) (sum : Ext) (k : ℕ) : Type 0 where
   pub cap : 4 * length qs < 18446744073709551616
@@ -88,9 +87,6 @@ module _ {p : ℕ} {lookups qs : List ℕ} {start : ℕ} {d : List ℕ} {n : ℕ
   pub fractions_loop_room : {c : ℕ} → c ≡ tuple_count lookups i → 4 * (at + c) ≤ length qs
   unfolding tuple_start
   fractions_loop_room e = omega (arith, s.at≡, s.room, total_in (tuple_count lookups) i n h)
-
-  pub fractions_loop_part : length (take (4 * i + 4 + 4 - (4 * i + 4)) (drop (4 * i + 4) out)) ≡ 4
-  fractions_loop_part = part_length out (4 * i + 4) (4 * i + 4 + 4) (omega arith) (omega (arith, s.len)) ∙ omega arith
 
   pub fractions_loop_turn : {c : ℕ} {f sum' : Ext} (ys : List ℕ) → c ≡ tuple_count lookups i → ext_words f ≡ sum_from p qs at c → ys ≡ ext_words f
       → Word4 p (ext_words sum') × (ext_words sum' ≡ add4 p (ext_words sum) (ext_words f)) → FractionsLoop p lookups qs start d n (put_mid (4 * i + 4) (4 * i + 4 + 4 - (4 * i + 4)) out ys) sum' (at + c) (i + 1)
@@ -194,14 +190,8 @@ module _ {p : ℕ} {lookups qs : List ℕ} {size k : ℕ} {before : Ext} {wd : �
   pub write_rows_in : at + wd ≤ length out
   write_rows_in = omega (arith, next_times j k wd h, s.at≡, s.d_size, s.len)
 
-  pub write_rows_part : length (take (at + wd - at) (drop at out)) ≡ 4 * lookup_count lookups + 4
-  write_rows_part = part_length out at (at + wd) (omega arith) write_rows_in ∙ omega (arith, s.wide)
-
   pub write_rows_start : start + size ≤ k * size
   write_rows_start = omega (arith, next_times j k size h, s.start≡)
-
-  pub write_rows_room : 4 * (start + tuple_start lookups (lookup_count lookups)) ≤ length qs
-  write_rows_room = omega (arith, write_rows_start, s.qs_size, s.size≡)
 
   pub write_rows_turn : {sum acc' : Ext} (ys : List ℕ)
       → RowWritten p lookups qs start (ext_words acc) (ext_words sum) ys
@@ -237,14 +227,3 @@ module _ {p : ℕ} {lookups qs : List ℕ} {size k : ℕ} {before : Ext} {wd : �
       grown =
           filled-part ys s.out≡ (omega arith) (omega (arith, write_rows_in, s.len)) long
           (joined-one (row_in p lookups qs size (ext_words before)) 0 j ∙ ap (λ (y : List ℕ). joined (row_in p lookups qs size (ext_words before)) 0 j ++ y) (ap (row_in p lookups qs size (ext_words before)) (zero-add j) ∙ sym is))
-
-pub write_rows_ends : {p : ℕ} {lookups qs : List ℕ} {size k : ℕ} {before : Ext} {wd : ℕ} {d out : List ℕ} {acc : Ext} {start at j : ℕ} → WriteRowsLoop p lookups qs size k before wd d out acc start at j → k ≤ j
-    → RowsWritten p lookups qs size (ext_words before) k (ext_words acc) out
-write_rows_ends {p} {lookups} {qs} {size} {k} {before} {wd} {d} {at = at} {j = j} s h =
-    let e : j ≡ k = omega (arith, s.within) in
-    let a : length d ≡ at = s.d_size ∙ ap (λ (x : ℕ). x * wd) (sym e) ∙ sym s.at≡ in
-    record {
-      below = s.word4;
-      accumulator≡ = s.acc≡ ∙ ap (running p lookups qs size (ext_words before)) e;
-      words≡ = filled-whole s.out≡ (omega (arith, a)) ∙ ap (joined (row_in p lookups qs size (ext_words before)) 0) e;
-    }

@@ -1,8 +1,8 @@
 -- The turns of the loops over blocks and over parts.
 use mathlib.Core.Path.{◌≡◌, refl, sym, ap, ap₂, ◌∙◌, subst}
 use mathlib.Core.List.{List, ◌++◌}
-use Prim.Native.Nat.{ℕ, zero, suc, ◌+◌, ◌*◌, ◌-◌, ◌/◌, ◌%◌, ◌<◌, ◌≤◌, zero-le}
-use native.Mathlib.Nat.{add-zero, zero-add, mul-le-mul_right, zero-mul, mul_comm, mul-zero, mod-lt, div-add-mod, pos_of_ne-zero}
+use Prim.Native.Nat.{ℕ, ◌+◌, ◌*◌, ◌-◌, ◌<◌, ◌≤◌, zero-le}
+use native.Mathlib.Nat.{add-zero, zero-add, mul-le-mul_right, zero-mul, mul_comm}
 use native.Mathlib.Omega.{arith}
 use lib.ListN.{length, take, drop}
 use borrow.Rule.Slice.PartMut.{put_mid}
@@ -141,11 +141,3 @@ rows_loop_ends {p} {w} {l} {cs} {values} {wd} {height} {d} {progress = progress}
 -- a block has at most 256 tuples
 pub block_few : (n b t : ℕ) → n ≤ b → b * t ≤ 256 → n * t ≤ 256
 block_few n b t h k = omega (arith, mul-le-mul_right t h)
-
-pub block_some : {t : ℕ} → (t ≡ 0 → ⊥) → t ≤ 64 → (0 < 256 / t) × ((256 / t) * t ≤ 256)
-block_some {t} n h =
-    (go (256 / t) (256 % t) (div-add-mod 256 t) (mod-lt 256 (pos_of_ne-zero n)), omega (arith, div-add-mod 256 t, mul_comm t (256 / t)))
-  where
-    go : (q r : ℕ) → t * q + r ≡ 256 → r < t → 0 < q
-    go zero r e l = absurd (omega (arith, mul-zero t))
-    go (suc q) r e l = omega arith

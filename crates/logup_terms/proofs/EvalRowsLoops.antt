@@ -25,12 +25,6 @@ module _ {p height width n : ℕ} {words : List ℕ} {base : ℕ} (r : ℕ) (s :
   pub row_in : r < height → 4 * (base + width) ≤ length words
   row_in h = omega (arith, next_times r height width h, s.size, e)
 
-  pub fractions_in : r < height → 4 * (base + (n + 1)) ≤ length words
-  fractions_in h = omega (arith, row_in h, s.wide)
-
-  pub accumulator_in : r < height → 4 * base + 4 ≤ length words
-  accumulator_in h = omega (arith, row_in h, s.wide)
-
   pub next_in : r + 1 < height → 4 * (base + width) + 4 ≤ length words
   next_in h = omega (arith, next_times (r + 1) height width h, s.size, s.wide, e)
 

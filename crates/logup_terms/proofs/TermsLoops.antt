@@ -8,7 +8,6 @@ use native.Mathlib.Numerals.{add-one}
 use native.Mathlib.Omega.{arith}
 use lib.ListN.{length, take, drop}
 use Rattle.lists.specs.Count.{total}
-use Rattle.lists.specs.laws.Parts.{part_length}
 use Rattle.field.specs.Modulus.{Certificate}
 use Rattle.field.specs.Word.{mul_m}
 use Rattle.field.specs.Ext.{ext_words}
@@ -47,9 +46,6 @@ tuples_loop_begins f e few memory = record { fits = f; size = e; within = zero-l
 
 pub tuples_loop_in : {own widths mults nodes : List ℕ} {n at k r : ℕ} → TuplesLoop own widths mults nodes n at k → k < n → r ≡ word widths k → at + r ≤ length nodes
 tuples_loop_in {widths = widths} {k = k} s h g = omega (arith, start_in (k + 1) s.fits (omega (arith, s.size)), start-next widths k, s.at≡)
-
-pub tuples_loop_few : {own widths mults nodes : List ℕ} {n at k r : ℕ} → TuplesLoop own widths mults nodes n at k → k < n → r ≡ word widths k → length (take (at + r - at) (drop at nodes)) ≤ 8
-tuples_loop_few {nodes = nodes} {at = at} {k = k} {r = r} s h g = omega (arith, part_length nodes at (at + r) (omega arith) (tuples_loop_in s h g), s.fits.narrow k)
 
 pub tuples_loop_turn : {own widths mults nodes : List ℕ} {n at k r : ℕ} → TuplesLoop own widths mults nodes n at k → k < n → r ≡ word widths k → TuplesLoop own widths mults nodes n (at + r) (k + 1)
 tuples_loop_turn {widths = widths} {k = k} s h g =
@@ -201,13 +197,6 @@ unfolding branches
 additive-end {own = own} {n = n} {k = k} s h =
     let e : k ≡ tuple_count own 0 = omega (arith, s.walk.within, s.walk.size) in adding_ends s.sums e
 
-pub exclusive-end : {p w : ℕ} {powers : List (List ℕ)} {alpha : Ext} {own widths mults flags nodes vals : List ℕ} {n at k : ℕ} {t : Branches}
-    → ExclusiveLoop p w powers alpha own widths mults flags nodes vals n t at k → n ≤ k
-    → Summed p w (own_place own widths mults flags nodes vals (ext_words alpha) (beta_of powers)) t (tuple_count own 0)
-exclusive-end {p} {w} {powers} {alpha} {own} {widths} {mults} {flags} {nodes} {vals} {n} {at} {k} {t} s h =
-    let e : k ≡ tuple_count own 0 = omega (arith, s.walk.within, s.walk.size) in
-    subst (Summed p w (own_place own widths mults flags nodes vals (ext_words alpha) (beta_of powers)) t) e s.sums
-
 pub exclusive-ends : {p w : ℕ} {c : Place} {n : ℕ} {t : Branches} {rest denominator : Ext} → Summed p w c t n → n ≡ branches c
     → Word4 p (ext_words rest) × (ext_words rest ≡ sub4 p one4 (lift t.flags))
     → Word4 p (ext_words denominator) × (ext_words denominator ≡ add4 p (ext_words t.denominator) (ext_words rest))
@@ -221,9 +210,6 @@ exclusive-ends {p} {w} {c} {n} {t} s e (_, er) (k, ed) =
       numerator_is = s.numerator_is ∙ ap (sum4 p _) e;
       denominator_is = ed ∙ ap₂ (add4 p) (s.denominator_is ∙ ap (sum4 p _) e) (er ∙ ap (sub4 p one4) (s.flags_are ∙ ap (sum4 p _) e));
     }
-
-pub flags-enough : {e : Bool} (own flags : List ℕ) → e ≡ exclusive own 0 → e ≡ true → length flags ≡ cond (exclusive own 0) (tuple_count own 0) 0 → tuple_count own 0 ≤ length flags
-flags-enough {e} own flags x y z = let k : length flags ≡ tuple_count own 0 = z ∙ ap (λ (b : Bool). cond b (tuple_count own 0) 0) (sym x ∙ y) in omega arith
 
 pub exclusive_is : {p w : ℕ} {t : Fraction} (c : Place) → exclusive c.lookups.lookups c.lookup ≡ true
     → FractionIs p (exclusive_numerator p w c) (exclusive_denominator p w c) t → LookupFraction p w c t

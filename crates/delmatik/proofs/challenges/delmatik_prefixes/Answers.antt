@@ -1,7 +1,6 @@
 use mathlib.Core.Path.{ap, ◌∙◌}
 use Rattle.lookup_challenges.specs.Prefixes.{Outcome}
 use Rattle.delmatik.specs.Exports.{exported_prefixes}
-use borrow.Author.Rules.{rules}
 use Rattle.delmatik.proofs.challenges.delmatik_prefixes.Goals as goal
 
 pub returns : goal.returns

@@ -4,7 +4,6 @@ use Rattle.lookup_count.specs.laws.Count.{in_numbers_injective}
 use Rattle.delmatik_answers.specs.Count.{count_refused, counted_words}
 use Rattle.delmatik.specs.Exports.{exported_count, exported_verdict}
 use Rattle.delmatik.proofs.Answered.{verdict_is}
-use borrow.Author.Rules.{rules}
 use Rattle.delmatik.proofs.count.delmatik_count_negated.Goals as goal
 
 pub returns : goal.returns

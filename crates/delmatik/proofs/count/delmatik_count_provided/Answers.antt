@@ -1,6 +1,5 @@
 use mathlib.Core.Path.{ap, ◌∙◌}
 use Rattle.delmatik_answers.specs.Count.{count_words}
-use borrow.Author.Rules.{rules}
 use Rattle.delmatik.proofs.count.delmatik_count_provided.Goals as goal
 
 pub returns : goal.returns

@@ -3,7 +3,6 @@ use Rattle.logup.specs.Constraints.{verdict_at}
 use Rattle.expression.specs.Refusal.{numbers}
 use Rattle.delmatik.specs.Exports.{exported_verdict}
 use Rattle.delmatik.proofs.Answered.{numbers_are}
-use borrow.Author.Rules.{rules}
 use Rattle.delmatik.proofs.eval_all.delmatik_constraints.Goals as goal
 
 pub returns : goal.returns

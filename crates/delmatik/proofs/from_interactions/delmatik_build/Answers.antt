@@ -4,7 +4,6 @@ use Rattle.lookup_builder.specs.laws.FromInteractions.{in_numbers_injective}
 use Rattle.delmatik_answers.specs.Building.{building_refused, building_used}
 use Rattle.delmatik.specs.Exports.{exported_building, exported_verdict}
 use Rattle.delmatik.proofs.Answered.{verdict_is}
-use borrow.Author.Rules.{rules}
 use Rattle.delmatik.proofs.from_interactions.delmatik_build.Goals as goal
 
 pub returns : goal.returns

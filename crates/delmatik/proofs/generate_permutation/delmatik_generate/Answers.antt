@@ -2,7 +2,6 @@ use mathlib.Core.Path.{ap, ◌∙◌}
 use Rattle.logup.specs.Generation.{Outcome}
 use Rattle.delmatik_answers.specs.Generation.{generation_number, generation_details, generation_terminal}
 use Rattle.delmatik.specs.Exports.{exported_generation}
-use borrow.Author.Rules.{rules}
 use Rattle.delmatik.proofs.generate_permutation.delmatik_generate.Goals as goal
 
 pub returns : goal.returns

@@ -1,5 +1,4 @@
 use Rattle.delmatik.proofs.Parts.{start_fits, row_told}
-use borrow.Author.Rules.{rules}
 use Rattle.delmatik.proofs.generate_permutation.delmatik_row.Goals as goal
 
 pub write_part-requires : goal.write_part-requires

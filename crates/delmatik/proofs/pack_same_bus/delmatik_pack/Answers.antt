@@ -4,7 +4,6 @@ use Rattle.packing.specs.laws.PackSameBus.{in_numbers_injective}
 use Rattle.delmatik_answers.specs.Packing.{packing_refused, packing_used}
 use Rattle.delmatik.specs.Exports.{exported_packing, exported_verdict}
 use Rattle.delmatik.proofs.Answered.{verdict_is}
-use borrow.Author.Rules.{rules}
 use Rattle.delmatik.proofs.pack_same_bus.delmatik_pack.Goals as goal
 
 pub returns : goal.returns

@@ -1,6 +1,5 @@
 use Rattle.delmatik.specs.Exports.{exported_verdict}
 use Rattle.delmatik.proofs.Answered.{numbers_are}
-use borrow.Author.Rules.{rules}
 use Rattle.delmatik.proofs.protocol.delmatik_terminals.Goals as goal
 
 pub returns : goal.returns

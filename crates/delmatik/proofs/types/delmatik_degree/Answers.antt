@@ -4,7 +4,6 @@ use Rattle.lookup_degree.specs.laws.ConstraintDegree.{in_numbers_injective}
 use Rattle.delmatik_answers.specs.Types.{degree_refused, degree_value}
 use Rattle.delmatik.specs.Exports.{exported_degree, exported_verdict}
 use Rattle.delmatik.proofs.Answered.{verdict_is}
-use borrow.Author.Rules.{rules}
 use Rattle.delmatik.proofs.types.delmatik_degree.Goals as goal
 
 pub returns : goal.returns

@@ -4,7 +4,6 @@ use Rattle.lookup_buses.specs.laws.CheckBusWidths.{in_numbers_injective}
 use Rattle.delmatik_answers.specs.Types.{widths_refused, widest_value}
 use Rattle.delmatik.specs.Exports.{exported_widest, exported_verdict}
 use Rattle.delmatik.proofs.Answered.{verdict_is}
-use borrow.Author.Rules.{rules}
 use Rattle.delmatik.proofs.types.delmatik_widths.Goals as goal
 
 pub returns : goal.returns

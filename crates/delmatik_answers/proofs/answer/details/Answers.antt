@@ -1,4 +1,3 @@
-use borrow.Author.Rules.{rules}
 use Rattle.delmatik_answers.proofs.answer.details.Goals as goal
 
 pub returns-in-Accepted : goal.returns-in-Accepted

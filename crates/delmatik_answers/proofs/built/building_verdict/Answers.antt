@@ -1,4 +1,3 @@
-use borrow.Author.Rules.{rules}
 use Rattle.delmatik_answers.proofs.built.building_verdict.Goals as goal
 
 pub returns-in-Built : goal.returns-in-Built

@@ -1,4 +1,3 @@
-use borrow.Author.Rules.{rules}
 use Rattle.delmatik_answers.proofs.built.write_built.Goals as goal
 
 pub returns-in-Built : goal.returns-in-Built

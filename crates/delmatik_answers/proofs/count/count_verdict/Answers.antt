@@ -1,4 +1,3 @@
-use borrow.Author.Rules.{rules}
 use Rattle.delmatik_answers.proofs.count.count_verdict.Goals as goal
 
 pub returns-in-Refused : goal.returns-in-Refused

@@ -1,6 +1,5 @@
 use Rattle.delmatik_answers.specs.Element.{four_below}
 use mathlib.Core.Path.{refl}
-use borrow.Author.Rules.{rules}
 use Rattle.delmatik_answers.proofs.element.below.Goals as goal
 
 pub returns : goal.returns

@@ -3,7 +3,6 @@ use native.Mathlib.Omega.{arith}
 use Rattle.field.specs.Element.{inverse4}
 use Rattle.delmatik_answers.specs.Element.{exported_inverse}
 use Rattle.delmatik_answers.proofs.Tested.{tested, modulus, w_small, certificate, loaded_words, computed, untouched, element_is}
-use borrow.Author.Rules.{rules}
 use Rattle.delmatik_answers.proofs.element.inverse.Goals as goal
 
 pub returns-then-number-ne0 : goal.returns-then-number-ne0

@@ -5,7 +5,6 @@ use native.Mathlib.Omega.{arith}
 use Rattle.field.specs.Element.{power4}
 use Rattle.delmatik_answers.specs.Element.{exported_power}
 use Rattle.delmatik_answers.proofs.Tested.{tested, modulus, w_small, loaded_words, computed, untouched, element_is}
-use borrow.Author.Rules.{rules}
 use Rattle.delmatik_answers.proofs.element.power.Goals as goal
 
 pub returns-then-number-ne0 : goal.returns-then-number-ne0

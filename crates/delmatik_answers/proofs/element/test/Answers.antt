@@ -2,7 +2,6 @@ use mathlib.Core.Path.{sym, ap, ◌∙◌}
 use mathlib.Core.Bool.{Bool, cond}
 use lib.ListN.{length}
 use Rattle.delmatik_answers.proofs.Tested.{refused, four-words, compared}
-use borrow.Author.Rules.{rules}
 use Rattle.delmatik_answers.proofs.element.test.Goals as goal
 
 pub returns-then-not-known_field-a : goal.returns-then-not-known_field-a

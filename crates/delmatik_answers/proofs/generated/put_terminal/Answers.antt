@@ -1,4 +1,3 @@
-use borrow.Author.Rules.{rules}
 use Rattle.delmatik_answers.proofs.generated.put_terminal.Goals as goal
 
 pub returns-in-Terminal : goal.returns-in-Terminal

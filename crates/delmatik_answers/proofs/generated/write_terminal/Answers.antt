@@ -1,6 +1,5 @@
 use Rattle.logup.specs.Generation.{answer_of}
 use Rattle.delmatik_answers.proofs.Untouched.{untouched, told}
-use borrow.Author.Rules.{rules}
 use Rattle.delmatik_answers.proofs.generated.write_terminal.Goals as goal
 
 pub returns-then-n : goal.returns-then-n

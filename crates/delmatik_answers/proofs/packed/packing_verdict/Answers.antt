@@ -1,4 +1,3 @@
-use borrow.Author.Rules.{rules}
 use Rattle.delmatik_answers.proofs.packed.packing_verdict.Goals as goal
 
 pub returns-in-Packed : goal.returns-in-Packed

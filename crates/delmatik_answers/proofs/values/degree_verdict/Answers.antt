@@ -1,4 +1,3 @@
-use borrow.Author.Rules.{rules}
 use Rattle.delmatik_answers.proofs.values.degree_verdict.Goals as goal
 
 pub returns-in-Degree : goal.returns-in-Degree

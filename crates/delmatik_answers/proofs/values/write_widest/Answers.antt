@@ -1,4 +1,3 @@
-use borrow.Author.Rules.{rules}
 use Rattle.delmatik_answers.proofs.values.write_widest.Goals as goal
 
 pub returns-in-Widest : goal.returns-in-Widest
