@@ -10,7 +10,7 @@ use lib.Dec.{eqb, leb, ltb}
 use lib.ListN.{length, take, drop, get_or, set, replicate, length-set}
 use lib.Seq.{get_or-set_other}
 use borrow.Author.Tests.{eq-eqb, ne_eqb, lt-ltb, le-ltb, le-leb, lt-leb}
-use Rattle.algebra.specs.laws.Remainder.{mod-mul-mod}
+use Rattle.algebra.proofs.laws.Remainder.{mod-mul-mod}
 use Rattle.lists.specs.Same.{same_list}
 use Rattle.field.specs.Word.{add_m}
 use Rattle.expression.specs.Words.{word}

@@ -13,7 +13,7 @@ use Rattle.lists.specs.laws.Parts.{part_length}
 use Rattle.lists.specs.laws.Filled.{Filled, filled-one, filled-whole, put_mid_is}
 use Rattle.lists.specs.Tab.{tab}
 use Rattle.lists.specs.laws.Tab.{tab_none, tab-one}
-use Rattle.field.specs.laws.Word.{add_m-sum, add_m-mod}
+use Rattle.field.proofs.laws.Word.{add_m-sum, add_m-mod}
 use Rattle.expression.specs.Words.{word}
 use Rattle.balance_slots.specs.inner.Work.{match_at, find_slot, added_at, new_words, new_at}
 use Rattle.balance_slots.specs.Workspace.{slot_words, tuple_word, net_word}

@@ -12,8 +12,8 @@ use Rattle.field.specs.Element.{at, Word4, element}
 use Rattle.field.specs.Modulus.{Certificate}
 use Rattle.field.specs.inner.Requires.{KnownPrime}
 use Rattle.field.specs.Known.{known_field, prime_of, w_of}
-use Rattle.field.specs.laws.Known.{known-prime, w_below, certificate_of}
-use Rattle.field.specs.laws.Slice.{element-whole}
+use Rattle.field.proofs.laws.Known.{known-prime, w_below, certificate_of}
+use Rattle.field.proofs.laws.Slice.{element-whole}
 use Rattle.delmatik_answers.specs.Element.{four_below, element_number, element_after, exported_element}
 
 -- the test: the field's number and the sizes first

@@ -2,7 +2,7 @@
 -- `quartic` of algebra's Ring.antt over the words modulo p; that they make a field is proved in laws.
 use Rattle.std.specs.Prelude.{ℕ, List}
 use Rattle.algebra.specs.Field.{Field}
-use Rattle.algebra.specs.laws.Quartic.{quartic_field}
+use Rattle.algebra.proofs.laws.Quartic.{quartic_field}
 use Rattle.field.specs.Element.{at}
 use Rattle.field.specs.Modulus.{Certificate}
 use Rattle.field.specs.laws.Ring.{mk}

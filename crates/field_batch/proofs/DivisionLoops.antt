@@ -17,11 +17,11 @@ use Rattle.field.specs.declared.extension.Ext.{Ext}
 use Rattle.field.specs.Ext.{ext_words}
 use Rattle.field.specs.Modulus.{Certificate}
 use Rattle.field.specs.inner.Requires.{KnownPrime}
-use Rattle.field.specs.laws.Known.{modulus}
+use Rattle.field.proofs.laws.Known.{modulus}
 use Rattle.field.specs.Word.{mul_m}
 use Rattle.field.specs.Element.{at, Word4, lift, zero4, mul4, norm2, norm, cofactor, element}
-use Rattle.field.specs.laws.Word.{mul_m_comm, one-mul_m}
-use Rattle.field.specs.laws.Slice.{word-element}
+use Rattle.field.proofs.laws.Word.{mul_m_comm, one-mul_m}
+use Rattle.field.proofs.laws.Slice.{word-element}
 use Rattle.field_batch.specs.inner.Quotients.{quotient, quotient_at, nonzero, factor, product_m, kept, factor_from_last, kept_from_last, Divisible}
 use Rattle.field_batch.specs.laws.Joined.{joined-size, total-same, element_of, element_past}
 use Rattle.field_batch.specs.laws.Quotients.{inverts-rest, inverts-same, quotient_none, quotient_in, kept_in, kept_out, kept-factor, kept_product, kept_word, product_below, one_below}

@@ -7,4 +7,3 @@ pub mod Generation
 pub mod Reader
 pub mod Constraints
 pub mod Ledger
-pub mod laws

@@ -7,14 +7,14 @@ use native.Mathlib.Nat.{eq-or-lt_of_le}
 use native.Mathlib.Numerals.{add-one}
 use native.Mathlib.Omega.{arith}
 use lib.ListN.{length, get_or}
-use Rattle.algebra.specs.laws.Primality.{lt_or_le}
+use Rattle.algebra.proofs.laws.Primality.{lt_or_le}
 use Rattle.field.specs.declared.extension.Ext.{Ext}
 use Rattle.field_batch.specs.declared.dot.Sum.{Sum}
 use Rattle.field_batch.specs.inner.Dot.{residues, Room}
 use Rattle.field.specs.Ext.{ext_words}
 use Rattle.field.specs.Element.{at, Word4, zero4, add4, scale4, power4, sum4}
-use Rattle.field.specs.laws.Slice.{four-words}
-use Rattle.field.specs.laws.Powers.{four-power4}
+use Rattle.field.proofs.laws.Slice.{four-words}
+use Rattle.field.proofs.laws.Powers.{four-power4}
 use Rattle.expression.specs.Words.{word}
 use Rattle.logup.specs.Tuple.{exponent, combine}
 use Rattle.logup_column.specs.inner.Powers.{beta_of, Powers}

@@ -15,7 +15,7 @@ use Rattle.lists.specs.laws.Tab.{tab-one}
 use Rattle.field.specs.declared.extension.Ext.{Ext}
 use Rattle.field.specs.Ext.{ext_words}
 use Rattle.field.specs.Element.{Word4, one4, mul4, power4, element}
-use Rattle.field.specs.laws.Powers.{power4-zero, power4-suc}
+use Rattle.field.proofs.laws.Powers.{power4-zero, power4-suc}
 use Rattle.logup_column.specs.laws.Powers.{word-one}
 
 pub record PowersLoop (p w : ℕ) (b d out : List ℕ) (e : ℕ) (power : Ext) : Type 0 where

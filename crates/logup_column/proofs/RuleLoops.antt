@@ -16,7 +16,7 @@ use Rattle.lists.specs.laws.Parts.{take_more, take-one, part_length}
 use Rattle.expression.specs.Words.{word}
 use Rattle.lookup.specs.Lookups.{element_start}
 use Rattle.logup.specs.Rule.{elements_under}
-use Rattle.logup.specs.laws.Rule.{ordered, part_under, length_under}
+use Rattle.logup.proofs.laws.Rule.{ordered, part_under, length_under}
 
 -- a word of a reversed list
 word-reverse : (l : List ℕ) (j : ℕ) → j < length l → word (reverse l) j ≡ word l (length l - 1 - j)

@@ -13,8 +13,8 @@ use Rattle.expression.specs.declared.refusal.Refusal.TheVariants.{SizeAtOdds}
 use Rattle.lookup.specs.Table.{Table, values_of}
 use Rattle.logup.specs.Rule.{table_under}
 use Rattle.logup.specs.Constraints.{constraints_refusal, rows_verdict, verdict, verdict_at}
-use Rattle.logup.specs.laws.Choices.{verdict_unknown}
-use Rattle.logup.specs.laws.Rule.{constraints_refusal_under}
+use Rattle.logup.proofs.laws.Choices.{verdict_unknown}
+use Rattle.logup.proofs.laws.Rule.{constraints_refusal_under}
 
 -- for a table as a rule reads it: the tests are those of the table itself
 module _ (rule : ℕ) (m : Limits) (p w : ℕ) (t : Table) (cs : List ℕ) (width : ℕ) (words : List ℕ) (o : Option (List ℕ)) where

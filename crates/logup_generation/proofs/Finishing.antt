@@ -21,8 +21,8 @@ use Rattle.lookup.specs.Tests.{has_lookups}
 use Rattle.logup.specs.Rule.{table_under}
 use Rattle.logup.specs.Rows.{accumulator, row_words, trace, first_fault, used}
 use Rattle.logup.specs.Generation.{Answer, refused, absent, rows_outcome, entry_refusal, entry_outcome, generation, generation_at}
-use Rattle.logup.specs.laws.Choices.{generation_unknown}
-use Rattle.logup.specs.laws.Rule.{refusal_under}
+use Rattle.logup.proofs.laws.Choices.{generation_unknown}
+use Rattle.logup.proofs.laws.Rule.{refusal_under}
 use Rattle.logup_generation.specs.inner.Outcome.{rows_answer, cleared}
 use Rattle.logup_column.specs.inner.Requires.{lent_values}
 use Rattle.lists.specs.laws.Joined.{joined_length}

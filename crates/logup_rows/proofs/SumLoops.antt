@@ -14,7 +14,7 @@ use Rattle.lists.specs.laws.Filled.{Filled, filled_none, filled-part, filled-who
 use Rattle.field.specs.declared.extension.Ext.{Ext}
 use Rattle.field.specs.Ext.{ext_words}
 use Rattle.field.specs.Element.{Word4, zero4, add4, sum4, element}
-use Rattle.field.specs.laws.Element.{four-sum4}
+use Rattle.field.proofs.laws.Element.{four-sum4}
 use Rattle.lookup.specs.Lookups.{lookup_words, lookup_count, tuple_count, tuple_start}
 use Rattle.logup_column.specs.laws.Powers.{word-zero}
 use Rattle.lists.specs.laws.Joined.{joined_length}

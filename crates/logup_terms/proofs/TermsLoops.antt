@@ -13,7 +13,7 @@ use Rattle.field.specs.Word.{mul_m}
 use Rattle.field.specs.Ext.{ext_words}
 use Rattle.field.specs.declared.extension.Ext.{Ext}
 use Rattle.field.specs.laws.Extension.{h}
-use Rattle.field.specs.laws.Element.{word-lift, lift-add}
+use Rattle.field.proofs.laws.Element.{word-lift, lift-add}
 use Rattle.field.specs.Element.{Word4, zero4, one4, lift, add4, sub4, mul4, scale4, sum4, product4}
 use Rattle.expression.specs.Words.{word}
 use Rattle.lookup.specs.Lookups.{tuple_count, element_start, exclusive, tuple_nodes, tuple_width, multiplicity_node}

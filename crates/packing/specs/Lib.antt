@@ -2,4 +2,3 @@ pub mod Packing
 pub mod Written
 pub mod Keeps
 pub mod PackSameBus
-pub mod laws

@@ -34,7 +34,7 @@ use Rattle.lookup_buses.specs.Widths.{width_in_lookup, width_in_table, expected,
 use Rattle.packing_columns.specs.declared.columns.Plan.{Plan}
 use Rattle.packing.specs.Written.{words_of}
 use Rattle.packing.specs.PackSameBus.{single_table, holds, columns, packing_refusal, Outcome, counts, all_written, packing, packing_at}
-use Rattle.packing.specs.laws.Lengths.{NoLonger, packed_no_longer}
+use Rattle.packing.proofs.laws.Lengths.{NoLonger, packed_no_longer}
 use Rattle.packing_columns.specs.inner.Layout.{plan_words, plan_counts, counts_hold, plan_refusal, formed_refusal, formed_outcome, Layout, ListsExact, OutputsHold}
 use Rattle.packing.specs.declared.answer.Counts.{Counts}
 use Rattle.packing.specs.declared.answer.PackingAnswer.{PackingAnswer}

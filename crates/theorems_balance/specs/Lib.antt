@@ -1,4 +1,3 @@
 pub mod OneBus
 pub mod Sums
 pub mod Balance
-pub mod laws

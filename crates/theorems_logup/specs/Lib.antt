@@ -6,4 +6,3 @@ pub mod Tables
 pub mod Sets
 pub mod Error
 pub mod inner
-pub mod laws

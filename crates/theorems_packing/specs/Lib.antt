@@ -7,4 +7,3 @@ pub mod Same
 pub mod Accepted
 pub mod Terminal
 pub mod inner
-pub mod laws

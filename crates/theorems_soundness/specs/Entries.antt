@@ -7,9 +7,9 @@ use Rattle.field.specs.Element.{lift}
 use Rattle.field.specs.Modulus.{Certificate}
 use Rattle.field.specs.Extension.{K, KEl, el}
 use Rattle.field.specs.laws.Extension.{h}
-use Rattle.field.specs.laws.Word.{add_m-below}
-use Rattle.field.specs.laws.Homomorphism.{el_add, word_same}
-use Rattle.field.specs.laws.Element.{lift-add}
+use Rattle.field.proofs.laws.Word.{add_m-below}
+use Rattle.field.proofs.laws.Homomorphism.{el_add, word_same}
+use Rattle.field.proofs.laws.Element.{lift-add}
 use Rattle.theorems_logup.specs.Tables.{Entries}
 use Rattle.logup.specs.Ledger.{Entry}
 

@@ -9,4 +9,3 @@ pub mod Vanishing
 pub mod Constraints
 pub mod Error
 pub mod ErrorBits
-pub mod laws

@@ -10,7 +10,7 @@ use Rattle.lists.specs.laws.Tab.{tab-length, tab_at, tab_cong}
 use Rattle.lists.specs.laws.Joined.{joined-singles}
 use Rattle.lists.specs.Same.{same_list}
 use Rattle.field.specs.Word.{add_m, mul_m}
-use Rattle.field.specs.laws.Word.{add_m-below, mul_m-one}
+use Rattle.field.proofs.laws.Word.{add_m-below, mul_m-one}
 use Rattle.expression.specs.Words.{word}
 use Rattle.expression.specs.Requires.{Below}
 use Rattle.lookup.specs.Lookups.{Lookups, exclusive, tuple_count, multiplicity_count, flag_count, multiplicity_start, flag_start, multiplicity_node, flag_node, tuple_nodes, lookup_at}

@@ -6,7 +6,7 @@ use mathlib.Core.List.{List, [], ◌∷◌, ◌++◌, Memᴰ}
 use Rattle.lists.specs.laws.Count.{joined-member}
 use Rattle.lists.specs.laws.Members.{tab_in}
 use Rattle.lists.specs.Fold.{fold}
-use Rattle.field.specs.laws.Word.{mul_m-below}
+use Rattle.field.proofs.laws.Word.{mul_m-below}
 use Rattle.expression.specs.declared.refusal.Refusal.{Refusal}
 use Rattle.expression.specs.declared.refusal.Refusal.TheVariants.{WorkspaceFull}
 use Rattle.lookup.specs.Table.{values_of}

@@ -6,7 +6,7 @@ use Rattle.lists.specs.Count.{total, joined}
 use Rattle.lists.specs.Fold.{fold}
 use Rattle.lists.specs.laws.Sums.{total-zero, total-add}
 use Rattle.field.specs.Word.{add_m}
-use Rattle.field.specs.laws.Word.{add_m-more}
+use Rattle.field.proofs.laws.Word.{add_m-more}
 use Rattle.logup.specs.Ledger.{Entry, post}
 use Rattle.balance_slots.specs.Nets.{net_of}
 

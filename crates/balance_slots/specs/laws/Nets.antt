@@ -6,7 +6,7 @@ use Rattle.lists.specs.Same.{same_list}
 use Rattle.lists.specs.laws.Same.{same_list-eq, same_list_refl}
 use Rattle.lists.specs.Fold.{fold}
 use Rattle.field.specs.Word.{add_m}
-use Rattle.field.specs.laws.Word.{add_m-below, add_m-zero, zero-add_m}
+use Rattle.field.proofs.laws.Word.{add_m-below, add_m-zero, zero-add_m}
 use Rattle.logup.specs.Ledger.{Entry, post}
 use Rattle.balance_slots.specs.Slots.{Slot, add_nonzero, add, slots}
 use Rattle.balance_slots.specs.Nets.{net_of}

@@ -1,7 +1,7 @@
 -- Laws of the values of the nodes: their number, the 1,024 words in which they stand with zeros after them, and that they are below p.
 use Rattle.std.specs.Prelude.{◌≡◌, refl, Bool, true, false, not, List, [], ◌∷◌, ◌++◌, ℕ, zero, suc, ◌+◌, ◌<◌, ◌%◌, eqb, length, take, replicate}
 use Rattle.std.proofs.Common.{ap, ◌∙◌, add-one, arith, length-append, take_at, ltb-true}
-use Rattle.field.specs.laws.Word.{add_m-below, sub_m-below, neg_m-below, mul_m-below}
+use Rattle.field.proofs.laws.Word.{add_m-below, sub_m-below, neg_m-below, mul_m-below}
 use Rattle.lists.specs.laws.Tests.{every_true}
 use Rattle.expression.specs.Words.{word}
 use Rattle.expression.specs.Node.{node, node_count}

@@ -2,7 +2,7 @@
 use Rattle.std.specs.Prelude.{◌≡◌, ◌≢◌, ℕ, ◌-◌, ◌<◌, ◌%◌}
 use Rattle.std.proofs.Common.{sym, ap, ◌∙◌, mod-eq_of_lt}
 use Rattle.algebra.specs.Field.{Field}
-use Rattle.algebra.specs.laws.Remainder.{mul-mod-mod, mod-mul-mod}
+use Rattle.algebra.proofs.laws.Remainder.{mul-mod-mod, mod-mul-mod}
 use Rattle.field.specs.Modulus.{Certificate}
 use Rattle.field.specs.laws.Ring.{El, mk, eq, pos, words}
 

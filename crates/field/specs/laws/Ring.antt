@@ -8,8 +8,8 @@ use Rattle.std.proofs.Math.Nat.{mod-add-mod, add-mod-mod, mod_self, zero-mod}
 use Rattle.algebra.specs.Ring.{CRing}
 use Rattle.algebra.specs.Field.{Field}
 use Rattle.algebra.specs.Prime.{Prime}
-use Rattle.algebra.specs.laws.Remainder.{mul-mod-mod, mod-mul-mod}
-use Rattle.algebra.specs.laws.Primality.{inverse}
+use Rattle.algebra.proofs.laws.Remainder.{mul-mod-mod, mod-mul-mod}
+use Rattle.algebra.proofs.laws.Primality.{inverse}
 
 abbrev pub El : ℕ → Type 0
 El p = (n : ℕ) × (n < p)

@@ -6,7 +6,7 @@ use Rattle.lists.specs.Count.{total, joined}
 use Rattle.lists.specs.laws.Count.{last_or_below, total_in}
 use Rattle.lists.specs.laws.Filled.{Filled}
 use Rattle.field.specs.Element.{at, element}
-use Rattle.field.specs.laws.Slice.{element-whole}
+use Rattle.field.proofs.laws.Slice.{element-whole}
 
 pub joined-size : (f : ℕ → List ℕ) (len : ℕ → ℕ) (n : ℕ) → ((i : ℕ) → length (f i) ≡ len i) → length (joined f 0 n) ≡ total len n
 unfolding joined total

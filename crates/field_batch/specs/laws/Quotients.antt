@@ -13,14 +13,14 @@ use Rattle.lists.specs.laws.Count.{of_true, eqb_true, eqb_false, eq_of_eqb, ne_o
 use Rattle.field.specs.Modulus.{Modulus, Certificate}
 use Rattle.field.specs.Word.{mul_m, inverse1}
 use Rattle.field.specs.Element.{at, Word4, lift, zero4, mul4, scale4, norm2, norm, cofactor, inverse4, is_zero, element}
-use Rattle.field.specs.laws.Word.{mul_m-below, mul_m_comm, mul_m_assoc, mul_m-one, one-mul_m, zero-mul_m}
+use Rattle.field.proofs.laws.Word.{mul_m-below, mul_m_comm, mul_m_assoc, mul_m-one, one-mul_m, zero-mul_m}
 use Rattle.field.specs.laws.Ring.{one≢zero}
 use Rattle.field.specs.laws.Extension.{h}
-use Rattle.field.specs.laws.Homomorphism.{el_same}
-use Rattle.field.specs.laws.Zero.{zero-is_zero, zero-words}
-use Rattle.field.specs.laws.Element.{word-lift, scale4-zero, zero-scale4}
-use Rattle.field.specs.laws.Inverse.{inverse1_ok, inverse1_unique}
-use Rattle.field.specs.laws.Norm.{NonZero4, norm-nonzero, norm-below, word-norm2, cofactor-zero, inverse4-zero, quotient_by}
+use Rattle.field.proofs.laws.Homomorphism.{el_same}
+use Rattle.field.proofs.laws.Zero.{zero-is_zero, zero-words}
+use Rattle.field.proofs.laws.Element.{word-lift, scale4-zero, zero-scale4}
+use Rattle.field.proofs.laws.Inverse.{inverse1_ok, inverse1_unique}
+use Rattle.field.proofs.laws.Norm.{NonZero4, norm-nonzero, norm-below, word-norm2, cofactor-zero, inverse4-zero, quotient_by}
 use Rattle.field_batch.specs.inner.Quotients.{quotient, nonzero, factor, product_m, kept, factor_from_last}
 
 -- v inverts the product of q and f: then v·q inverts f

@@ -6,7 +6,7 @@ use mathlib.Core.List.{List, []}
 use Rattle.lists.specs.Count.{total}
 use Rattle.lists.specs.Tab.{tab}
 use Rattle.field.specs.Element.{Word4, element}
-use Rattle.field.specs.laws.Slice.{word-element}
+use Rattle.field.proofs.laws.Slice.{word-element}
 use Rattle.expression.specs.Requires.{Below}
 use Rattle.lookup.specs.Lookups.{Lookups, lent_lookups, lookup_words, lookup_count, exclusive, tuple_count, tuple_start, multiplicity_start, flag_start, element_start, tuple_width, multiplicity_node, flag_node, tuple_nodes}
 use Rattle.logup.specs.Tuple.{tuple}

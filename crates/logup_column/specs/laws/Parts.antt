@@ -15,7 +15,7 @@ use Rattle.lists.specs.laws.Count.{total-le, total_in, total-one, some_of-same}
 use Rattle.lists.specs.laws.Parts.{part_length}
 use Rattle.lists.specs.laws.Sums.{total_cong}
 use Rattle.field.specs.Element.{sum4, is_zero}
-use Rattle.field.specs.laws.Element.{sum4_cong}
+use Rattle.field.proofs.laws.Element.{sum4_cong}
 use Rattle.expression.specs.Words.{word}
 use Rattle.expression.specs.Values.{bit}
 use Rattle.lookup.specs.Lookups.{lookup_words, Lookups, lookup_count, lookup_word, exclusive, tuple_count, multiplicity_count, flag_count, tuple_start, multiplicity_start, flag_start, element_start, tuple_width, multiplicity_node, flag_node, tuple_nodes}

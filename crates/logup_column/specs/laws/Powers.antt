@@ -4,8 +4,8 @@ use Rattle.std.proofs.Common.{sym, ap, ◌∙◌, subst, arith}
 use Rattle.lists.specs.Tab.{tab}
 use Rattle.lists.specs.laws.Tab.{tab_at}
 use Rattle.field.specs.Element.{Word4, zero4, one4, power4}
-use Rattle.field.specs.laws.Element.{word-lift}
-use Rattle.field.specs.laws.Powers.{word-power4, power4-one}
+use Rattle.field.proofs.laws.Element.{word-lift}
+use Rattle.field.proofs.laws.Powers.{word-power4, power4-one}
 use Rattle.logup_column.specs.inner.Powers.{beta_of, Powers}
 
 pub word-zero : (p : ℕ) → 1 < p → Word4 p zero4

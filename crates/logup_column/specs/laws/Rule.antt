@@ -10,7 +10,7 @@ use Rattle.lists.specs.laws.Tests.{every_true, every_of}
 use Rattle.expression.specs.Words.{word, all_below}
 use Rattle.lookup.specs.Lookups.{element_start}
 use Rattle.logup.specs.Rule.{elements_under}
-use Rattle.logup.specs.laws.Rule.{length_under, below_under}
+use Rattle.logup.proofs.laws.Rule.{length_under, below_under}
 use Rattle.logup_column.specs.inner.Requires.{LookupLists}
 
 total-few : (f : ℕ → ℕ) (n : ℕ) → ((i : ℕ) → f i ≤ 8) → total f n ≤ 8 * n

@@ -7,8 +7,8 @@ use Rattle.lists.specs.Count.{joined}
 use Rattle.lists.specs.laws.Tab.{tab_cong}
 use Rattle.lists.specs.laws.Joined.{joined_length, joined_at}
 use Rattle.field.specs.Element.{at, power4, element}
-use Rattle.field.specs.laws.Slice.{four-words}
-use Rattle.field.specs.laws.Powers.{four-power4}
+use Rattle.field.proofs.laws.Slice.{four-words}
+use Rattle.field.proofs.laws.Powers.{four-power4}
 use Rattle.logup_column.specs.inner.Requires.{PowersTable}
 
 pub element-append : (l k : List ℕ) (i : ℕ) → 4 * i + 4 ≤ length l → element (l ++ k) i ≡ element l i

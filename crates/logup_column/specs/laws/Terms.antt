@@ -13,8 +13,8 @@ use Rattle.lists.specs.laws.Tab.{tab_cong}
 use Rattle.lists.specs.laws.Count.{last_or_below, some_of_none, eqb_true, eqb_false, eq_of_eqb}
 use Rattle.field.specs.Modulus.{Certificate}
 use Rattle.field.specs.Element.{zero4, one4, add4, sum4, inverse4, is_zero}
-use Rattle.field.specs.laws.Zero.{one_not_zero}
-use Rattle.field.specs.laws.Element.{four-scale4, word-scale4, word-lift, zero-scale4, sum4_cong, add4_comm, add4-zero}
+use Rattle.field.proofs.laws.Zero.{one_not_zero}
+use Rattle.field.proofs.laws.Element.{four-scale4, word-scale4, word-lift, zero-scale4, sum4_cong, add4_comm, add4-zero}
 use Rattle.field.specs.laws.Extension.{h}
 use Rattle.expression.specs.Values.{bit}
 use Rattle.logup.specs.Tuple.{quotient4}

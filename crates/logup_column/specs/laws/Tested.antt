@@ -5,7 +5,7 @@ use Rattle.std.proofs.Math.Option.{none}
 use Rattle.lists.specs.laws.Tests.{both_left, both_right, passed}
 use Rattle.field.specs.inner.Requires.{KnownPrime}
 use Rattle.field.specs.Known.{prime_of, w_of}
-use Rattle.field.specs.laws.Known.{known-prime, w_below, certificate_of}
+use Rattle.field.proofs.laws.Known.{known-prime, w_below, certificate_of}
 use Rattle.expression.specs.Limits.{Sane}
 use Rattle.expression.specs.Node.{node_count}
 use Rattle.expression.specs.Tests.{traces_below, constants_below, degrees_low}

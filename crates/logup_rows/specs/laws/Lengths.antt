@@ -5,7 +5,7 @@ use Rattle.std.proofs.Common.{arith, length-append}
 use Rattle.lists.specs.Count.{joined}
 use Rattle.lists.specs.laws.Tab.{tab-length}
 use Rattle.field.specs.Element.{one4, inverse4}
-use Rattle.field.specs.laws.Element.{four-sub4, four-scale4, four-sum4}
+use Rattle.field.proofs.laws.Element.{four-sub4, four-scale4, four-sum4}
 use Rattle.lookup.specs.Lookups.{Lookups, lookup_count, exclusive, tuple_count}
 use Rattle.logup.specs.Tuple.{tuple, combine, denominator, quotient4}
 use Rattle.logup.specs.Column.{Place, branches, multiplicity, flag, denom, used_denom, chosen, branch_fraction, exclusive_fraction, additive_fraction, fraction}

@@ -7,7 +7,7 @@ use Prim.Native.Nat.{ℕ, zero, suc, ◌+◌, ◌*◌, ◌<◌, ◌≤◌}
 use Rattle.lists.specs.Count.{joined}
 use Rattle.field.specs.Modulus.{Certificate}
 use Rattle.field.specs.Element.{add4, sum4, element}
-use Rattle.field.specs.laws.Element.{sum4_cong}
+use Rattle.field.proofs.laws.Element.{sum4_cong}
 use Rattle.field_batch.specs.inner.Quotients.{quotient_at}
 use Rattle.lookup.specs.Lookups.{Lookups, lookup_count, tuple_count, tuple_start}
 use Rattle.logup.specs.Column.{branches}

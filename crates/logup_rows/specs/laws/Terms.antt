@@ -11,8 +11,8 @@ use Rattle.lists.specs.laws.Count.{total_in}
 use Rattle.lists.specs.laws.Tab.{tab_get}
 use Rattle.field.specs.Modulus.{Certificate}
 use Rattle.field.specs.Element.{at, Word4, one4, sub4, scale4, inverse4, element}
-use Rattle.field.specs.laws.Slice.{four-words}
-use Rattle.field.specs.laws.Element.{four-sub4, four-scale4, word-sub4, word-scale4, word-lift}
+use Rattle.field.proofs.laws.Slice.{four-words}
+use Rattle.field.proofs.laws.Element.{four-sub4, four-scale4, word-sub4, word-scale4, word-lift}
 use Rattle.field.specs.laws.Extension.{h}
 use Rattle.field_batch.specs.inner.Quotients.{quotient, quotient_at}
 use Rattle.field_batch.specs.laws.Joined.{joined-size, joined_word, joined-element, element_of, total_times, total-same}

@@ -5,7 +5,7 @@ use Rattle.std.proofs.Common.{◌∙◌}
 use Rattle.std.proofs.Math.Bool.{cond}
 use mathlib.Core.List.{List}
 use Rattle.field.specs.Element.{one4, lift, add4, sub4, mul4, scale4, sum4, product4}
-use Rattle.field.specs.laws.Element.{sum4_cong, product4_cong}
+use Rattle.field.proofs.laws.Element.{sum4_cong, product4_cong}
 use Rattle.lookup.specs.Lookups.{exclusive}
 use Rattle.logup.specs.Column.{Place, branches, multiplicity, flag, denom}
 use Rattle.logup.specs.Constraints.{others, additive_numerator, additive_denominator, exclusive_numerator, exclusive_denominator, numerator, common_denominator}

@@ -9,7 +9,7 @@ use Rattle.field.specs.Modulus.{Certificate}
 use Rattle.field.specs.Word.{mul_m}
 use Rattle.field.specs.Element.{Word4, zero4, one4, lift, add4, mul4, scale4, sum4, product4}
 use Rattle.field.specs.laws.Extension.{h}
-use Rattle.field.specs.laws.Element.{four-product4, word-product4, word-lift, mul4_comm, mul4_assoc, mul4-add, mul4-one, zero-add4, zero-mul4, scale4_is, scale4-one, lift-mul, sum4_cong, product4_cong}
+use Rattle.field.proofs.laws.Element.{four-product4, word-product4, word-lift, mul4_comm, mul4_assoc, mul4-add, mul4-one, zero-add4, zero-mul4, scale4_is, scale4-one, lift-mul, sum4_cong, product4_cong}
 
 module _ (p w : ℕ) (C : Certificate p w) where
   product4-one : (f : ℕ → List ℕ) (n : ℕ) → mul4 p w (product4 p w f n) one4 ≡ product4 p w f n

@@ -5,7 +5,7 @@ use Rattle.std.proofs.Math.Option.{Option}
 use Rattle.std.proofs.lemmas.Bool.{not-false}
 use Rattle.lists.specs.laws.Tests.{passed}
 use Rattle.field.specs.Element.{Word4, element}
-use Rattle.field.specs.laws.Slice.{word-element}
+use Rattle.field.proofs.laws.Slice.{word-element}
 use Rattle.expression.specs.Words.{all_below}
 use Rattle.expression.specs.Requires.{Below}
 use Rattle.expression.specs.Limits.{Sane}

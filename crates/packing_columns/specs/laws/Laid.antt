@@ -34,7 +34,7 @@ use Rattle.packing_columns.specs.declared.columns.OpenColumn.{OpenColumn}
 use Rattle.packing.specs.Packing.{in_order, merged, joins, fill, filled, numbered, renumbered, packed, overweight}
 use Rattle.packing.specs.Written.{lookup_words, words_of}
 use Rattle.packing.specs.PackSameBus.{columns}
-use Rattle.packing.specs.laws.Columns.{filled-sum, order-sum}
+use Rattle.packing.proofs.laws.Columns.{filled-sum, order-sum}
 use Rattle.packing_columns.specs.laws.Planned.{Matched, plan_matches, over_matches, names_match, count_matches, words_match, heads_match}
 
 -- what each lookup carries is carried by the columns, in order

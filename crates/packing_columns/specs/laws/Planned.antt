@@ -24,8 +24,8 @@ use Rattle.packing_columns.specs.inner.Columns.{PlanSource, plan_source, top_at,
 use Rattle.packing_columns.specs.declared.columns.OpenColumn.{OpenColumn}
 use Rattle.packing.specs.Packing.{passes, on_one_bus, merged, joins, fill, filled, renumbered, overweight}
 use Rattle.packing.specs.Written.{lookup_words}
-use Rattle.packing.specs.laws.Columns.{on_one}
-use Rattle.packing.specs.laws.Merging.{Aligned, top_degree, denominator-merged, top-merged, degree_by_top}
+use Rattle.packing.proofs.laws.Columns.{on_one}
+use Rattle.packing.proofs.laws.Merging.{Aligned, top_degree, denominator-merged, top-merged, degree_by_top}
 
 -- o is the column c: `deg` is the nodes' degree
 pub record Shows (deg : ℕ → ℕ) (lookups names : List ℕ) (o : OpenColumn) (c : Lookup) : Type 0 where

@@ -1,6 +1,6 @@
 use Rattle.std.proofs.Common.{not, ap, sym, subst}
 use Rattle.field.specs.inner.Requires.{KnownPrime}
-use Rattle.field.specs.laws.Known.{known-prime}
+use Rattle.field.proofs.laws.Known.{known-prime}
 use Rattle.expression.specs.Limits.{Sane}
 use Rattle.expression.specs.laws.Tested.{limits_sane}
 use Rattle.balance_entry.proofs.DebugUtilLoops.{unknown, at_choices}

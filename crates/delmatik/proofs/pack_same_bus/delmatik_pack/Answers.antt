@@ -1,6 +1,6 @@
 use mathlib.Core.Path.{ap, ◌∙◌}
 use Rattle.packing.specs.PackSameBus.{Outcome}
-use Rattle.packing.specs.laws.PackSameBus.{in_numbers_injective}
+use Rattle.packing.proofs.laws.PackSameBus.{in_numbers_injective}
 use Rattle.delmatik_answers.specs.Packing.{packing_refused, packing_used}
 use Rattle.delmatik.specs.Exports.{exported_packing, exported_verdict}
 use Rattle.delmatik.proofs.Answered.{verdict_is}

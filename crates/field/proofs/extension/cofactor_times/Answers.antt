@@ -1,7 +1,7 @@
 use mathlib.Core.Path.{◌∙◌, ap}
 use Prim.Native.Nat.{ℕ}
 use Rattle.field.specs.Word.{mul_m}
-use Rattle.field.specs.laws.Norm.{cofactor_by}
+use Rattle.field.proofs.laws.Norm.{cofactor_by}
 use Rattle.field.specs.Ext.{ext_words}
 use borrow.Author.Rules.{rules}
 use Rattle.field.proofs.extension.cofactor_times.Goals as goal

@@ -1,4 +1,4 @@
-use Rattle.field.specs.laws.Reduction.{mul4_by}
+use Rattle.field.proofs.laws.Reduction.{mul4_by}
 use borrow.Author.Rules.{rules}
 use Rattle.field.proofs.extension.mul.Goals as goal
 

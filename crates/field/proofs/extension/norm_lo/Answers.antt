@@ -1,4 +1,4 @@
-use Rattle.field.specs.laws.Norm.{norm2_lo}
+use Rattle.field.proofs.laws.Norm.{norm2_lo}
 use Rattle.field.specs.Ext.{ext_words}
 use Rattle.field.proofs.extension.norm_lo.Goals as goal
 

@@ -1,4 +1,4 @@
-use Rattle.field.specs.laws.Norm.{norm_by}
+use Rattle.field.proofs.laws.Norm.{norm_by}
 use mathlib.Core.Path.{◌∙◌, ap₂}
 use Prim.Native.Nat.{ℕ}
 use Rattle.field.specs.Word.{add_m, mul_m}

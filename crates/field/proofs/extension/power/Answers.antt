@@ -2,7 +2,7 @@ use mathlib.Core.Path.{refl, ap}
 use Prim.Native.Nat.{◌/◌}
 use native.Mathlib.Omega.{arith}
 use Rattle.field.specs.Ext.{ext_words}
-use Rattle.field.specs.laws.Powers.{squaring_begins, squaring_even, squaring_odd, squaring_ends}
+use Rattle.field.proofs.laws.Powers.{squaring_begins, squaring_even, squaring_odd, squaring_ends}
 use Rattle.field.proofs.extension.power.Goals as goal
 use Rattle.field.proofs.extension.power.Goals.{then-k-eq1, else-k-eq1}
 

@@ -1,5 +1,5 @@
 use Rattle.field.specs.Ext.{ext_words}
-use Rattle.field.specs.laws.Powers.{Squaring}
+use Rattle.field.proofs.laws.Powers.{Squaring}
 use Rattle.field.proofs.extension.power.Given as goal
 
 abbrev pub invariant-loop-k : goal.invariant-loop-k

@@ -1,4 +1,4 @@
-use Rattle.field.specs.laws.Slice.{four-set}
+use Rattle.field.proofs.laws.Slice.{four-set}
 use native.Mathlib.Omega.{arith}
 use lib.ListN.{length-set}
 use Rattle.field.proofs.extension.store.Goals as goal

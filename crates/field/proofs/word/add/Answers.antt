@@ -1,4 +1,4 @@
-use Rattle.field.specs.laws.Reduction.{add-lt, add_ge}
+use Rattle.field.proofs.laws.Reduction.{add-lt, add_ge}
 use native.Mathlib.Omega.{arith}
 use Rattle.field.proofs.word.add.Goals as goal
 

@@ -1,5 +1,5 @@
-use Rattle.field.specs.laws.Inverse.{inverse1-zero, inverse1_unique}
-use Rattle.field.specs.laws.Known.{modulus}
+use Rattle.field.proofs.laws.Inverse.{inverse1-zero, inverse1_unique}
+use Rattle.field.proofs.laws.Known.{modulus}
 use Rattle.field.specs.Word.{inverse1}
 use native.Mathlib.Omega.{arith}
 use mathlib.Core.Path.{◌∙◌, sym, ap}

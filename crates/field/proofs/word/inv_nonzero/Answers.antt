@@ -1,6 +1,6 @@
 use Rattle.field.specs.Word.{mul_m}
-use Rattle.field.specs.laws.Word.{mul_m-one}
-use Rattle.field.specs.laws.Reduction.{turn}
+use Rattle.field.proofs.laws.Word.{mul_m-one}
+use Rattle.field.proofs.laws.Reduction.{turn}
 use native.Mathlib.Nat.{mod-lt, lt_trans, pos_of_ne-zero, div-le_self, le-div_iff_mul-le}
 use native.Mathlib.Omega.{arith}
 use Prim.Native.Nat.{ℕ, ◌<◌}

@@ -1,4 +1,4 @@
-use Rattle.field.specs.laws.Reduction.{neg-zero, neg-pos}
+use Rattle.field.proofs.laws.Reduction.{neg-zero, neg-pos}
 use native.Mathlib.Omega.{arith}
 use Rattle.field.proofs.word.neg.Goals as goal
 

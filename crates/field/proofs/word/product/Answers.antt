@@ -1,5 +1,5 @@
-use Rattle.field.specs.laws.Reduction.{prod}
-use Rattle.field.specs.laws.Known.{modulus}
+use Rattle.field.proofs.laws.Reduction.{prod}
+use Rattle.field.proofs.laws.Known.{modulus}
 use native.Mathlib.Omega.{arith}
 use mathlib.Core.Path.{refl}
 use Rattle.field.proofs.word.product.Goals as goal

@@ -1,4 +1,4 @@
-use Rattle.field.specs.laws.Reduction.{sub-lt, sub_ge}
+use Rattle.field.proofs.laws.Reduction.{sub-lt, sub_ge}
 use native.Mathlib.Omega.{arith}
 use Rattle.field.proofs.word.sub.Goals as goal
 

@@ -1,7 +1,7 @@
 use mathlib.Core.Path.{ap, ◌∙◌}
 use lib.ListN.{replicate}
 use Rattle.field.specs.Word.{mul_m}
-use Rattle.field.specs.laws.Known.{modulus}
+use Rattle.field.proofs.laws.Known.{modulus}
 use Rattle.field_batch.specs.laws.Quotients.{all_inverted}
 use Rattle.field_batch.proofs.DivisionLoops.{again_is}
 use Rattle.field_batch.proofs.division.divide_all.Goals as goal

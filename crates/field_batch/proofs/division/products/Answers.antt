@@ -1,5 +1,5 @@
 use mathlib.Core.Path.{refl, sym, subst}
-use Rattle.field.specs.laws.Slice.{word-element}
+use Rattle.field.proofs.laws.Slice.{word-element}
 use Rattle.field.specs.Element.{Word4}
 use Rattle.field_batch.proofs.DivisionLoops.{multiplying_begins, multiplying_factor, multiplying_turn}
 use borrow.Author.Rules.{rules}

@@ -1,5 +1,5 @@
 use Rattle.field.specs.Ext.{ext_words}
-use Rattle.field.specs.laws.Element.{scale4_added}
+use Rattle.field.proofs.laws.Element.{scale4_added}
 use borrow.Author.Rules.{rules}
 use Rattle.field_batch.proofs.dot.more.Goals as goal
 

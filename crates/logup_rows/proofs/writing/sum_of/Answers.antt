@@ -1,5 +1,5 @@
 use Rattle.logup_rows.proofs.SumLoops.{sum_loop_begins, sum_loop_turn, sum_loop_ends}
-use Rattle.field.specs.laws.Slice.{word-element}
+use Rattle.field.proofs.laws.Slice.{word-element}
 use Rattle.field.specs.Element.{Word4}
 use native.Mathlib.Omega.{arith}
 use mathlib.Core.Path.{refl, sym, subst}

@@ -1,4 +1,4 @@
-use Rattle.field.specs.laws.Known.{known-prime, w_below}
+use Rattle.field.proofs.laws.Known.{known-prime, w_below}
 use Rattle.expression.specs.laws.Tested.{limits_sane}
 use Rattle.lookup_challenges.specs.Prefixes.{prefixes_at}
 use Rattle.lookup_challenges.specs.laws.Prefixes.{outcome_is}

@@ -1,6 +1,6 @@
 use Rattle.field.specs.Ext.{ext_words}
 use Prim.Native.Nat.{◌+◌}
-use Rattle.field.specs.laws.Element.{scale4-mod}
+use Rattle.field.proofs.laws.Element.{scale4-mod}
 use Rattle.lookup_challenges.specs.Prefixes.{prefix_by}
 use Rattle.lookup_challenges.proofs.challenges.prefix.Goals as goal
 

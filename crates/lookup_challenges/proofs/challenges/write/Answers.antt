@@ -1,5 +1,5 @@
 use Rattle.lookup_challenges.specs.laws.Prefixes.{loaded}
-use Rattle.field.specs.laws.Slice.{element-whole}
+use Rattle.field.proofs.laws.Slice.{element-whole}
 use Rattle.lookup_challenges.proofs.challenges.write.Goals as goal
 
 pub power-gamma-requires : goal.power-gamma-requires

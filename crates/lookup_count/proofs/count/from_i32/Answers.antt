@@ -1,5 +1,5 @@
 use mathlib.Core.Path.{◌∙◌, ap}
-use Rattle.field.specs.laws.Known.{known-prime}
+use Rattle.field.proofs.laws.Known.{known-prime}
 use Rattle.expression.specs.laws.Tested.{limits_sane}
 use Rattle.lookup_count.specs.Count.{magnitude, from_i32, from_i32_at, in_numbers}
 use Rattle.lookup_count.proofs.Signed.{read, sign_is, from_is}

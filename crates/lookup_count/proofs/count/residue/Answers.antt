@@ -1,4 +1,4 @@
-use Rattle.field.specs.laws.Word.{neg_m-mod}
+use Rattle.field.proofs.laws.Word.{neg_m-mod}
 use Rattle.lookup_count.proofs.count.residue.Goals as goal
 
 pub returns-then-minus : goal.returns-then-minus

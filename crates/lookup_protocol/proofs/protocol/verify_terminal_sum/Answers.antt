@@ -1,5 +1,5 @@
 use mathlib.Core.Path.{ap}
-use Rattle.field.specs.laws.Known.{known-prime}
+use Rattle.field.proofs.laws.Known.{known-prime}
 use Rattle.expression.specs.Refusal.{numbers}
 use Rattle.lookup_protocol.specs.Terminals.{terminals_at}
 use Rattle.lookup_protocol.proofs.protocol.verify_terminal_sum.Goals as goal

@@ -1,5 +1,5 @@
 use Prim.Native.Nat.{◌/◌, ◌%◌}
-use Rattle.field.specs.laws.Slice.{four-set}
+use Rattle.field.proofs.laws.Slice.{four-set}
 use Rattle.wire.specs.Wire.{word_bytes}
 use Rattle.wire.proofs.words.put.Goals as goal
 

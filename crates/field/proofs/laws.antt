@@ -1,0 +1,11 @@
+pub mod Word
+pub mod Known
+pub mod Homomorphism
+pub mod Slice
+pub mod Zero
+pub mod Element
+pub mod Powers
+pub mod Inverse
+pub mod Norm
+pub mod Reduction
+pub mod Cases
