@@ -1,4 +1,5 @@
 pub mod Word
+pub mod Certificates
 pub mod Known
 pub mod Homomorphism
 pub mod Slice
