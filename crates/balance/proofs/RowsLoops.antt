@@ -25,11 +25,11 @@ use Rattle.lookup.specs.laws.Tested.{element-next, element_le}
 use Rattle.logup.specs.Ledger.{Entry}
 use Rattle.balance_slots.specs.declared.slot.SlotUse.{SlotUse}
 use Rattle.balance_slots.specs.inner.Work.{Work, work, step}
-use Rattle.balance_slots.specs.laws.Room.{fold-full, fold_snoc, fold_more}
+use Rattle.balance_slots.proofs.laws.Room.{fold-full, fold_snoc, fold_more}
 use Rattle.balance_slots.specs.declared.add.LinkedUse.{LinkedUse}
 use Rattle.balance_slots.specs.declared.hash.Seed.{Seed}
 use Rattle.balance_slots.specs.inner.Chain.{SlotsLinked, plain, plain_work, ChainsLinked}
-use Rattle.balance_slots.specs.laws.Plain.{plain-length}
+use Rattle.balance_slots.proofs.laws.Plain.{plain-length}
 use Rattle.balance.specs.declared.starts.LookupStarts.{LookupStarts}
 use Rattle.balance.specs.inner.LookupStarts.{PartLists, Source, lookup_starts_at, StartsWithin, count_from, nodes_from, entry_from, entries_from, rows_entries}
 use Rattle.balance_slots.specs.Workspace.{slot_words}

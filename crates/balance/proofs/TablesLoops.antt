@@ -12,7 +12,7 @@ use Rattle.lists.specs.laws.Turns.{Summing, sum-ends}
 use Rattle.lookup.specs.Sizes.{size_start as sized_start}
 use Rattle.balance.specs.Tables.{size, size_start, shape_at, main_width_size, height_size, preprocessed_width_size, preprocessed_height_size, lookup_count_size}
 use Rattle.balance.specs.Members.{table_from}
-use Rattle.balance.specs.laws.Members.{size-next}
+use Rattle.balance.proofs.laws.Members.{size-next}
 
 -- what the tables before table t have
 pub sizes-end : {t j s : ℕ} (sizes : List ℕ) (f : ℕ) → Summing (size sizes f) 4294967295 t j s → t ≤ j → t ≤ 16 → (s ≡ size_start sizes f t) × (s ≤ 68719476720)

@@ -6,4 +6,3 @@ pub mod Balance
 pub mod Passes
 pub mod Members
 pub mod inner
-pub mod laws

@@ -23,7 +23,7 @@ use Rattle.balance.specs.Tables.{TableLists, table_count, table_at, tables_of, l
 use Rattle.balance.specs.Refusals.{tables_refusal}
 use Rattle.balance.specs.Groups.{members, groups}
 use Rattle.balance.specs.Balance.{Visited, visit, unvisited, balance, Outcome, outcome, check, check_at, in_numbers}
-use Rattle.balance.specs.laws.Whole.{fitted}
+use Rattle.balance.proofs.laws.Whole.{fitted}
 use Rattle.balance_groups.specs.inner.ByNumber.{groups_to}
 use Rattle.balance_groups.specs.inner.Visits.{accepts}
 use Rattle.balance_groups.specs.laws.Groups.{groups_are}

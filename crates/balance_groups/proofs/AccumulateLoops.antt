@@ -16,14 +16,14 @@ use Rattle.lists.specs.laws.Tab.{flat_append}
 use Rattle.lookup.specs.Lookups.{lookup_count, on_bus, name_length, name_start}
 use Rattle.logup.specs.Ledger.{Entry}
 use Rattle.balance_slots.specs.inner.Work.{Work, work, step}
-use Rattle.balance_slots.specs.laws.Room.{Roomy, fold_roomy, fold_more}
+use Rattle.balance_slots.proofs.laws.Room.{Roomy, fold_roomy, fold_more}
 use Rattle.balance_slots.specs.declared.slot.SlotUse.{SlotUse}
 use Rattle.lookup.specs.Buses.{name_at}
 use Rattle.balance.specs.Tables.{TableLists}
 use Rattle.balance.specs.Entries.{member_entries, entries}
 use Rattle.balance.specs.Members.{member_at}
 use Rattle.balance.specs.inner.Requires.{TablesTested}
-use Rattle.balance.specs.laws.Lists.{flat-one}
+use Rattle.balance.proofs.laws.Lists.{flat-one}
 use Rattle.balance_groups.specs.inner.ByNumber.{GroupNames, kept, same_group, first_of_bus, starts_group, group_at}
 use Rattle.balance_slots.specs.Workspace.{slot_words}
 

@@ -15,15 +15,15 @@ use Rattle.lists.specs.Same.{same_list}
 use Rattle.field.specs.Word.{add_m}
 use Rattle.expression.specs.Words.{word}
 use Rattle.balance_slots.specs.inner.Work.{Work, find_slot, added_at, new_at, add_nonzero_at, step}
-use Rattle.balance_slots.specs.laws.Add.{made}
-use Rattle.balance_slots.specs.laws.Room.{new_at-long}
+use Rattle.balance_slots.proofs.laws.Add.{made}
+use Rattle.balance_slots.proofs.laws.Room.{new_at-long}
 use Rattle.balance_slots.specs.inner.Hash.{hash_prime, chains, polynomial, hash}
 use Rattle.balance_slots.specs.inner.Chain.{SlotsLinked, last_before, hash_at, Chained, holds, plain, plain_work, ChainsLinked}
 use Rattle.balance_slots.specs.declared.add.LinkedUse.{LinkedUse}
 use Rattle.balance_slots.specs.declared.hash.Seed.{Seed}
-use Rattle.balance_slots.specs.laws.Last.{last-le, last_hits, hash-same}
-use Rattle.balance_slots.specs.laws.Plain.{plain-length, plain_none, plain-next, plain_linked, plain_added, plain_new, new_before}
-use Rattle.balance_slots.specs.laws.Chained.{chained_none, Alike, chained_alike, chained-next, match_linked, find_past, find_step, find_skips}
+use Rattle.balance_slots.proofs.laws.Last.{last-le, last_hits, hash-same}
+use Rattle.balance_slots.proofs.laws.Plain.{plain-length, plain_none, plain-next, plain_linked, plain_added, plain_new, new_before}
+use Rattle.balance_slots.proofs.laws.Chained.{chained_none, Alike, chained_alike, chained-next, match_linked, find_past, find_step, find_skips}
 use Rattle.balance_slots.specs.Workspace.{slot_words, tuple_word, net_word}
 
 -- 2^31 is 1 modulo the prime

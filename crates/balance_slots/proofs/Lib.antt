@@ -2,3 +2,4 @@ pub mod DecimalLoops
 pub mod SlotsLoops
 pub mod GroupRefusalLoops
 pub mod ChainsLoops
+pub mod laws

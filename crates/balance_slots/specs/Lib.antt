@@ -4,4 +4,3 @@ pub mod Nets
 pub mod Workspace
 pub mod GroupRefusal
 pub mod inner
-pub mod laws

@@ -1,11 +1,8 @@
 // Balance for callers that hold bytes.
-ghost use Rattle.std.specs.Prelude.{◌≡◌, length};
+ghost use Rattle.std.specs.Prelude.{◌≡◌};
 ghost use Rattle.expression.specs.Choices.{choices_of};
-ghost use Rattle.expression.specs.Refusal.{refusal};
 ghost use Rattle.balance.specs.Tables.{lent_tables};
-ghost use Rattle.wire.specs.inner.Place.{parts, Ordered, both_ends};
 ghost use Rattle.delmatik_bytes.specs.Balance.{balance_on_bytes};
-ghost use Rattle.delmatik_bytes.specs.inner.Words.{balance_on_words};
 
 // `delmatik_balance` on bytes: the workspace is bytes too, and the seed a number. The number of the refusal is returned, 0 where there is none; its details are written.
 #[unsafe(no_mangle)]

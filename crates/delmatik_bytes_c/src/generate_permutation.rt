@@ -1,13 +1,10 @@
 // Generation for callers that hold bytes.
-ghost use Rattle.std.specs.Prelude.{◌≡◌, length};
+ghost use Rattle.std.specs.Prelude.{◌≡◌};
 ghost use Rattle.expression.specs.Choices.{choices_of};
 ghost use Rattle.lookup.specs.Lookups.{lent_lookups};
 ghost use Rattle.lookup.specs.Table.{lent_table};
-ghost use Rattle.logup.specs.Generation.{answer_of};
-ghost use Rattle.delmatik_answers.specs.Generation.{generation_number, generation_details, generation_terminal, shape_of};
-ghost use Rattle.wire.specs.inner.Place.{parts, Ordered, both_ends};
+ghost use Rattle.delmatik_answers.specs.Generation.{shape_of};
 ghost use Rattle.delmatik_bytes.specs.Generate.{generation_on_bytes};
-ghost use Rattle.delmatik_bytes.specs.inner.Words.{generation_on_words};
 
 // `delmatik_generate` on bytes: the trace buffer is bytes too. The number of the refusal is returned, 0 where there is none; its details and the
 // terminal are written. Refusals 1 to 12 leave terminal and trace as they were. The rooms are working memory, and hold the words of their lists also

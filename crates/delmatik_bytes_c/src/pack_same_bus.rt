@@ -1,22 +1,10 @@
 // Packing for callers that hold bytes. The lists that are written stand in one room, so they are written one after the other, by the functions that
 // `pack_same_bus` of words uses for its six lists.
-ghost use Rattle.std.specs.Prelude.{◌≡◌, true, ◌-◌, ◌≤◌, [], ◌∷◌, map, length, take, drop};
+ghost use Rattle.std.specs.Prelude.{◌≡◌, ◌-◌};
 ghost use Rattle.expression.specs.Choices.{choices_of};
-ghost use Rattle.lookup.specs.Lookups.{lent_lookups, lookup_count};
-ghost use Rattle.packing_columns.specs.inner.LookupLists.{list_start, list_parts};
-ghost use Rattle.packing_columns.specs.inner.LookupListsRequires.{LookupNumbers, FewTuples};
-ghost use Rattle.packing.specs.Written.{written};
-ghost use Rattle.lookup_degree.specs.Formed.{Formed};
-ghost use Rattle.packing.specs.PackSameBus.{holds, all_written};
-ghost use Rattle.packing_columns.specs.inner.Layout.{plan_words, formed_outcome, ListsExact, OutputsHold};
+ghost use Rattle.lookup.specs.Lookups.{lent_lookups};
 ghost use Rattle.delmatik_answers.specs.Types.{columns_of};
-ghost use Rattle.delmatik_answers.specs.Packing.{packing_refused, packing_used};
-ghost use Rattle.expression.specs.Refusal.{answer_number, answer_details};
-ghost use Rattle.wire.specs.Wire.{bytes_of};
-ghost use Rattle.wire.specs.inner.Place.{parts, put_part, Split, five_ends, After};
 ghost use Rattle.delmatik_bytes.specs.Pack.{packing_on_bytes};
-ghost use Rattle.delmatik_bytes.specs.inner.Words.{lookups_in, packing_on_words};
-ghost use Rattle.delmatik_bytes.specs.inner.Sized.{Sized};
 
 // `delmatik_pack` on bytes. The number of the refusal is returned, 0 where there is none; its details are written, and in `used` how many words, or
 // bytes of names, of each list are used. A refusal leaves the lists and these numbers as they were. The rooms are working memory, and hold the words

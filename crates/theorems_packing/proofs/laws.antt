@@ -17,3 +17,4 @@ pub mod Fractions
 pub mod Rule
 pub mod Terminal
 pub mod Cases
+pub mod AtWork

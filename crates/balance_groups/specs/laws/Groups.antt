@@ -17,8 +17,8 @@ use Rattle.lookup_buses.specs.laws.Order.{keep_append}
 use Rattle.balance.specs.Tables.{TableLists, tables_of}
 use Rattle.balance.specs.Groups.{Member, members, local, same_bus, appears, local_group, bus_group, bus_groups, groups}
 use Rattle.balance.specs.Members.{member_at}
-use Rattle.balance.specs.laws.Lists.{flat-tab}
-use Rattle.balance.specs.laws.Members.{Fitted, members_are}
+use Rattle.balance.proofs.laws.Lists.{flat-tab}
+use Rattle.balance.proofs.laws.Members.{Fitted, members_are}
 use Rattle.balance_groups.specs.inner.ByNumber.{kept, same_group, first_of_bus, starts_group, group_at, groups_to}
 
 module _ {A : Type 0} where

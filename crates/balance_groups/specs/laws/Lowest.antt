@@ -17,7 +17,7 @@ use Rattle.lookup.specs.Tests.{sizes, words_below, known, lists_agree}
 use Rattle.lookup.specs.Refusals.{nodes_refusal, lists_refusal, table_refusal}
 use Rattle.balance.specs.Tables.{TableLists, table_count, table_at, lists_fit}
 use Rattle.balance.specs.Refusals.{listed, covered, tables_refusal}
-use Rattle.balance.specs.laws.Whole.{all-tables}
+use Rattle.balance.proofs.laws.Whole.{all-tables}
 use Rattle.balance_groups.specs.inner.Lowest.{rank, lower, lowest, one_refusal}
 
 rank-unless : (n : ℕ) (b : Bool) (f : Refusal) (x : Option Refusal) → n < number f → n < rank x → n < rank (unless b f x)

@@ -23,9 +23,9 @@ use Rattle.balance_slots.specs.Slots.{slots}
 use Rattle.balance_slots.specs.Workspace.{workspace_of, slot_words}
 use Rattle.balance_slots.specs.inner.Work.{Work, work, step, work_of, work_refusal}
 use Rattle.balance_slots.specs.declared.slot.SlotUse.{SlotUse}
-use Rattle.balance_slots.specs.laws.Add.{Narrow, made, work-slots, slots-fit}
-use Rattle.balance_slots.specs.laws.GroupRefusal.{work_refusal_is, widths_in_use}
-use Rattle.balance_slots.specs.laws.Room.{Roomy, fold_roomy}
+use Rattle.balance_slots.proofs.laws.Add.{Narrow, made, work-slots, slots-fit}
+use Rattle.balance_slots.proofs.laws.GroupRefusal.{work_refusal_is, widths_in_use}
+use Rattle.balance_slots.proofs.laws.Room.{Roomy, fold_roomy}
 use Rattle.balance.specs.Tables.{TableLists}
 use Rattle.balance.specs.Groups.{Member}
 use Rattle.balance.specs.Entries.{entry_of, row_entries, member_entries, entries}
@@ -33,7 +33,7 @@ use Rattle.balance.specs.Members.{member_at}
 use Rattle.balance.specs.Balance.{Visited}
 use Rattle.balance.specs.inner.Requires.{TablesTested}
 use Rattle.lists.specs.laws.Members.{tab_in}
-use Rattle.balance.specs.laws.Lists.{flat_in}
+use Rattle.balance.proofs.laws.Lists.{flat_in}
 use Rattle.balance_groups.specs.inner.ByNumber.{kept, same_group, group_at}
 use Rattle.balance_groups.specs.inner.Visits.{group_visited}
 

@@ -21,8 +21,8 @@ use Rattle.balance.specs.Groups.{Member}
 use Rattle.balance.specs.Entries.{entries}
 use Rattle.balance.specs.Balance.{check}
 use Rattle.balance.specs.Passes.{Fits, Passes, AllGroups, groups_of}
-use Rattle.balance.specs.laws.Passes.{check-passes}
-use Rattle.balance.specs.laws.Balance.{check-known}
+use Rattle.balance.proofs.laws.Passes.{check-passes}
+use Rattle.balance.proofs.laws.Balance.{check-known}
 use Rattle.theorems_soundness.specs.Entries.{N}
 use Rattle.theorems_soundness.proofs.laws.Ledgers.{met_is}
 use Rattle.theorems_soundness.proofs.laws.Pairs.{in_field, each-pair, full}

@@ -42,7 +42,7 @@ use Rattle.balance.specs.Groups.{Member, members, same_bus, appears, local_group
 use Rattle.balance.specs.Entries.{count_of, entry_of, row_entries, member_entries, entries}
 use Rattle.balance.specs.Refusals.{all, listed, covered, tables_refusal}
 use Rattle.balance.specs.Balance.{check_at}
-use Rattle.balance.specs.laws.Cases.{columns, bus_words}
+use Rattle.balance.proofs.laws.Cases.{columns, bus_words}
 use Rattle.balance.specs.Passes.{Fits, AllGroups, groups_of}
 use Rattle.theorems_soundness.specs.Soundness.{FullSet}
 use Rattle.theorems_soundness.specs.Entries.{N}

@@ -29,8 +29,8 @@ use Rattle.balance.specs.Groups.{Member, members, local, same_bus, appears, loca
 use Rattle.balance.specs.Entries.{entry_of, row_entries, member_entries, entries}
 use Rattle.balance.specs.Refusals.{all, tables_refusal}
 use Rattle.balance.specs.Passes.{groups_of}
-use Rattle.balance.specs.laws.Lists.{flat_in}
-use Rattle.balance.specs.laws.Passes.{counted}
+use Rattle.balance.proofs.laws.Lists.{flat_in}
+use Rattle.balance.proofs.laws.Passes.{counted}
 use Rattle.theorems_soundness.specs.Entries.{N}
 use Rattle.theorems_soundness.proofs.laws.Values.{row_below}
 use Rattle.theorems_balance.specs.Sums.{Wide}

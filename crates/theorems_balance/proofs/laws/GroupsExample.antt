@@ -35,7 +35,7 @@ use Rattle.balance.specs.Groups.{members, same_bus, appears, local_group, bus_gr
 use Rattle.balance.specs.Entries.{count_of, entry_of, row_entries, member_entries, entries}
 use Rattle.balance.specs.Refusals.{all, listed, covered, tables_refusal}
 use Rattle.balance.specs.Balance.{visit, balance, check, check_at}
-use Rattle.balance.specs.laws.Cases.{two_tables}
+use Rattle.balance.proofs.laws.Cases.{two_tables}
 use Rattle.balance.specs.Passes.{Fits, AllGroups, groups_of}
 use Rattle.theorems_balance.specs.Sums.{IdenticallyZero}
 use Rattle.theorems_balance.specs.Balance.{OneWidth}

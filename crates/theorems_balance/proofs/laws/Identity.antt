@@ -13,8 +13,8 @@ use Rattle.balance.specs.Groups.{Member}
 use Rattle.balance.specs.Entries.{entries}
 use Rattle.balance.specs.Balance.{check}
 use Rattle.balance.specs.Passes.{Passes, AllGroups, groups_of}
-use Rattle.balance.specs.laws.Passes.{counted, check-passes}
-use Rattle.balance.specs.laws.Balance.{check-known}
+use Rattle.balance.proofs.laws.Passes.{counted, check-passes}
+use Rattle.balance.proofs.laws.Balance.{check-known}
 use Rattle.theorems_soundness.specs.Entries.{N}
 use Rattle.theorems_balance.specs.Sums.{IdenticallyZero, Sampled}
 use Rattle.theorems_balance.specs.Balance.{AllVanish, SamplesExist, BalanceIsTheIdentity, KnownIdentity}

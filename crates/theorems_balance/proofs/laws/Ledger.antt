@@ -14,9 +14,9 @@ use Rattle.logup.specs.Ledger as logup
 use Rattle.balance_slots.specs.Nets.{net_of}
 use Rattle.balance.specs.Groups.{Member, members}
 use Rattle.balance.specs.Entries.{row_entries, member_entries, entries}
-use Rattle.balance.specs.laws.Lists.{flat-tab}
-use Rattle.balance.specs.laws.Sums.{tally, tally-joined, total_swap}
-use Rattle.balance.specs.laws.Ledger.{lookup_entries_is, net-same}
+use Rattle.balance.proofs.laws.Lists.{flat-tab}
+use Rattle.balance.proofs.laws.Sums.{tally, tally-joined, total_swap}
+use Rattle.balance.proofs.laws.Ledger.{lookup_entries_is, net-same}
 use Rattle.theorems_balance.specs.OneBus.{member_of}
 
 pub members-one : (t : Table) → members (t ∷ []) ≡ tab (member_of t) 0 (lookup_count t.lookups.lookups)

@@ -13,8 +13,8 @@ use Rattle.field.proofs.laws.Word.{sum-add_m}
 use Rattle.theorems_logup.specs.Tables as Tables
 use Rattle.logup.specs.Ledger.{Entry}
 use Rattle.balance_slots.specs.Nets.{net_of}
-use Rattle.balance.specs.laws.Sums.{tally, net-tally}
-use Rattle.balance.specs.laws.Ledger.{net-below}
+use Rattle.balance.proofs.laws.Sums.{tally, net-tally}
+use Rattle.balance.proofs.laws.Ledger.{net-below}
 use Rattle.theorems_soundness.specs.Entries.{N}
 use Rattle.theorems_soundness.proofs.laws.Ledgers.{same_true, same_false}
 

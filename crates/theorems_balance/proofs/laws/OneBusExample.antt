@@ -22,7 +22,7 @@ use Rattle.logup.specs.Ledger.{has_ledger, count, lookup_entries, row_entries, e
 use Rattle.balance_slots.specs.Nets.{net_of}
 use Rattle.balance.specs.Groups.{members, same_bus, groups}
 use Rattle.balance.specs.Entries as balance
-use Rattle.balance.specs.laws.Cases.{columns}
+use Rattle.balance.proofs.laws.Cases.{columns}
 use Rattle.theorems_balance.specs.OneBus.{member_of, OneBus}
 use Rattle.theorems_balance.proofs.laws.OneBus.{one_bus-ledger}
 

@@ -30,7 +30,7 @@ use Rattle.balance.specs.Groups.{Member, members_of, members}
 use Rattle.balance.specs.Entries.{entry_of, row_entries, member_entries, entries}
 use Rattle.balance.specs.Refusals.{all, tables_refusal}
 use Rattle.balance.specs.Passes.{groups_of}
-use Rattle.balance.specs.laws.Lists.{flat_in, flat-one, flat-tab}
+use Rattle.balance.proofs.laws.Lists.{flat_in, flat-one, flat-tab}
 use Rattle.theorems_balance.specs.OneBus.{member_of}
 use Rattle.theorems_balance.proofs.laws.Groups.{Kind, group_kind, in_group, sizes_of-tables}
 

@@ -22,8 +22,8 @@ use Rattle.lookup.specs.laws.Tested.{sizes_passed, fitting, agreeing}
 use Rattle.balance.specs.Tables.{TableLists, tables_of, lists_fit}
 use Rattle.balance.specs.Refusals.{all, listed, covered, tables_refusal}
 use Rattle.balance.specs.Balance.{Check, check}
-use Rattle.balance.specs.laws.Passes.{check-passes}
-use Rattle.balance.specs.laws.Balance.{check-known}
+use Rattle.balance.proofs.laws.Passes.{check-passes}
+use Rattle.balance.proofs.laws.Balance.{check-known}
 use Rattle.theorems_packing.specs.Packed.{packed_table}
 use Rattle.theorems_packing.specs.Passes.{Tested}
 use Rattle.theorems_packing.specs.Lists.{lists_of}

@@ -217,7 +217,7 @@ module _ (field : ℕ) where
 
   -- What is computed in the field: the tests find nothing, packing makes these lookups, the lists hold them, and balance accepts the table; the sum of
   -- the height bound, and the widths; the terminal, and the sum on the bus, where everything is counted once; under rule 2 both are -3.
-  record Computed (terminal-word bus_word : ℕ) : Type 0 where
+  pub record Computed (terminal-word bus_word : ℕ) : Type 0 where
     is_known : T (Choices.known (choices_of field 1))
     tested : Tested m p table
     not_over : NotOverweight 3 table
@@ -276,7 +276,7 @@ module _ (field : ℕ) where
         ≡ terminal (lift (neg_m p 3))
     pub bus_sum_same_2 : bus_sum 2 p w (packed_table 3 wide_table) (challenges_of shared (packed_table 3 wide_table)) (98 ∷ []) ≡ lift (neg_m p 3)
 
-  at_work : {terminal-word bus_word : ℕ} → Computed terminal-word bus_word → AtWork terminal-word bus_word
+  pub at_work : {terminal-word bus_word : ℕ} → Computed terminal-word bus_word → AtWork terminal-word bus_word
   at_work c =
       record {
         written =
@@ -326,7 +326,7 @@ module _ (field : ℕ) where
       fit = (sizes_passed m table c.tested.sizes_pass).4
 
 -- the terminal is 37 ÷ 6, and the sum on the bus 9 ÷ 2
-computed : Computed 1 1677721607 1006632965 × Computed 2 355117745 1065353221
+pub computed : Computed 1 1677721607 1006632965 × Computed 2 355117745 1065353221
 unfolding flat_map zip_with pow_m same_list total every some_of first joined fold tab add_m neg_m sub_m mul_m inverse1 add4 sub4 mul4 scale4 power4 sum4
     conjugate conjugate2 norm2 norm inverse4 is_zero element known_field prime_of w_of all_below all_within Choices.known known_rule limits_of cabinet
     decode node row_of window node_value values row_values node_degree degrees traces_within nodes_within traces_fit nodes_fit traces_below
@@ -390,6 +390,3 @@ computed = (
     wide_total = refl;
   },
 )
-
-pub in_each_field : AtWork 1 1677721607 1006632965 × AtWork 2 355117745 1065353221
-in_each_field = (at_work 1 computed.0, at_work 2 computed.1)

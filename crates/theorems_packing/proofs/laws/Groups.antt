@@ -12,7 +12,7 @@ use Rattle.lookup_buses.specs.Order.{keep}
 use Rattle.lookup_buses.specs.laws.Order.{keep_append, keep_cong}
 use Rattle.balance.specs.Groups.{Member, local, same_bus, appears, local_group, bus_group, bus_groups, groups}
 use Rattle.balance.specs.Entries.{member_entries, entries}
-use Rattle.balance.specs.laws.Lists.{flat-one}
+use Rattle.balance.proofs.laws.Lists.{flat-one}
 use Rattle.balance.specs.Passes.{AllGroups}
 use Rattle.theorems_packing.specs.Same.{on}
 use Rattle.theorems_packing.proofs.laws.Each.{Each}

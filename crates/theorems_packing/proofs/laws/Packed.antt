@@ -32,7 +32,7 @@ use Rattle.theorems_packing.proofs.laws.Passed.{passed_on}
 use Rattle.theorems_packing.proofs.laws.Entries.{lookups_sound, columns_sound}
 use Rattle.balance.specs.Groups.{Member, local, members_of}
 use Rattle.balance.specs.Entries.{count_of, entry_of, row_entries, member_entries, entries}
-use Rattle.balance.specs.laws.Sums.{tally, tally-append, tally-joined}
+use Rattle.balance.proofs.laws.Sums.{tally, tally-append, tally-joined}
 use Rattle.theorems_packing.specs.Same.{on, Same, AllSame, IsPacked, AllPacked}
 
 -- the additive lookups of a bus

@@ -13,8 +13,8 @@ use Rattle.logup.specs.Ledger.{Entry}
 use Rattle.lookup_degree.specs.Sums.{sum_of}
 use Rattle.lookup_buses.specs.laws.Order.{sum-append}
 use Rattle.balance_slots.specs.Slots.{Slot, slots}
-use Rattle.balance_slots.specs.laws.Nets.{listed, include, different, slots-different}
-use Rattle.balance.specs.laws.Sums.{tally}
+use Rattle.balance_slots.proofs.laws.Nets.{listed, include, different, slots-different}
+use Rattle.balance.proofs.laws.Sums.{tally}
 use Rattle.theorems_packing.proofs.laws.Each.{Each, each_and}
 use Rattle.theorems_packing.proofs.laws.Counting.{sum_cong, sum_swap, sum_ones}
 

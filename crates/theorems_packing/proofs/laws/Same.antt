@@ -15,10 +15,10 @@ use Rattle.balance_slots.specs.Nets.{net_of}
 use Rattle.lookup_buses.specs.laws.Order.{keep_append}
 use Rattle.balance.specs.Groups.{Member, members, local, groups, members_of}
 use Rattle.balance.specs.Entries.{member_entries, entries}
-use Rattle.balance.specs.laws.Sums.{tally, tally-append}
-use Rattle.balance.specs.laws.Ledger.{net-same}
+use Rattle.balance.proofs.laws.Sums.{tally, tally-append}
+use Rattle.balance.proofs.laws.Ledger.{net-same}
 use Rattle.balance.specs.Passes.{Passes, AllGroups}
-use Rattle.balance.specs.laws.Passes.{balance-passes}
+use Rattle.balance.proofs.laws.Passes.{balance-passes}
 use Rattle.theorems_packing.specs.Same.{on, count_in, AllSame}
 use Rattle.theorems_packing.specs.Accepted.{SameAccepted}
 use Rattle.theorems_packing.proofs.laws.Each.{Each}

@@ -1,5 +1,5 @@
 use Rattle.lookup.specs.laws.Sizes.{part-within}
-use Rattle.balance.specs.laws.Accumulate.{starts-within, traces-cut, nodes-cut, member_able, member-entered, table_there, few-rows, start_in}
+use Rattle.balance.proofs.laws.Accumulate.{starts-within, traces-cut, nodes-cut, member_able, member-entered, table_there, few-rows, start_in}
 use Rattle.balance.specs.Tables.{table_sizes, main_count_size, preprocessed_count_size, public_value_count_size, node_count_size}
 use Rattle.expression.specs.Node.{node_words}
 use Rattle.balance.proofs.accumulate.accumulate_lookup.Goals as goal

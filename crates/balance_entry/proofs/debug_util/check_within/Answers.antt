@@ -1,5 +1,5 @@
 use Rattle.std.proofs.Common.{not, ap, sym, ◌∙◌}
-use Rattle.balance.specs.laws.Whole.{lists_covered, whole}
+use Rattle.balance.proofs.laws.Whole.{lists_covered, whole}
 use Rattle.balance_entry.proofs.DebugUtilLoops.{unfit, refused, nothing, answered}
 use Rattle.balance_entry.proofs.debug_util.check_within.Goals as goal
 

@@ -1,6 +1,6 @@
 use mathlib.Core.Path.{ap}
 use Rattle.balance.specs.Balance.{Outcome}
-use Rattle.balance.specs.laws.Balance.{in_numbers_injective}
+use Rattle.balance.proofs.laws.Balance.{in_numbers_injective}
 use Rattle.delmatik.specs.Exports.{exported_balance, exported_verdict}
 use Rattle.delmatik.proofs.Answered.{verdict_is}
 use Rattle.delmatik.proofs.check_lookups.delmatik_balance.Goals as goal

@@ -1,4 +1,4 @@
-use Rattle.balance.specs.laws.Balance.{in_numbers_injective}
+use Rattle.balance.proofs.laws.Balance.{in_numbers_injective}
 use Rattle.delmatik_bytes.proofs.check_lookups.check_in.Goals as goal
 
 pub returns : goal.returns

@@ -15,7 +15,7 @@ use Rattle.balance_slots.specs.Slots.{Slot}
 use Rattle.balance_slots.specs.Workspace.{words_of_slot, full, workspace_of, slot_words, tuple_word}
 use Rattle.balance_slots.specs.GroupRefusal.{Numbered, unbalanced, earlier, names_first, group_refusal}
 use Rattle.balance_slots.specs.inner.Work.{work_of, net_at, tuple_at, best, better_at, least_to, slot_refusal, work_refusal}
-use Rattle.balance_slots.specs.laws.Add.{Fit, front, front_long, slot_is, slot-long}
+use Rattle.balance_slots.proofs.laws.Add.{Fit, front, front_long, slot_is, slot-long}
 use Rattle.balance_slots.specs.declared.group_refusal.Best.{Best}
 
 abbrev pub nobody : Slot

@@ -12,8 +12,8 @@ use Rattle.balance_slots.specs.inner.Work.{match_at, find_slot}
 use Rattle.balance_slots.specs.declared.hash.Seed.{Seed}
 use Rattle.balance_slots.specs.inner.Hash.{chains, hash}
 use Rattle.balance_slots.specs.inner.Chain.{last_before, hash_at, Chained, holds, plain}
-use Rattle.balance_slots.specs.laws.Last.{last-same, hash-same}
-use Rattle.balance_slots.specs.laws.Plain.{plain-width, plain_past, part-plain}
+use Rattle.balance_slots.proofs.laws.Last.{last-same, hash-same}
+use Rattle.balance_slots.proofs.laws.Plain.{plain-width, plain_past, part-plain}
 use Rattle.balance_slots.specs.Workspace.{slot_words, tuple_word}
 
 -- no slot is linked yet

@@ -7,7 +7,7 @@ use Rattle.lists.specs.laws.Tab.{tab-length, tab_get}
 use Rattle.field.specs.Word.{add_m}
 use Rattle.expression.specs.Words.{word}
 use Rattle.balance_slots.specs.inner.Work.{added_at, new_words, new_at}
-use Rattle.balance_slots.specs.laws.Room.{new_at-long}
+use Rattle.balance_slots.proofs.laws.Room.{new_at-long}
 use Rattle.balance_slots.specs.inner.Chain.{plain_word, plain}
 use Rattle.balance_slots.specs.Workspace.{slot_words, tuple_word, net_word}
 

@@ -23,8 +23,8 @@ use Rattle.balance.specs.Tables.{TableLists, table_sizes, table_count, size, siz
 use Rattle.balance.specs.Entries.{row_entries, member_entries}
 use Rattle.balance.specs.Members.{table_of, member_at}
 use Rattle.balance.specs.inner.Requires.{TablesTested}
-use Rattle.balance.specs.laws.Lists.{joined_same}
-use Rattle.balance.specs.laws.Ledger.{lookup_entries_is}
+use Rattle.balance.proofs.laws.Lists.{joined_same}
+use Rattle.balance.proofs.laws.Ledger.{lookup_entries_is}
 use Rattle.expression.specs.Node.{node_words}
 
 module _ (p : ℕ) (l : TableLists) (w : TablesTested p l) (m : ℕ) (h : m < lookup_count l.lookups.lookups) where

@@ -14,8 +14,8 @@ use Rattle.logup.specs.Ledger.{Entry}
 use Rattle.balance_slots.specs.Slots.{Slot, slots}
 use Rattle.balance_slots.specs.Workspace.{full, workspace_of}
 use Rattle.balance_slots.specs.GroupRefusal.{Numbered, unbalanced, names_first, group_refusal}
-use Rattle.balance_slots.specs.laws.Nets.{Counted, Zero, zero_nets, nets_zero}
-use Rattle.balance.specs.laws.Lists.{flat_in}
+use Rattle.balance_slots.proofs.laws.Nets.{Counted, Zero, zero_nets, nets_zero}
+use Rattle.balance.proofs.laws.Lists.{flat_in}
 use Rattle.balance.specs.Tables.{tables_of}
 use Rattle.balance.specs.Groups.{Member, members, groups}
 use Rattle.balance.specs.Entries.{count_of, entry_of, row_entries, member_entries, entries}

@@ -23,8 +23,8 @@ use Rattle.balance.specs.Tables.{TableLists, table_count, size, size_start, tabl
 use Rattle.balance.specs.Groups.{members}
 use Rattle.balance.specs.Members.{table_from, table_of, member_at}
 use Rattle.balance.specs.inner.Requires.{ListsCovered}
-use Rattle.balance.specs.laws.Lists.{joined_same, flat-tab}
-use Rattle.balance.specs.laws.Ledger.{part-word}
+use Rattle.balance.proofs.laws.Lists.{joined_same, flat-tab}
+use Rattle.balance.proofs.laws.Ledger.{part-word}
 
 -- The lists are those of the tables, and each table's lists of lookups fit.
 pub record Fitted (l : TableLists) : Type 0 where

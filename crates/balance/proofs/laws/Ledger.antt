@@ -18,7 +18,7 @@ use Rattle.logup.specs.Tuple.{tuple}
 use Rattle.logup.specs.Ledger as logup
 use Rattle.balance_slots.specs.Nets.{net_of}
 use Rattle.balance.specs.Entries.{count_of, entry_of, row_entries}
-use Rattle.balance.specs.laws.Sums.{tally, net-tally}
+use Rattle.balance.proofs.laws.Sums.{tally, net-tally}
 
 -- a word of a part of a list
 pub part-word : (c s k : ℕ) (l : List ℕ) → k < c → word (take c (drop s l)) k ≡ word l (s + k)

@@ -31,7 +31,7 @@ use Rattle.balance.specs.Tables.{TableLists, table_count, size, size_start, look
 use Rattle.balance.specs.Members.{table_of}
 use Rattle.balance.specs.Refusals.{all, listed, covered, tables_refusal}
 use Rattle.balance.specs.inner.Requires.{ListsCovered, Rowed, TablesTested}
-use Rattle.balance.specs.laws.Members.{Fitted, table_lookups, entry_of-table, width_of_table, tuples_of-table, whole-count, whole-fitting, table_of_is}
+use Rattle.balance.proofs.laws.Members.{Fitted, table_lookups, entry_of-table, width_of_table, tuples_of-table, whole-count, whole-fitting, table_of_is}
 
 -- a test of every table, by number
 all_append : (t : Table → Bool) (xs ys : List Table) → all t (xs ++ ys) ≡ (all t xs && all t ys)
