@@ -2,4 +2,3 @@ pub mod Terminals
 pub mod Height
 pub mod HeightSum
 pub mod inner
-pub mod laws

@@ -1,4 +1,4 @@
-use Rattle.lookup_protocol.specs.laws.Height.{small_none, small-next, part_in}
+use Rattle.lookup_protocol.proofs.laws.Height.{small_none, small-next, part_in}
 use borrow.Author.Rules.{rules}
 use Rattle.lookup_protocol.proofs.protocol.all_small.Goals as goal
 

@@ -1,5 +1,5 @@
 use borrow.Author.Tests.{lt-ltb, le-ltb}
-use Rattle.lookup_protocol.specs.laws.Height.{counted-tested}
+use Rattle.lookup_protocol.proofs.laws.Height.{counted-tested}
 use Rattle.lookup_protocol.specs.Height.{height_refusal}
 use Rattle.lookup_protocol.proofs.protocol.height_refusal.Goals as goal
 

@@ -1,5 +1,5 @@
 use mathlib.Core.Path.{refl}
-use Rattle.lookup_protocol.specs.laws.Height.{weight_none, weight-next, weight-all, part_in, part-weights}
+use Rattle.lookup_protocol.proofs.laws.Height.{weight_none, weight-next, weight-all, part_in, part-weights}
 use borrow.Author.Rules.{rules}
 use Rattle.lookup_protocol.proofs.protocol.height_sum.Goals as goal
 

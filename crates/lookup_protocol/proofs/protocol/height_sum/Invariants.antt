@@ -1,6 +1,6 @@
 use lib.ListN.{length}
 use Prim.Native.Nat.{◌-◌}
-use Rattle.lookup_protocol.specs.laws.Height.{WeightSoFar}
+use Rattle.lookup_protocol.proofs.laws.Height.{WeightSoFar}
 use Rattle.lookup_protocol.proofs.protocol.height_sum.Given as goal
 
 abbrev pub invariant-loop-t : goal.invariant-loop-t

@@ -1,5 +1,5 @@
 use native.Mathlib.Omega.{arith}
-use Rattle.lookup_protocol.specs.laws.Height.{weight-fits}
+use Rattle.lookup_protocol.proofs.laws.Height.{weight-fits}
 use Rattle.lookup_protocol.proofs.protocol.table_weight.Goals as goal
 
 pub overflow_mul-result : goal.overflow_mul-result

@@ -1,6 +1,6 @@
 use mathlib.Core.Path.{◌∙◌}
 use borrow.Author.Tests.{eq-eqb, ne_eqb}
-use Rattle.lookup_protocol.specs.laws.Height.{few-tested}
+use Rattle.lookup_protocol.proofs.laws.Height.{few-tested}
 use Rattle.lookup_protocol.specs.Height.{tables_fit}
 use borrow.Author.Rules.{rules}
 use Rattle.lookup_protocol.proofs.protocol.tables_fit.Goals as goal

@@ -1,7 +1,7 @@
 use lib.ListN.{length}
 use Prim.Native.Nat.{◌/◌}
 use Rattle.lists.specs.laws.Tests.{every_true}
-use Rattle.lookup_protocol.specs.laws.Terminals.{begins, turn}
+use Rattle.lookup_protocol.proofs.laws.Terminals.{begins, turn}
 use Rattle.lookup_protocol.specs.Terminals.{terminal_below}
 use borrow.Author.Rules.{rules}
 use Rattle.lookup_protocol.proofs.protocol.terminal_sum.Goals as goal

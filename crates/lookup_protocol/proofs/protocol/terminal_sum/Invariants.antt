@@ -1,6 +1,6 @@
 use Prim.Native.Nat.{◌-◌}
 use Rattle.field.specs.Ext.{ext_words}
-use Rattle.lookup_protocol.specs.laws.Terminals.{Adding}
+use Rattle.lookup_protocol.proofs.laws.Terminals.{Adding}
 use Rattle.lookup_protocol.proofs.protocol.terminal_sum.Given as goal
 
 abbrev pub invariant-loop-i : goal.invariant-loop-i

@@ -1,5 +1,5 @@
 use Prim.Native.Nat.{◌-◌}
-use Rattle.lookup_protocol.specs.laws.Height.{Weighed}
+use Rattle.lookup_protocol.proofs.laws.Height.{Weighed}
 use Rattle.lookup_protocol.proofs.protocol.weight_sum.Given as goal
 
 abbrev pub invariant-loop-i : goal.invariant-loop-i

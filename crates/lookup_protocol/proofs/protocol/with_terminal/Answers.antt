@@ -1,4 +1,4 @@
-use Rattle.lookup_protocol.specs.laws.Terminals.{terminal-word}
+use Rattle.lookup_protocol.proofs.laws.Terminals.{terminal-word}
 use Rattle.lookup_protocol.specs.Terminals.{with_terminal}
 use Rattle.lookup_protocol.proofs.protocol.with_terminal.Goals as goal
 

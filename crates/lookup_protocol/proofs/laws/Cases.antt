@@ -18,7 +18,7 @@ use Rattle.lookup.specs.Sizes.{size_start, table_part}
 use Rattle.lookup.specs.Tests.{weight_limit, lookup_within, lengths_agree}
 use Rattle.lookup_protocol.specs.Terminals.{present, terminal, terminal_below, with_terminal, terminal_sum, terminals_refusal, terminals_at}
 use Rattle.lookup_protocol.specs.Height.{table_lookups, weight_sum, table_weight, height_sum, lookups_small, tables_within, tables_fit, height_refusal, height_at}
-use Rattle.lookup_protocol.specs.laws.HeightSum.{height_sum-fits}
+use Rattle.lookup_protocol.proofs.laws.HeightSum.{height_sum-fits}
 
 abbrev pub answer : Option Refusal → List ℕ
 answer o = answer_number o ∷ answer_details o

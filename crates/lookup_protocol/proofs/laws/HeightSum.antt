@@ -7,7 +7,7 @@ use Rattle.lookup.specs.Lookups.{lookup_count, weight}
 use Rattle.lookup_protocol.specs.Height.{weight_sum, table_weight, height_sum}
 use Rattle.lookup_protocol.specs.HeightSum.{HeightSumFits}
 use Rattle.lookup_protocol.specs.inner.Requires.{FewWeights}
-use Rattle.lookup_protocol.specs.laws.Height.{Weighed, weighed_none, weighed-next, weighed-all, weight-fits, counted-tested}
+use Rattle.lookup_protocol.proofs.laws.Height.{Weighed, weighed_none, weighed-next, weighed-all, weight-fits, counted-tested}
 
 -- the sum of the first i weights of a table
 weighed : {lookups : List ℕ} → FewWeights lookups → (i : ℕ) → i ≤ lookup_count lookups → (sum : ℕ) × Weighed lookups i sum
