@@ -2,3 +2,4 @@ pub mod Answers
 pub mod Built
 pub mod Finds
 pub mod Sizes
+pub mod laws

@@ -2,4 +2,3 @@ pub mod Building
 pub mod FromInteractions
 pub mod BuiltWeights
 pub mod inner
-pub mod laws

@@ -1,6 +1,6 @@
 use mathlib.Core.Path.{ap, ◌∙◌}
 use Rattle.lookup_builder.specs.FromInteractions.{Outcome}
-use Rattle.lookup_builder.specs.laws.FromInteractions.{in_numbers_injective}
+use Rattle.lookup_builder.proofs.laws.FromInteractions.{in_numbers_injective}
 use Rattle.delmatik_answers.specs.Building.{building_refused, building_used}
 use Rattle.delmatik.specs.Exports.{exported_building, exported_verdict}
 use Rattle.delmatik.proofs.Answered.{verdict_is}

@@ -22,7 +22,7 @@ use Rattle.lookup_builder.specs.FromInteractions.{Interactions, Outcome, buildin
 use Rattle.lookup_builder.specs.declared.answer.Kinds.{Kinds}
 use Rattle.lookup_builder.specs.declared.answer.BuildingAnswer.TheVariants.{Built, Refused}
 use Rattle.lookup_builder.specs.BuiltWeights.{BuiltWhole}
-use Rattle.lookup_builder.specs.laws.BuiltWeights.{built-weights}
+use Rattle.lookup_builder.proofs.laws.BuiltWeights.{built-weights}
 
 abbrev one_column : Columns
 one_column = record { main = 1; preprocessed = 0; public_values = 0 }
