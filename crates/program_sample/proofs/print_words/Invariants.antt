@@ -1,6 +1,5 @@
 use Prim.Native.Nat.{◌≤◌, ◌-◌}
 use lib.ListN.{length}
-use borrow.Author.Rules.{rules}
 use Rattle.program_sample.proofs.print_words.Given as goal
 
 abbrev pub invariant-loop-i : goal.invariant-loop-i

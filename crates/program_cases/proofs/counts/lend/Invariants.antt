@@ -1,4 +1,4 @@
-use Rattle.std.proofs.Common.{◌≡◌, ◌-◌, ◌≤◌, length, rules}
+use Rattle.std.proofs.Common.{◌≡◌, ◌-◌, ◌≤◌, length}
 use Rattle.program_cases.proofs.counts.lend.Given as goal
 
 abbrev pub invariant-loop-i : goal.invariant-loop-i

@@ -1,4 +1,4 @@
-use Rattle.std.proofs.Common.{ℕ, zero, suc, ◌-◌, ◌<◌, ◌≤◌, ℤ, pos, negsuc, ◌-ℤ◌, sym, subst, arith, w32, SFits, to_z, rules}
+use Rattle.std.proofs.Common.{ℕ, zero, suc, ◌-◌, ◌<◌, ◌≤◌, ℤ, pos, negsuc, ◌-ℤ◌, sym, subst, arith, w32, SFits, to_z}
 use mir.ValLaws.{to_z_pos}
 use Rattle.program_cases.proofs.counts.signed.Goals as goal
 
