@@ -177,16 +177,11 @@ TYPES = {
     ('chains', 'enter', 'Entered'): 'LinkedUse',
     ('column', 'fractions', 'Share'): 'Term',
     ('entries', 'place', 'Place'): 'LookupStarts',
-    ('lines', 'row', 'Line'): 'RowFractions',
     ('plan', 'columns', 'Column'): 'NextColumn',
     ('plan', 'columns', 'Open'): 'OpenColumn',
     ('segments', 'writing', 'Part'): 'LookupList',
     ('several', 'spans', 'Spans'): 'TableRanges',
-    ('slots', 'enter', 'Use'): 'SlotUse',
     ('terms', 'compute', 'Terms'): 'Fraction',
-    ('visiting', 'visits', 'Visit'): 'Checked',
-    ('widths', 'seen', 'Seen'): 'FirstWidth',
-    ('widths', 'spans', 'Spans'): 'TableSpans',
 }
 
 # Files of specs/, by old crate.

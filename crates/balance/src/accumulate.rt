@@ -1,5 +1,5 @@
 // What one lookup of the tables adds to the slots, on all rows of its table.
-ghost use Rattle.std.specs.Prelude.{◌≡◌, ◌*◌, ◌<◌, ◌≤◌, length};
+ghost use Rattle.std.specs.Prelude.{◌≡◌, Some, ◌*◌, ◌<◌, ◌≤◌, length};
 ghost use Rattle.lists.specs.Fold.{fold};
 ghost use Rattle.lookup.specs.Lookups.{lookup_count};
 ghost use Rattle.balance_slots.specs.inner.Work.{work, step};
@@ -16,11 +16,11 @@ use crate::tables::{
     TABLE_SIZES, shape_of, table_of,
 };
 use balance_slots::hash::Seed;
-use balance_slots::slot::SlotUse;
 use expression::node::NODE_WORDS;
 use lookup::sizes::{part_end, part_start};
 
-// Lookup m, with its table's parts of the traces and nodes. The bytes of the names are none of its concern.
+// Lookup m, with its table's parts of the traces and nodes, and so many slots in use before; how many after, or none if one was missing.
+// The bytes of the names are none of its concern.
 pub fn accumulate_lookup(
     p: u32,
     sizes: &[u32],
@@ -37,11 +37,12 @@ pub fn accumulate_lookup(
     m: usize,
     seed: Seed,
     workspace: &mut [u32],
-    u: SlotUse,
-) -> SlotUse
-    requires { let l : TableLists = lent_tables sizes.now main.now preprocessed.now public_values.now nodes.now lookups.now names.now tuples.now multiplicities.now flags.now elements.now in TablesTested p l × (m < lookup_count l.lookups.lookups) × (slot_words * u.used ≤ length workspace.old) }
-    ensures { let l : TableLists = lent_tables sizes.now main.now preprocessed.now public_values.now nodes.now lookups.now names.now tuples.now multiplicities.now flags.now elements.now in work workspace.new result ≡ fold (step p) (work workspace.old u) (member_entries p (member_at l m)) }
+    used: usize,
+) -> Option<usize>
+    requires { let l : TableLists = lent_tables sizes.now main.now preprocessed.now public_values.now nodes.now lookups.now names.now tuples.now multiplicities.now flags.now elements.now in TablesTested p l × (m < lookup_count l.lookups.lookups) × (slot_words * used ≤ length workspace.old) }
+    ensures { let l : TableLists = lent_tables sizes.now main.now preprocessed.now public_values.now nodes.now lookups.now names.now tuples.now multiplicities.now flags.now elements.now in work workspace.new result ≡ fold (step p) (work workspace.old (Some used)) (member_entries p (member_at l m)) }
 {
+    // The bounds have names: within the slices' brackets the calls are no plainer.
     let t = table_of(sizes, m);
     let shape = shape_of(sizes, t);
     let main_start = part_start(sizes, TABLE_SIZES, MAIN_COUNT_SIZE, 1, t);
@@ -67,6 +68,6 @@ pub fn accumulate_lookup(
         elements,
         seed,
         workspace,
-        u,
+        used,
     )
 }

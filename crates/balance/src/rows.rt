@@ -1,5 +1,5 @@
 // What a lookup adds to the slots on one row, and on all rows.
-ghost use Rattle.std.specs.Prelude.{◌≡◌, true, ◌++◌, map, ◌+◌, ◌*◌, ◌-◌, ◌<◌, ◌≤◌, length, replicate};
+ghost use Rattle.std.specs.Prelude.{◌≡◌, Some, ℕ, ◌++◌, map, ◌+◌, ◌*◌, ◌-◌, ◌<◌, ◌≤◌, length, replicate};
 ghost use Rattle.lists.specs.Fold.{fold};
 ghost use Rattle.field.specs.inner.Requires.{KnownPrime};
 ghost use Rattle.expression.specs.Words.{word};
@@ -12,13 +12,12 @@ ghost use Rattle.balance.specs.inner.LookupStarts.{PartLists, part_lists, Source
 ghost use Rattle.balance_slots.specs.Workspace.{slot_words, tuple_words};
 
 use crate::starts::LookupStarts;
-use balance_slots::add::{LinkedUse, add};
+use balance_slots::add::{Linked, add};
 use balance_slots::hash::Seed;
 use balance_slots::link::{link_slots, unlink_slots};
-use balance_slots::slot::SlotUse;
 use expression::node::NODE_WORDS;
 use expression::sizes::Shape;
-use expression::words::{to_usize, word_at};
+use expression::words::word_at;
 use expression_eval::traits::row_values;
 use field::word;
 
@@ -28,11 +27,8 @@ fn tuple_values(vals: &[u32], nodes: &[u32]) -> [u32; 8]
     ensures { result ≡ map (word vals.now) nodes.now ++ replicate (tuple_words - length nodes.now) 0 }
 {
     let mut out = [0u32; 8];
-    let mut j = 0;
-    while j < nodes.len() {
-        let v = word_at(vals, to_usize(nodes[j]));
-        out[j] = v;
-        j += 1;
+    for j in 0..nodes.len() {
+        out[j] = word_at(vals, nodes[j] as usize);
     }
     out
 }
@@ -43,17 +39,16 @@ fn add_tuple(
     seed: Seed,
     heads: &mut [u32],
     workspace: &mut [u32],
-    u: LinkedUse,
+    u: Linked,
     vals: &[u32],
     nodes: &[u32],
     count: u32,
-) -> LinkedUse
-    requires { KnownPrime p × (length nodes.now ≤ tuple_words) × ChainsLinked seed heads.old workspace.old u }
-    ensures { (plain_work workspace.new result ≡ step p (plain_work workspace.old u) (record { tuple = map (word vals.now) nodes.now; count = count })) × ChainsLinked seed heads.new workspace.new result }
+) -> Option<Linked>
+    requires { KnownPrime p × (length nodes.now ≤ tuple_words) × ChainsLinked seed heads.old workspace.old (Some u) }
+    ensures { (plain_work workspace.new result ≡ step p (plain_work workspace.old (Some u)) (record { tuple = map (word vals.now) nodes.now; count = count })) × ChainsLinked seed heads.new workspace.new result }
 {
     let t = tuple_values(vals, nodes);
-    let n = nodes.len();
-    add(p, seed, heads, workspace, u, &t[0..n], count)
+    add(p, seed, heads, workspace, u, &t[0..nodes.len()], count)
 }
 
 // How often tuple k counts: multiplicity × flag.
@@ -65,15 +60,14 @@ fn entry_count(
     flags: &[u32],
     k: usize,
 ) -> u32
-    requires { KnownPrime p × Below p vals.now × (starts.multiplicities + k < length multiplicities.now) × (starts.exclusive ≡ true → starts.flags + k < length flags.now) }
+    requires { KnownPrime p × Below p vals.now × (starts.multiplicities + k < length multiplicities.now) × ((first : ℕ) → starts.flags ≡ Some first → first + k < length flags.now) }
     ensures { result ≡ count_from p starts multiplicities.now flags.now vals.now k }
 {
-    let multiplicity = word_at(vals, to_usize(multiplicities[starts.multiplicities + k]));
-    if starts.exclusive {
-        let flag = word_at(vals, to_usize(flags[starts.flags + k]));
-        return word::mul(p, multiplicity, flag);
+    let multiplicity = word_at(vals, multiplicities[starts.multiplicities + k] as usize);
+    match starts.flags {
+        Some(first) => word::mul(p, multiplicity, word_at(vals, flags[first + k] as usize)),
+        None => multiplicity,
     }
-    multiplicity
 }
 
 // The lookup on one row, from the values of the nodes there.
@@ -82,26 +76,23 @@ fn add_tuples(
     seed: Seed,
     heads: &mut [u32],
     workspace: &mut [u32],
-    u: LinkedUse,
+    u: Linked,
     vals: &[u32],
     starts: LookupStarts,
     tuples: &[u32],
     multiplicities: &[u32],
     flags: &[u32],
     elements: &[u32],
-) -> LinkedUse
-    requires { let l : PartLists = part_lists tuples.now multiplicities.now flags.now elements.now in KnownPrime p × Below p vals.now × ChainsLinked seed heads.old workspace.old u × StartsWithin starts l }
-    ensures { let l : PartLists = part_lists tuples.now multiplicities.now flags.now elements.now in (plain_work workspace.new result ≡ fold (step p) (plain_work workspace.old u) (entries_from p starts l vals.now)) × ChainsLinked seed heads.new workspace.new result }
+) -> Option<Linked>
+    requires { let l : PartLists = part_lists tuples.now multiplicities.now flags.now elements.now in KnownPrime p × Below p vals.now × ChainsLinked seed heads.old workspace.old (Some u) × StartsWithin starts l }
+    ensures { let l : PartLists = part_lists tuples.now multiplicities.now flags.now elements.now in (plain_work workspace.new result ≡ fold (step p) (plain_work workspace.old (Some u)) (entries_from p starts l vals.now)) × ChainsLinked seed heads.new workspace.new result }
 {
-    let n = starts.count;
-    let start = starts.tuples;
     let mut v = u;
     let mut at = starts.elements;
-    let mut k = 0;
-    while k < n {
-        let end = at + to_usize(tuples[start + k]);
+    for k in 0..starts.count {
+        let end = at + tuples[starts.tuples + k] as usize;
         let times = entry_count(p, starts, vals, multiplicities, flags, k);
-        let next = add_tuple(
+        v = add_tuple(
             p,
             seed,
             heads,
@@ -110,12 +101,10 @@ fn add_tuples(
             vals,
             &elements[at..end],
             times,
-        );
-        v = next;
+        )?;
         at = end;
-        k += 1;
     }
-    v
+    Some(v)
 }
 
 // The lookup on row r. The values of the nodes are zero at the start of every row.
@@ -135,14 +124,11 @@ fn accumulate_row(
     seed: Seed,
     heads: &mut [u32],
     workspace: &mut [u32],
-    u: LinkedUse,
-) -> LinkedUse
-    requires { let s : Source = source (lent_traces shape main.now preprocessed.now public_values.now) nodes.now (part_lists tuples.now multiplicities.now flags.now elements.now) in Evaluable p s.traces s.nodes × (r < s.traces.shape.height) × ChainsLinked seed heads.old workspace.old u × StartsWithin starts s.parts }
-    ensures { let s : Source = source (lent_traces shape main.now preprocessed.now public_values.now) nodes.now (part_lists tuples.now multiplicities.now flags.now elements.now) in (plain_work workspace.new result ≡ fold (step p) (plain_work workspace.old u) (entries_from p starts s.parts (row_values p s.nodes s.traces r))) × ChainsLinked seed heads.new workspace.new result }
+    u: Linked,
+) -> Option<Linked>
+    requires { let s : Source = source (lent_traces shape main.now preprocessed.now public_values.now) nodes.now (part_lists tuples.now multiplicities.now flags.now elements.now) in Evaluable p s.traces s.nodes × (r < s.traces.shape.height) × ChainsLinked seed heads.old workspace.old (Some u) × StartsWithin starts s.parts }
+    ensures { let s : Source = source (lent_traces shape main.now preprocessed.now public_values.now) nodes.now (part_lists tuples.now multiplicities.now flags.now elements.now) in (plain_work workspace.new result ≡ fold (step p) (plain_work workspace.old (Some u)) (entries_from p starts s.parts (row_values p s.nodes s.traces r))) × ChainsLinked seed heads.new workspace.new result }
 {
-    if u.full {
-        return u;
-    }
     let mut vals = [0u32; 1024];
     row_values(
         p,
@@ -186,16 +172,14 @@ fn accumulate_linked(
     seed: Seed,
     heads: &mut [u32],
     workspace: &mut [u32],
-    u: LinkedUse,
-) -> LinkedUse
-    requires { let s : Source = source (lent_traces shape main.now preprocessed.now public_values.now) nodes.now (part_lists tuples.now multiplicities.now flags.now elements.now) in Evaluable p s.traces s.nodes × (s.traces.shape.height ≤ 1048576) × ChainsLinked seed heads.old workspace.old u × StartsWithin starts s.parts }
-    ensures { let s : Source = source (lent_traces shape main.now preprocessed.now public_values.now) nodes.now (part_lists tuples.now multiplicities.now flags.now elements.now) in (plain_work workspace.new result ≡ fold (step p) (plain_work workspace.old u) (rows_entries p starts s s.traces.shape.height)) × ChainsLinked seed heads.new workspace.new result }
+    u: Linked,
+) -> Option<Linked>
+    requires { let s : Source = source (lent_traces shape main.now preprocessed.now public_values.now) nodes.now (part_lists tuples.now multiplicities.now flags.now elements.now) in Evaluable p s.traces s.nodes × (s.traces.shape.height ≤ 1048576) × ChainsLinked seed heads.old workspace.old (Some u) × StartsWithin starts s.parts }
+    ensures { let s : Source = source (lent_traces shape main.now preprocessed.now public_values.now) nodes.now (part_lists tuples.now multiplicities.now flags.now elements.now) in (plain_work workspace.new result ≡ fold (step p) (plain_work workspace.old (Some u)) (rows_entries p starts s s.traces.shape.height)) × ChainsLinked seed heads.new workspace.new result }
 {
-    let height = shape.height;
     let mut v = u;
-    let mut r = 0;
-    while r < height {
-        let next = accumulate_row(
+    for r in 0..shape.height {
+        v = accumulate_row(
             p,
             shape,
             main,
@@ -212,14 +196,13 @@ fn accumulate_linked(
             heads,
             workspace,
             v,
-        );
-        v = next;
-        r += 1;
+        )?;
     }
-    v
+    Some(v)
 }
 
-// The lookup on all rows. The slots in use are linked for the search, and unlinked at the end.
+// The lookup on all rows, with so many slots in use before; how many after, or none if one was missing. The slots in use are linked for
+// the search, and unlinked at the end.
 pub fn accumulate_rows(
     p: u32,
     shape: Shape,
@@ -234,18 +217,13 @@ pub fn accumulate_rows(
     elements: &[u32],
     seed: Seed,
     workspace: &mut [u32],
-    u: SlotUse,
-) -> SlotUse
-    requires { let s : Source = source (lent_traces shape main.now preprocessed.now public_values.now) nodes.now (part_lists tuples.now multiplicities.now flags.now elements.now) in Evaluable p s.traces s.nodes × (s.traces.shape.height ≤ 1048576) × (slot_words * u.used ≤ length workspace.old) × StartsWithin starts s.parts }
-    ensures { let s : Source = source (lent_traces shape main.now preprocessed.now public_values.now) nodes.now (part_lists tuples.now multiplicities.now flags.now elements.now) in work workspace.new result ≡ fold (step p) (work workspace.old u) (rows_entries p starts s s.traces.shape.height) }
+    used: usize,
+) -> Option<usize>
+    requires { let s : Source = source (lent_traces shape main.now preprocessed.now public_values.now) nodes.now (part_lists tuples.now multiplicities.now flags.now elements.now) in Evaluable p s.traces s.nodes × (s.traces.shape.height ≤ 1048576) × (slot_words * used ≤ length workspace.old) × StartsWithin starts s.parts }
+    ensures { let s : Source = source (lent_traces shape main.now preprocessed.now public_values.now) nodes.now (part_lists tuples.now multiplicities.now flags.now elements.now) in work workspace.new result ≡ fold (step p) (work workspace.old (Some used)) (rows_entries p starts s s.traces.shape.height) }
 {
     let mut heads = [0u32; 32768];
-    let linked = link_slots(seed, &mut heads, workspace, u.used);
-    let before = LinkedUse {
-        used: u.used,
-        full: u.full,
-        linked: linked,
-    };
+    let linked = link_slots(seed, &mut heads, workspace, used);
     let v = accumulate_linked(
         p,
         shape,
@@ -261,11 +239,8 @@ pub fn accumulate_rows(
         seed,
         &mut heads,
         workspace,
-        before,
-    );
+        Linked { used, linked },
+    )?;
     unlink_slots(workspace, v.linked);
-    SlotUse {
-        used: v.used,
-        full: v.full,
-    }
+    Some(v.used)
 }

@@ -3,18 +3,16 @@ ghost use Rattle.std.specs.Prelude.{◌≡◌, ◌+◌, ◌*◌, ◌≤◌, leng
 ghost use Rattle.lookup.specs.Lookups.{lookup_words, tuple_start};
 ghost use Rattle.balance.specs.inner.LookupStarts.{lookup_starts_at};
 
-use expression::words::to_usize;
 use lookup::starts::{element_start, flag_start, multiplicity_start, tuple_start};
 use lookup::types::{exclusive, tuple_count};
 
-// Whether the lookup is exclusive, how many tuples it has, and where its tuples, multiplicities, flags and elements begin.
+// How many tuples the lookup has, and where its tuples, multiplicities, flags and elements begin; it has flags if it is exclusive.
 #[derive(Clone, Copy)]
 pub struct LookupStarts {
-    pub exclusive: bool,
     pub count: usize,
     pub tuples: usize,
     pub multiplicities: usize,
-    pub flags: usize,
+    pub flags: Option<usize>,
     pub elements: usize,
 }
 
@@ -22,18 +20,17 @@ pub fn lookup_starts(lookups: &[u32], tuples: &[u32], i: usize) -> LookupStarts
     requires { (lookup_words * i + lookup_words ≤ length lookups.now) × (i ≤ 1024) × (tuple_start lookups.now i ≤ length tuples.now) × (length tuples.now ≤ 4294967295) }
     ensures { result ≡ lookup_starts_at lookups.now tuples.now i }
 {
+    let flags = if exclusive(lookups, i) {
+        Some(flag_start(lookups, i))
+    } else {
+        None
+    };
     let first_tuple = tuple_start(lookups, i);
-    let first_multiplicity = multiplicity_start(lookups, i);
-    let first_flag = flag_start(lookups, i);
-    let first_element = element_start(tuples, first_tuple);
-    let is_exclusive = exclusive(lookups, i);
-    let count = to_usize(tuple_count(lookups, i));
     LookupStarts {
-        exclusive: is_exclusive,
-        count: count,
+        count: tuple_count(lookups, i) as usize,
         tuples: first_tuple,
-        multiplicities: first_multiplicity,
-        flags: first_flag,
-        elements: first_element,
+        multiplicities: multiplicity_start(lookups, i),
+        flags,
+        elements: element_start(tuples, first_tuple),
     }
 }

@@ -49,20 +49,18 @@ pub fn shape_of(sizes: &[u32], t: usize) -> Shape
     }
 }
 
-// The table of lookup m.
+// The table of lookup m. Past the last lookup it is how many tables there are, as in the definition of that name.
 pub fn table_of(sizes: &[u32], m: usize) -> usize
     requires { table_count sizes.now ≤ 16 }
     ensures { result ≡ table_of sizes.now m }
 {
     let n = sizes.len() / TABLE_SIZES;
     let mut end: usize = 0;
-    let mut t = 0;
-    while t < n {
-        end = end + size(sizes, TABLE_SIZES, LOOKUP_COUNT_SIZE, t);
+    for t in 0..n {
+        end += size(sizes, TABLE_SIZES, LOOKUP_COUNT_SIZE, t);
         if m < end {
             return t;
         }
-        t += 1;
     }
     n
 }

@@ -6,11 +6,11 @@ ghost use Rattle.expression.specs.Refusal.{refusal};
 ghost use Rattle.balance.specs.Balance.{check, check_at, in_numbers};
 ghost use Rattle.balance.specs.Tables.{TableLists, lent_tables};
 
-use balance_groups::check::{accepted, check_groups};
+use balance_groups::check::check_groups;
 use balance_groups::tests::{lists_fit, tables_verdict};
 use balance_slots::hash::{Seed, seed_of};
 use expression::choices::{Choices, known, limits_of};
-use expression::refusal::{Refusal, Verdict};
+use expression::refusal::Refusal;
 use expression::sizes::Limits;
 use field::modulus::prime_of;
 
@@ -31,7 +31,7 @@ pub fn check_within(
     elements: &[u32],
     seed: Seed,
     workspace: &mut [u32],
-) -> Verdict
+) -> Result<(), Refusal>
     requires { Sane limits × KnownPrime p }
     ensures { let l : TableLists = lent_tables sizes.now main.now preprocessed.now public_values.now nodes.now lookups.now names.now tuples.now multiplicities.now flags.now elements.now in record { refusal = refusal result; workspace = workspace.new } ≡ check limits p l workspace.old }
 {
@@ -49,9 +49,9 @@ pub fn check_within(
         flags,
         elements,
     ) {
-        return Verdict::Refused(Refusal::SizeAtOdds);
+        return Err(Refusal::SizeAtOdds);
     }
-    let v = tables_verdict(
+    tables_verdict(
         limits,
         p,
         sizes,
@@ -65,11 +65,8 @@ pub fn check_within(
         multiplicities,
         flags,
         elements,
-    );
-    if !accepted(v) {
-        return v;
-    }
-    let checked = check_groups(
+    )?;
+    check_groups(
         p,
         sizes,
         main,
@@ -84,8 +81,7 @@ pub fn check_within(
         elements,
         seed,
         workspace,
-    );
-    checked.verdict
+    )
 }
 
 // Several tables, one after the other in each list; `sizes` has fourteen words for each of them: main width, height,
@@ -108,7 +104,7 @@ pub fn check_lookups(
     elements: &[u32],
     seed: u64,
     workspace: &mut [u32],
-) -> Verdict
+) -> Result<(), Refusal>
     ensures { in_numbers (record { refusal = refusal result; workspace = workspace.new })
         ≡ in_numbers (check_at choices
         (lent_tables sizes.now main.now preprocessed.now public_values.now nodes.now
@@ -116,7 +112,7 @@ pub fn check_lookups(
         workspace.old) }
 {
     if !known(choices) {
-        return Verdict::Refused(Refusal::SizeAtOdds);
+        return Err(Refusal::SizeAtOdds);
     }
     check_within(
         limits_of(choices.profile),

@@ -1,125 +1,194 @@
 -- The turns of the visit of all groups, over plain lists and numbers.
+use Rattle.std.specs.Prelude.{Result, Err, Ok}
+use Rattle.std.specs.Result.{IfOk}
+use Rattle.std.specs.Result.{result_and}
+use Rattle.std.proofs.Common.{subst, ⊎_elim, eq-or-lt_of_le}
 use mathlib.Core.Path.{◌≡◌, refl, sym, ap, ap₂, ◌∙◌}
-use mathlib.Core.Bool.{Bool, true, false, cond, ◌&&◌, true≢false}
-use mathlib.Core.Option.{none}
+use mathlib.Core.Bool.{Bool, true, false, cond}
+use mathlib.Core.Option.{Option, none, some}
 use mathlib.Core.List.{List, [], ◌∷◌, ◌++◌}
-use Prim.Native.Nat.{ℕ, ◌+◌, ◌<◌, ◌≤◌, zero-le}
+use Prim.Native.Nat.{ℕ, zero, suc, ◌+◌, ◌<◌, ◌≤◌, zero-le}
 use native.Mathlib.Numerals.{add-one}
 use native.Mathlib.Omega.{arith}
 use lib.ListN.{length, replicate}
 use Rattle.lists.specs.Fold.{fold}
 use Rattle.lists.specs.laws.Fold.{fold-append}
 use Rattle.expression.specs.Refusal.{refusal}
-use Rattle.expression.specs.declared.refusal.Verdict.{Verdict}
-use Rattle.expression.specs.declared.refusal.Verdict.TheVariants.{Accepted, Refused}
+use Rattle.expression.specs.Refusal.{Verdict}
+use Rattle.expression.specs.declared.refusal.Refusal.{Refusal}
 use Rattle.lookup.specs.Lookups.{lookup_count}
-use Rattle.balance_slots.specs.Slots.{Slot, slots}
+use Rattle.balance_slots.specs.Slots.{slots}
 use Rattle.balance.specs.Tables.{TableLists}
 use Rattle.balance.specs.Groups.{Member}
 use Rattle.balance.specs.Entries.{entries}
-use Rattle.balance.specs.Balance.{Visited, visited, visit, unvisited}
+use Rattle.balance.specs.Balance.{Visited, visited, visit, unvisited, Outcome, outcome}
 use Rattle.balance.specs.inner.Requires.{TablesTested}
-use Rattle.balance_groups.specs.inner.Visits.{visited_of, accepts, group_visited}
-use Rattle.balance_groups.specs.declared.check.Checked.{Checked}
+use Rattle.balance_groups.specs.inner.Visits.{at_group, IsVisited, group_visited}
 use Rattle.balance_groups.specs.inner.ByNumber.{kept, starts_group, group_at, groups_to}
 
--- the visit of one lookup's group
-module _ (p room : ℕ) (l : TableLists) (buses : Bool) (m : ℕ) where
-  abbrev here : List (List Member)
-  here = cond (starts_group l.lookups.lookups l.lookups.names buses m) (group_at l m ∷ []) []
+abbrev with_refusal : Option Refusal → List ℕ → ℕ → Visited
+with_refusal o workspace g = record { refusal = o; workspace = workspace; group = g }
 
-  none_starts : (v : Visited) → starts_group l.lookups.lookups l.lookups.names buses m ≡ false → v ≡ fold (visit p room) v here
+-- one group's verdict, carried on
+pub group_passes : {v : Verdict} {u : Unit {0}} {x : Visited} {workspace : List ℕ} {n : ℕ} → v ≡ Ok u → record { refusal = refusal v; workspace = workspace; group = n } ≡ x → IsVisited workspace (Ok n) x
+unfolding IsVisited
+group_passes {v} {u} {x} {workspace} {n} e h = sym (ap (λ (v : Verdict). with_refusal (refusal v) workspace n) e) ∙ h
+
+pub group_stops : {v : Verdict} {f : Refusal} {r : Result ℕ Refusal} {x : Visited} {workspace : List ℕ} {n : ℕ} → v ≡ Err f → r ≡ Err f → record { refusal = refusal v; workspace = workspace; group = n } ≡ x → IsVisited workspace r x
+unfolding IsVisited
+group_stops {v} {f} {r} {x} {workspace} {n} e er h =
+    subst (λ (r : Result ℕ Refusal). IsVisited workspace r x) (sym er) (sym (ap refusal e) ∙ ap (λ (v : Visited). v.refusal) h, ap (λ (v : Visited). v.workspace) h)
+
+-- after a refusal
+module _ (p room : ℕ) where
+  refused-same : (v : Visited) (f : Refusal) (g : List Member) → v.refusal ≡ some f → visit p room v g ≡ v
+  unfolding visit
+  refused-same v f g e = ap (λ (o : Option Refusal). visited room o v (slots p (entries p g))) e
+
+  after-refused : (v : Visited) (f : Refusal) (gs : List (List Member)) → v.refusal ≡ some f → fold (visit p room) v gs ≡ v
   unfolding fold
-  none_starts v e = rw e
+  after-refused v f [] e = refl
+  after-refused v f (g ∷ gs) e = ap (λ (w : Visited). fold (visit p room) w gs) (refused-same v f g e) ∙ after-refused v f gs e
 
-  -- after a refusal
-  refused-same : (w : Verdict) (workspace : List ℕ) (g : ℕ) (ss : List Slot) → accepts w ≡ false
-      → record { refusal = refusal w; workspace = workspace; group = g } ≡ visited room (refusal w) (record { refusal = refusal w; workspace = workspace; group = g }) ss
-  refused-same Accepted workspace g ss e = absurd (true≢false e)
-  refused-same (Refused f) workspace g ss e = refl
+  one-more-refused : (l : TableLists) (buses : Bool) (start : Visited) (m n : ℕ) (f : Refusal) → (fold (visit p room) start (groups_to l buses m)).refusal ≡ some f
+      → fold (visit p room) start (groups_to l buses n) ≡ fold (visit p room) start (groups_to l buses m)
+      → fold (visit p room) start (groups_to l buses (suc n)) ≡ fold (visit p room) start (groups_to l buses m)
+  unfolding groups_to kept
+  one-more-refused l buses start m n f e ih =
+      let gs : List (List Member) = cond (starts_group l.lookups.lookups l.lookups.names buses n) (group_at l n ∷ []) [] in
+      fold-append (visit p room) start (groups_to l buses n) gs
+      ∙ after-refused (fold (visit p room) start (groups_to l buses n)) f gs (ap (λ (v : Visited). v.refusal) ih ∙ e)
+      ∙ ih
 
-  after-refusal : (workspace : List ℕ) (v : Checked) → starts_group l.lookups.lookups l.lookups.names buses m ≡ true → accepts v.verdict ≡ false → visited_of workspace v ≡ fold (visit p room) (visited_of workspace v) here
-  unfolding fold visit
-  after-refusal workspace v e f = rw e (refused-same v.verdict workspace v.group (slots p (entries p (group_at l m))) f)
-
-  accepted_after : (w : Verdict) (workspace : List ℕ) (g : ℕ) → accepts w ≡ true
-      → group_visited p room g (group_at l m) ≡ visited room (refusal w) (record { refusal = refusal w; workspace = workspace; group = g }) (slots p (entries p (group_at l m)))
-  unfolding group_visited
-  accepted_after Accepted workspace g e = refl
-  accepted_after (Refused f) workspace g e = absurd (true≢false (sym e))
-
-  one-visited : {x : Visited} (workspace : List ℕ) (v : Checked) → starts_group l.lookups.lookups l.lookups.names buses m ≡ true → accepts v.verdict ≡ true
-      → x ≡ group_visited p room v.group (group_at l m) → x ≡ fold (visit p room) (visited_of workspace v) here
-  unfolding fold visit
-  one-visited workspace v e f q = rw e (q ∙ accepted_after v.verdict workspace v.group f)
-
-  -- no group begins with lookup m, or one was refused before
-  passed : (b a : Bool) (workspace : List ℕ) (v : Checked) → b ≡ starts_group l.lookups.lookups l.lookups.names buses m → a ≡ accepts v.verdict → b && a ≡ false
-      → visited_of workspace v ≡ fold (visit p room) (visited_of workspace v) here
-  passed false a workspace v e f t = none_starts (visited_of workspace v) (sym e)
-  passed true a workspace v e f t = after-refusal workspace v (sym e) (sym f ∙ t)
-
-  -- the group that begins with lookup m
-  entered : {x : Visited} (b a : Bool) (workspace : List ℕ) (v : Checked) → b ≡ starts_group l.lookups.lookups l.lookups.names buses m → a ≡ accepts v.verdict → b && a ≡ true
-      → x ≡ group_visited p room v.group (group_at l m) → x ≡ fold (visit p room) (visited_of workspace v) here
-  entered false a workspace v e f t q = absurd (true≢false (sym t))
-  entered true a workspace v e f t q = one-visited workspace v (sym e) (sym f ∙ t) q
+  later-refused : (l : TableLists) (buses : Bool) (start : Visited) (m n : ℕ) (f : Refusal) → m ≤ n → (fold (visit p room) start (groups_to l buses m)).refusal ≡ some f
+      → fold (visit p room) start (groups_to l buses n) ≡ fold (visit p room) start (groups_to l buses m)
+  later-refused l buses start m zero f h e = let k : 0 ≡ m = omega arith in ap (λ (k : ℕ). fold (visit p room) start (groups_to l buses k)) k
+  later-refused l buses start m (suc n) f h e =
+      ⊎_elim {C = fold (visit p room) start (groups_to l buses (suc n)) ≡ fold (visit p room) start (groups_to l buses m)}
+      (λ q. ap (λ (k : ℕ). fold (visit p room) start (groups_to l buses k)) (sym q))
+      (λ q. one-more-refused l buses start m n f e (later-refused l buses start m n f (omega (arith, q)) e)) (eq-or-lt_of_le h)
 
 -- the visit of all
-pub record KindLoop (p : ℕ) (l : TableLists) (buses : Bool) (start : Visited) (room top m : ℕ) (workspace : List ℕ) (v : Checked) : Type 0 where
-  pub is : visited_of workspace v ≡ fold (visit p room) start (groups_to l buses m)
+pub record KindLoop (p : ℕ) (l : TableLists) (buses : Bool) (start : Visited) (room top m : ℕ) (workspace : List ℕ) (g : ℕ) : Type 0 where
+  pub is : at_group workspace g ≡ fold (visit p room) start (groups_to l buses m)
   pub within : m ≤ lookup_count l.lookups.lookups
   pub few : lookup_count l.lookups.lookups ≤ 1024
   pub long : length workspace ≡ room
-  pub count : v.group ≤ top + m
+  pub count : g ≤ top + m
   pub top_small : top ≤ 1024
 
 module _ {p : ℕ} {l : TableLists} {buses : Bool} where
-  pub kind_loop_begins : {workspace : List ℕ} {v : Checked} → TablesTested p l → v.group ≤ 1024 → KindLoop p l buses (visited_of workspace v) (length workspace) v.group 0 workspace v
+  pub kind_loop_begins : {workspace : List ℕ} {g : ℕ} → TablesTested p l → g ≤ 1024 → KindLoop p l buses (at_group workspace g) (length workspace) g 0 workspace g
   unfolding fold groups_to kept
   kind_loop_begins w h = record { is = refl; within = zero-le; few = w.few; long = refl; count = omega arith; top_small = h }
 
-  kind_loop_turn : {start : Visited} {room top m : ℕ} {workspace workspace' : List ℕ} {v v' : Checked} → KindLoop p l buses start room top m workspace v → m < lookup_count l.lookups.lookups → length workspace' ≡ length workspace
-      → (visited_of workspace' v' ≡ fold (visit p (length workspace)) (visited_of workspace v) (cond (starts_group l.lookups.lookups l.lookups.names buses m) (group_at l m ∷ []) [])) × (v'.group ≤ v.group + 1)
-      → KindLoop p l buses start room top (m + 1) workspace' v'
-  unfolding groups_to kept
-  kind_loop_turn {start} {room} {top} {m} {workspace} {workspace'} {v} {v'} r h n (e, g) =
-      let gs : List (List Member) = cond (starts_group l.lookups.lookups l.lookups.names buses m) (group_at l m ∷ []) [] in
-      record {
-        is =
-            e ∙ ap₂ (λ (k : ℕ) (x : Visited). fold (visit p k) x gs) r.long r.is
-            ∙ sym (fold-append (visit p room) start (groups_to l buses m) gs)
-            ∙ ap (λ (k : ℕ). fold (visit p room) start (groups_to l buses k)) (sym (add-one m));
-        within = omega arith;
-        few = r.few;
-        long = n ∙ r.long;
-        count = omega (arith, r.count);
-        top_small = r.top_small;
-      }
+  -- the group that begins with lookup m
+  one_more : {start : Visited} {room top m : ℕ} {workspace : List ℕ} {g : ℕ} → KindLoop p l buses start room top m workspace g → starts_group l.lookups.lookups l.lookups.names buses m ≡ true
+      → group_visited p (length workspace) g (group_at l m) ≡ fold (visit p room) start (groups_to l buses (suc m))
+  unfolding fold visit group_visited groups_to kept
+  one_more {start} {room} {top} {m} {workspace} {g} r e =
+      ap₂ (λ (k : ℕ) (x : Visited). visit p k x (group_at l m)) r.long r.is
+      ∙ sym (fold-append (visit p room) start (groups_to l buses m) (group_at l m ∷ []) ∙ refl)
+      ∙ ap (λ (b : Bool). fold (visit p room) start (groups_to l buses m ++ cond b (group_at l m ∷ []) [])) (sym e)
 
   -- a turn that visits a group, and one that does not
-  pub kind_loop_one : {start : Visited} {room top m : ℕ} {workspace workspace₁ workspace' : List ℕ} {v v₁ v' : Checked} {b a : Bool} → KindLoop p l buses start room top m workspace v → m < lookup_count l.lookups.lookups
-      → b ≡ starts_group l.lookups.lookups l.lookups.names buses m → a ≡ accepts v.verdict → b && a ≡ true
-      → (visited_of workspace₁ v₁ ≡ group_visited p (length workspace) v.group (group_at l m)) × (v₁.group ≡ v.group + 1) → length workspace₁ ≡ length workspace → workspace' ≡ workspace₁ → v' ≡ v₁
-      → KindLoop p l buses start room top (m + 1) workspace' v'
-  kind_loop_one {start} {room} {top} {m} {workspace} {workspace₁} {workspace'} {v} {v₁} {v'} {b} {a} r h e f t (q, g) n ew ev =
-      rw (ew, ev) (kind_loop_turn r h n (entered p (length workspace) l buses m b a workspace v e f t q, omega arith))
+  pub kind_loop_one : {start : Visited} {room top m : ℕ} {workspace workspace₁ workspace' : List ℕ} {g n g' : ℕ} {r : Result ℕ Refusal} {b : Bool} → KindLoop p l buses start room top m workspace g → m < lookup_count l.lookups.lookups
+      → b ≡ starts_group l.lookups.lookups l.lookups.names buses m → b ≡ true → IsVisited workspace₁ r (group_visited p (length workspace) g (group_at l m)) → r ≡ Ok n
+      → length workspace₁ ≡ length workspace → workspace' ≡ workspace₁ → g' ≡ n → KindLoop p l buses start room top (m + 1) workspace' g'
+  unfolding group_visited IsVisited
+  kind_loop_one {start} {room} {top} {m} {workspace} {workspace₁} {workspace'} {g} {n} q h e t v er k ew eg =
+      let s : at_group workspace₁ n ≡ group_visited p (length workspace) g (group_at l m) = subst (λ (r : Result ℕ Refusal). IsVisited workspace₁ r (group_visited p (length workspace) g (group_at l m))) er v in
+      let a : n ≡ suc g = ap (λ (x : Visited). x.group) s in
+      rw (ew, eg) (record {
+        is = s ∙ one_more q (sym e ∙ t) ∙ ap (λ (k : ℕ). fold (visit p room) start (groups_to l buses k)) (sym (add-one m));
+        within = omega arith;
+        few = q.few;
+        long = k ∙ q.long;
+        count = omega (arith, a, q.count);
+        top_small = q.top_small;
+      })
 
-  pub kind_loop_none : {start : Visited} {room top m : ℕ} {workspace workspace' : List ℕ} {v v' : Checked} {b a : Bool} → KindLoop p l buses start room top m workspace v → m < lookup_count l.lookups.lookups
-      → b ≡ starts_group l.lookups.lookups l.lookups.names buses m → a ≡ accepts v.verdict → b && a ≡ false → workspace' ≡ workspace → v' ≡ v
-      → KindLoop p l buses start room top (m + 1) workspace' v'
-  kind_loop_none {start} {room} {top} {m} {workspace} {workspace'} {v} {v'} {b} {a} r h e f t ew ev =
-      rw (ew, ev) (kind_loop_turn r h refl (passed p (length workspace) l buses m b a workspace v e f t, omega arith))
+  pub kind_loop_none : {start : Visited} {room top m : ℕ} {workspace workspace' : List ℕ} {g g' : ℕ} {b : Bool} → KindLoop p l buses start room top m workspace g → m < lookup_count l.lookups.lookups
+      → b ≡ starts_group l.lookups.lookups l.lookups.names buses m → b ≡ false → workspace' ≡ workspace → g' ≡ g → KindLoop p l buses start room top (m + 1) workspace' g'
+  unfolding fold groups_to kept
+  kind_loop_none {start} {room} {top} {m} {workspace} {workspace'} {g} q h e t ew eg =
+      rw (ew, eg) (record {
+        is =
+            q.is ∙ sym (fold-append (visit p room) start (groups_to l buses m) [])
+            ∙ ap (λ (b : Bool). fold (visit p room) start (groups_to l buses m ++ cond b (group_at l m ∷ []) [])) (sym t ∙ e)
+            ∙ ap (λ (k : ℕ). fold (visit p room) start (groups_to l buses k)) (sym (add-one m));
+        within = omega arith;
+        few = q.few;
+        long = q.long;
+        count = omega (arith, q.count);
+        top_small = q.top_small;
+      })
 
-  pub kind_loop_ends : {start : Visited} {room top m : ℕ} {workspace : List ℕ} {v : Checked} → KindLoop p l buses start room top m workspace v → lookup_count l.lookups.lookups ≤ m
-      → (visited_of workspace v ≡ fold (visit p room) start (groups_to l buses (lookup_count l.lookups.lookups))) × (v.group ≤ top + 1024)
+  -- a group that is refused
+  pub kind_loop_stops : {start : Visited} {room top m : ℕ} {workspace : List ℕ} (workspace' : List ℕ) {g : ℕ} {r r' : Result ℕ Refusal} {f : Refusal} {b : Bool} → KindLoop p l buses start room top m workspace g → m < lookup_count l.lookups.lookups
+      → b ≡ starts_group l.lookups.lookups l.lookups.names buses m → b ≡ true → IsVisited workspace' r (group_visited p (length workspace) g (group_at l m)) → r ≡ Err f → r' ≡ Err f
+      → IsVisited workspace' r' (fold (visit p room) start (groups_to l buses (lookup_count l.lookups.lookups))) × IfOk r' (λ n. n ≤ top + 1024)
+  unfolding IsVisited
+  kind_loop_stops {start} {room} {top} {m} {workspace} workspace' {g} {r} {r'} {f} q h e t v er er' =
+      let s : (some f ≡ (group_visited p (length workspace) g (group_at l m)).refusal) × (workspace' ≡ (group_visited p (length workspace) g (group_at l m)).workspace) =
+      subst (λ (r : Result ℕ Refusal). IsVisited workspace' r (group_visited p (length workspace) g (group_at l m))) er v in
+      let a = one_more q (sym e ∙ t) in
+      let z : fold (visit p room) start (groups_to l buses (suc m)) ≡ fold (visit p room) start (groups_to l buses (lookup_count l.lookups.lookups)) =
+      sym (later-refused p room l buses start (suc m) (lookup_count l.lookups.lookups) f (omega (arith, h)) (sym (s.0 ∙ ap (λ (x : Visited). x.refusal) a))) in
+      subst (λ (r : Result ℕ Refusal). IsVisited workspace' r (fold (visit p room) start (groups_to l buses (lookup_count l.lookups.lookups))) × IfOk r (λ n. n ≤ top + 1024)) (sym er')
+      ((s.0 ∙ ap (λ (x : Visited). x.refusal) (a ∙ z), s.1 ∙ ap (λ (x : Visited). x.workspace) (a ∙ z)), tt)
+
+  pub kind_loop_ends : {start : Visited} {room top m : ℕ} {workspace : List ℕ} {g : ℕ} → KindLoop p l buses start room top m workspace g → lookup_count l.lookups.lookups ≤ m
+      → IsVisited workspace (Ok g) (fold (visit p room) start (groups_to l buses (lookup_count l.lookups.lookups))) × (g ≤ top + 1024)
+  unfolding IsVisited
   kind_loop_ends {start} {room} {top} {m} r h =
       let e : m ≡ lookup_count l.lookups.lookups = omega (arith, r.within) in
       (r.is ∙ ap (λ (k : ℕ). fold (visit p room) start (groups_to l buses k)) e, omega (arith, r.count, r.few))
 
+pub so_many : {r : Result ℕ Refusal} {n k : ℕ} → IfOk r (λ n. n ≤ k) → r ≡ Ok n → n ≤ k
+so_many {r} {n} {k} h e = subst (λ (r : Result ℕ Refusal). IfOk r (λ n. n ≤ k)) e h
+
+-- what the visit leaves
+abbrev said : List ℕ → Option Refusal → Outcome
+said workspace o = record { refusal = o; workspace = workspace }
+
+pub refused_left : (x : Visited) {workspace : List ℕ} {r : Result ℕ Refusal} {f : Refusal} {v : Verdict} (lent : List ℕ) → IsVisited workspace r x → r ≡ Err f → v ≡ Err f → record { refusal = refusal v; workspace = workspace } ≡ outcome none x lent
+unfolding IsVisited
+refused_left x {workspace} {r} {f} {v} lent h e ev =
+    let q : (some f ≡ x.refusal) × (workspace ≡ x.workspace) = subst (λ (r : Result ℕ Refusal). IsVisited workspace r x) e h in
+    let a : refusal v ≡ x.refusal = ap refusal ev ∙ q.0 in
+    λ j. record { refusal = a j; workspace = q.1 j }
+
+pub all_left : (x : Visited) {workspace : List ℕ} {v : Verdict} (lent : List ℕ) (r : Result ℕ Refusal) → IsVisited workspace r x → v ≡ result_and r (Ok tt) → record { refusal = refusal v; workspace = workspace } ≡ outcome none x lent
+unfolding IsVisited
+all_left x {workspace} {v} lent (Ok n) h e = ap (λ (v : Verdict). said workspace (refusal v)) e ∙ ap (λ (x : Visited). outcome none x lent) h
+all_left x {workspace} {v} lent (Err f) h e =
+    let a : refusal v ≡ x.refusal = ap refusal e ∙ h.0 in
+    λ j. record { refusal = a j; workspace = h.1 j }
+
 -- the locals, then the buses, from a workspace of zeros
-pub both-visited : {a b : Visited} {workspace : List ℕ} (p room j k : ℕ) (xs ys : List (List Member)) → a ≡ fold (visit p j) (record { refusal = none; workspace = workspace; group = 0 }) xs → b ≡ fold (visit p k) a ys
-    → workspace ≡ replicate room 0 → j ≡ room → k ≡ room → b ≡ fold (visit p room) (unvisited room) (xs ++ ys)
-both-visited p room j k xs ys ea eb ew ej ek =
-    eb ∙ ap₂ (λ (n : ℕ) (x : Visited). fold (visit p n) x ys) ek (ea ∙ ap₂ (λ (n : ℕ) (z : List ℕ). fold (visit p n) (record { refusal = none; workspace = z; group = 0 }) xs) ej ew)
-    ∙ sym (fold-append (visit p room) (unvisited room) xs ys)
+module _ (p room : ℕ) (xs ys : List (List Member)) where
+  abbrev all : Visited
+  all = fold (visit p room) (unvisited room) (xs ++ ys)
+
+  locals_are : {workspace : List ℕ} (workspace₁ : List ℕ) {j : ℕ} (r : Result ℕ Refusal) → workspace ≡ replicate room 0 → j ≡ room
+      → IsVisited workspace₁ r (fold (visit p j) (at_group workspace 0) xs) → IsVisited workspace₁ r (fold (visit p room) (unvisited room) xs)
+  locals_are {workspace} workspace₁ {j} r ew ej h =
+      subst (λ (x : Visited). IsVisited workspace₁ r x) (ap₂ (λ (n : ℕ) (z : List ℕ). fold (visit p n) (at_group z 0) xs) ej ew) h
+
+  pub locals_refused : {workspace : List ℕ} (workspace₁ : List ℕ) {j : ℕ} {r : Result ℕ Refusal} {f : Refusal} → workspace ≡ replicate room 0 → j ≡ room
+      → IsVisited workspace₁ r (fold (visit p j) (at_group workspace 0) xs) → r ≡ Err f → IsVisited workspace₁ r all
+  unfolding IsVisited
+  locals_refused {workspace} workspace₁ {j} {r} {f} ew ej h e =
+      let k = locals_are workspace₁ r ew ej h in
+      let q : (some f ≡ (fold (visit p room) (unvisited room) xs).refusal) × (workspace₁ ≡ (fold (visit p room) (unvisited room) xs).workspace) =
+      subst (λ (r : Result ℕ Refusal). IsVisited workspace₁ r (fold (visit p room) (unvisited room) xs)) e k in
+      subst (λ (x : Visited). IsVisited workspace₁ r x) (sym (fold-append (visit p room) (unvisited room) xs ys ∙ after-refused p room (fold (visit p room) (unvisited room) xs) f ys (sym q.0))) k
+
+  pub both_visited : {workspace : List ℕ} (workspace₁ workspace₂ : List ℕ) {j k n : ℕ} {r : Result ℕ Refusal} (s : Result ℕ Refusal) → workspace ≡ replicate room 0 → j ≡ room → k ≡ room
+      → IsVisited workspace₁ r (fold (visit p j) (at_group workspace 0) xs) → r ≡ Ok n
+      → IsVisited workspace₂ s (fold (visit p k) (at_group workspace₁ n) ys) → IsVisited workspace₂ s all
+  unfolding IsVisited
+  both_visited {workspace} workspace₁ workspace₂ {j} {k} {n} {r} s ew ej ek h e g =
+      let q : at_group workspace₁ n ≡ fold (visit p room) (unvisited room) xs = subst (λ (r : Result ℕ Refusal). IsVisited workspace₁ r (fold (visit p room) (unvisited room) xs)) e (locals_are workspace₁ r ew ej h) in
+      subst (λ (x : Visited). IsVisited workspace₂ s x) (ap₂ (λ (n : ℕ) (x : Visited). fold (visit p n) x ys) ek q ∙ sym (fold-append (visit p room) (unvisited room) xs ys)) g

@@ -1,4 +1,5 @@
 -- The turns of the tests over all tables.
+use Rattle.std.specs.Prelude.{Err, Ok}
 use mathlib.Core.Path.{◌≡◌, refl, sym, ap, ap₂, ◌∙◌}
 use mathlib.Core.Bool.{Bool, true, false, cond, not, ◌&&◌, ◌||◌}
 use mathlib.Core.Option.{Option, none, some}
@@ -9,14 +10,14 @@ use native.Mathlib.Omega.{arith}
 use lib.Dec.{eqb, leb}
 use lib.ListN.{length, take, drop}
 use borrow.Author.Tests.{le-leb, lt-leb, leb-true}
+use Rattle.lists.specs.Count.{or_else}
 use Rattle.lists.specs.laws.Tests.{passed}
 use Rattle.expression.specs.Limits.{Sane}
 use Rattle.expression.specs.Refusal.{refusal, unless}
 use Rattle.expression.specs.declared.sizes.Limits.{Limits}
 use Rattle.expression.specs.declared.sizes.Shape.{Shape}
 use Rattle.expression.specs.declared.refusal.Refusal.{Refusal}
-use Rattle.expression.specs.declared.refusal.Verdict.{Verdict}
-use Rattle.expression.specs.declared.refusal.Verdict.TheVariants.{Accepted}
+use Rattle.expression.specs.Refusal.{Verdict}
 use Rattle.lookup.specs.Lookups.{lent_lookups, lookup_words}
 use Rattle.lookup.specs.Table.{lent_table}
 use Rattle.balance.specs.Tables.{TableLists, table_count, size, size_start, shape_at, table_at, lists_fit, table_sizes, main_count_size, preprocessed_count_size, public_value_count_size, node_count_size, lookup_count_size, name_byte_count_size, tuple_count_size, multiplicity_count_size, flag_count_size, element_count_size}
@@ -93,12 +94,12 @@ lower-left a b ea eb h = sym (ap (λ (c : Bool). cond c a b) (le-leb (rank a) (r
 pub lower_right : {x y : ℕ} (a b : Option Refusal) → x ≡ rank a → y ≡ rank b → y < x → b ≡ lower a b
 lower_right a b ea eb h = sym (ap (λ (c : Bool). cond c a b) (lt-leb (rank a) (rank b) (rw (sym ea, sym eb) h)))
 
--- refusal 9
-pub rows_yes : {a b a' b' : Bool} (f : Refusal) → a ≡ a' → b ≡ b' → (not a || b) ≡ true → none ≡ unless (not a' || b') f none
-rows_yes f ea eb h = sym (ap (λ (c : Bool). unless c f none) (ap₂ (λ (x y : Bool). not x || y) (sym ea) (sym eb) ∙ h))
+-- a table's first refusal, and what comes after none
+pub stopped : {v w : Verdict} {f : Refusal} {o : Option Refusal} (o' : Option Refusal) → v ≡ Err f → w ≡ Err f → refusal v ≡ o → refusal w ≡ or_else o o'
+stopped {v} {w} {f} {o} o' e ew h = ap refusal ew ∙ ap (λ (x : Option Refusal). or_else x o') (sym (ap refusal e) ∙ h)
 
-pub rows_no : {a b a' b' : Bool} (f : Refusal) → a ≡ a' → b ≡ b' → (not a || b) ≡ false → some f ≡ unless (not a' || b') f none
-rows_no f ea eb h = sym (ap (λ (c : Bool). unless c f none) (ap₂ (λ (x y : Bool). not x || y) (sym ea) (sym eb) ∙ h))
+pub went_on : {v : Verdict} {u : Unit {0}} {o o' x : Option Refusal} → v ≡ Ok u → refusal v ≡ o → x ≡ o' → x ≡ or_else o o'
+went_on {v} {u} {o} {o'} {x} e h g = g ∙ ap (λ (x : Option Refusal). or_else x o') (sym (ap refusal e) ∙ h)
 
 -- the verdict on the lists that were cut
 pub verdict_is : {l : TableLists} {t : ℕ} {s : TableRanges} {shape : Shape} {o : Option Refusal} (m : Limits) (p : ℕ) → Lies l t s → shape ≡ shape_at l.sizes t
@@ -113,7 +114,7 @@ pub record LowestLoop (f : ℕ → Option Refusal) (n t : ℕ) (v : Verdict) : T
   pub is : refusal v ≡ lowest f t
   pub within : t ≤ n
 
-pub lowest_loop_begins : {f : ℕ → Option Refusal} {n : ℕ} → LowestLoop f n 0 Accepted
+pub lowest_loop_begins : {f : ℕ → Option Refusal} {n : ℕ} → LowestLoop f n 0 (Ok tt)
 unfolding lowest
 lowest_loop_begins = record { is = refl; within = zero-le }
 

@@ -1,5 +1,5 @@
 // What the lookups of a group add to the slots.
-ghost use Rattle.std.specs.Prelude.{◌≡◌, ◌*◌, ◌<◌, ◌≤◌, length};
+ghost use Rattle.std.specs.Prelude.{◌≡◌, Some, ◌*◌, ◌<◌, ◌≤◌, length};
 ghost use Rattle.lists.specs.Fold.{fold};
 ghost use Rattle.lookup.specs.Lookups.{lookup_count};
 ghost use Rattle.balance_slots.specs.inner.Work.{work, step};
@@ -12,12 +12,11 @@ ghost use Rattle.balance_slots.specs.Workspace.{slot_words};
 use crate::buses::same_group;
 use balance::accumulate::accumulate_lookup;
 use balance_slots::hash::Seed;
-use balance_slots::slot::SlotUse;
 use expression::words::to_usize;
 use lookup::starts::name_start;
 use lookup::types::{LOOKUP_WORDS, name_length};
 
-// The group of lookup m, by table and in list order.
+// The group of lookup m, by table and in list order, with so many slots in use before; how many after, or none if one was missing.
 pub fn accumulate_group(
     p: u32,
     sizes: &[u32],
@@ -34,19 +33,18 @@ pub fn accumulate_group(
     m: usize,
     seed: Seed,
     workspace: &mut [u32],
-    u: SlotUse,
-) -> SlotUse
-    requires { let l : TableLists = lent_tables sizes.now main.now preprocessed.now public_values.now nodes.now lookups.now names.now tuples.now multiplicities.now flags.now elements.now in TablesTested p l × (m < lookup_count l.lookups.lookups) × (slot_words * u.used ≤ length workspace.old) }
-    ensures { let l : TableLists = lent_tables sizes.now main.now preprocessed.now public_values.now nodes.now lookups.now names.now tuples.now multiplicities.now flags.now elements.now in work workspace.new result ≡ fold (step p) (work workspace.old u) (entries p (group_at l m)) }
+    used: usize,
+) -> Option<usize>
+    requires { let l : TableLists = lent_tables sizes.now main.now preprocessed.now public_values.now nodes.now lookups.now names.now tuples.now multiplicities.now flags.now elements.now in TablesTested p l × (m < lookup_count l.lookups.lookups) × (slot_words * used ≤ length workspace.old) }
+    ensures { let l : TableLists = lent_tables sizes.now main.now preprocessed.now public_values.now nodes.now lookups.now names.now tuples.now multiplicities.now flags.now elements.now in work workspace.new result ≡ fold (step p) (work workspace.old (Some used)) (entries p (group_at l m)) }
 {
     let n = lookups.len() / LOOKUP_WORDS;
     let name_m = name_start(lookups, m);
-    let mut v = u;
+    let mut v = used;
     let mut at: usize = 0;
-    let mut k = 0;
-    while k < n {
+    for k in 0..n {
         if same_group(lookups, names, m, name_m, k, at) {
-            let next = accumulate_lookup(
+            v = accumulate_lookup(
                 p,
                 sizes,
                 main,
@@ -63,11 +61,9 @@ pub fn accumulate_group(
                 seed,
                 workspace,
                 v,
-            );
-            v = next;
+            )?;
         }
-        at = at + to_usize(name_length(lookups, k));
-        k += 1;
+        at += to_usize(name_length(lookups, k));
     }
-    v
+    Some(v)
 }

@@ -3,7 +3,6 @@ ghost use Rattle.std.specs.Prelude.{◌≡◌, ◌<◌, ◌≤◌};
 ghost use Rattle.lookup.specs.Lookups.{lookup_count, name_start};
 ghost use Rattle.balance_groups.specs.inner.ByNumber.{GroupNames, same_group, first_of_bus, starts_group};
 
-use expression::words::to_usize;
 use lookup::buses::same_bytes;
 use lookup::starts::name_start;
 use lookup::types::{name_length, on_bus};
@@ -26,8 +25,8 @@ pub fn same_group(
     if !on_bus(lookups, k) {
         return false;
     }
-    let end_m = name_m + to_usize(name_length(lookups, m));
-    let end_k = name_k + to_usize(name_length(lookups, k));
+    let end_m = name_m + name_length(lookups, m) as usize;
+    let end_k = name_k + name_length(lookups, k) as usize;
     same_bytes(&names[name_m..end_m], &names[name_k..end_k])
 }
 
@@ -37,15 +36,14 @@ fn first_of_bus(lookups: &[u32], names: &[u8], m: usize) -> bool
     ensures { result ≡ first_of_bus lookups.now names.now m }
 {
     let name_m = name_start(lookups, m);
-    let mut ok = true;
     let mut at: usize = 0;
-    let mut k = 0;
-    while k < m {
-        ok = ok & !same_group(lookups, names, m, name_m, k, at);
-        at = at + to_usize(name_length(lookups, k));
-        k += 1;
+    for k in 0..m {
+        if same_group(lookups, names, m, name_m, k, at) {
+            return false;
+        }
+        at += name_length(lookups, k) as usize;
     }
-    ok
+    true
 }
 
 // Whether a group begins with lookup m, among the locals or among the buses.

@@ -12,6 +12,7 @@ use expression::node::NODE_WORDS;
 use lookup::sizes::{part_end, part_start};
 use lookup::types::LOOKUP_WORDS;
 
+// Starts and ends: std's Range is not Copy, and a range of its own type would be taken apart again at each cut.
 #[derive(Clone, Copy)]
 pub struct TableRanges {
     pub main: usize,

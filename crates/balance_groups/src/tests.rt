@@ -19,39 +19,38 @@ use balance::tables::{
 };
 use expression::node::NODE_WORDS;
 use expression::numbers::number;
-use expression::refusal::{Refusal, Verdict, first};
+use expression::refusal::Refusal;
 use expression::sizes::{Limits, Shape};
-use expression::words::to_u64;
 use lookup::refusals::table_refusal;
 use lookup::sizes::size_start;
 use lookup::tests::{has_lookups, preprocessed_enough};
 use lookup::types::LOOKUP_WORDS;
 
 // The number of a refusal, which has 32 bits; no refusal comes after all of them.
-fn rank(v: Verdict) -> u64
+fn rank(v: Result<(), Refusal>) -> u64
     ensures { result ≡ rank (refusal v) }
 {
     match v {
-        Verdict::Accepted => 4294967296,
-        Verdict::Refused(f) => to_u64(number(f)),
+        Ok(()) => 4294967296,
+        Err(f) => u64::from(number(f)),
     }
 }
 
 // Of two verdicts the one with the lower number.
-fn lower(a: Verdict, b: Verdict) -> Verdict
+fn lower(a: Result<(), Refusal>, b: Result<(), Refusal>) -> Result<(), Refusal>
     ensures { refusal result ≡ lower (refusal a) (refusal b) }
 {
     if rank(a) <= rank(b) { a } else { b }
 }
 
 // Refusal 9: a table with lookups has no shorter preprocessed trace.
-fn rows_verdict(shape: Shape, lookups: &[u32]) -> Verdict
+fn rows_verdict(shape: Shape, lookups: &[u32]) -> Result<(), Refusal>
     ensures { refusal result ≡ unless (not (has_lookups lookups.now) || preprocessed_enough shape) variant.RowsMissing none }
 {
-    if !has_lookups(lookups) | preprocessed_enough(shape) {
-        return Verdict::Accepted;
+    if has_lookups(lookups) & !preprocessed_enough(shape) {
+        return Err(Refusal::RowsMissing);
     }
-    Verdict::Refused(Refusal::RowsMissing)
+    Ok(())
 }
 
 // The first of refusals 1 to 5 and 9 that one table has.
@@ -69,11 +68,11 @@ fn table_verdict(
     multiplicities: &[u32],
     flags: &[u32],
     elements: &[u32],
-) -> Verdict
+) -> Result<(), Refusal>
     requires { Sane limits }
     ensures { refusal result ≡ one_refusal limits p (lent_table shape main.now preprocessed.now public_values.now nodes.now (lent_lookups lookups.now names.now tuples.now multiplicities.now flags.now elements.now)) }
 {
-    let v = table_refusal(
+    table_refusal(
         limits,
         p,
         shape,
@@ -87,8 +86,8 @@ fn table_verdict(
         multiplicities,
         flags,
         elements,
-    );
-    first(v, rows_verdict(shape, lookups))
+    )?;
+    rows_verdict(shape, lookups)
 }
 
 // The same of table t, whose lists are cut from the lists of all tables.
@@ -107,46 +106,25 @@ fn verdict_at(
     flags: &[u32],
     elements: &[u32],
     t: usize,
-) -> Verdict
+) -> Result<(), Refusal>
     requires { let l : TableLists = lent_tables sizes.now main.now preprocessed.now public_values.now nodes.now lookups.now names.now tuples.now multiplicities.now flags.now elements.now in Sane limits × ListsCovered l × (t < table_count l.sizes) }
     ensures { let l : TableLists = lent_tables sizes.now main.now preprocessed.now public_values.now nodes.now lookups.now names.now tuples.now multiplicities.now flags.now elements.now in refusal result ≡ one_refusal limits p (table_at l t) }
 {
-    let shape = shape_of(sizes, t);
     let ranges = table_ranges(sizes, t);
-    let main_start = ranges.main;
-    let main_end = ranges.main_end;
-    let preprocessed_start = ranges.preprocessed;
-    let preprocessed_end = ranges.preprocessed_end;
-    let public_values_start = ranges.public_values;
-    let public_values_end = ranges.public_values_end;
-    let nodes_start = ranges.nodes;
-    let nodes_end = ranges.nodes_end;
-    let lookups_start = ranges.lookups;
-    let lookups_end = ranges.lookups_end;
-    let names_start = ranges.names;
-    let names_end = ranges.names_end;
-    let tuples_start = ranges.tuples;
-    let tuples_end = ranges.tuples_end;
-    let multiplicities_start = ranges.multiplicities;
-    let multiplicities_end = ranges.multiplicities_end;
-    let flags_start = ranges.flags;
-    let flags_end = ranges.flags_end;
-    let elements_start = ranges.elements;
-    let elements_end = ranges.elements_end;
     table_verdict(
         limits,
         p,
-        shape,
-        &main[main_start..main_end],
-        &preprocessed[preprocessed_start..preprocessed_end],
-        &public_values[public_values_start..public_values_end],
-        &nodes[nodes_start..nodes_end],
-        &lookups[lookups_start..lookups_end],
-        &names[names_start..names_end],
-        &tuples[tuples_start..tuples_end],
-        &multiplicities[multiplicities_start..multiplicities_end],
-        &flags[flags_start..flags_end],
-        &elements[elements_start..elements_end],
+        shape_of(sizes, t),
+        &main[ranges.main..ranges.main_end],
+        &preprocessed[ranges.preprocessed..ranges.preprocessed_end],
+        &public_values[ranges.public_values..ranges.public_values_end],
+        &nodes[ranges.nodes..ranges.nodes_end],
+        &lookups[ranges.lookups..ranges.lookups_end],
+        &names[ranges.names..ranges.names_end],
+        &tuples[ranges.tuples..ranges.tuples_end],
+        &multiplicities[ranges.multiplicities..ranges.multiplicities_end],
+        &flags[ranges.flags..ranges.flags_end],
+        &elements[ranges.elements..ranges.elements_end],
     )
 }
 
@@ -165,14 +143,13 @@ pub fn tables_verdict(
     multiplicities: &[u32],
     flags: &[u32],
     elements: &[u32],
-) -> Verdict
+) -> Result<(), Refusal>
     requires { let l : TableLists = lent_tables sizes.now main.now preprocessed.now public_values.now nodes.now lookups.now names.now tuples.now multiplicities.now flags.now elements.now in Sane limits × ListsCovered l }
     ensures { let l : TableLists = lent_tables sizes.now main.now preprocessed.now public_values.now nodes.now lookups.now names.now tuples.now multiplicities.now flags.now elements.now in refusal result ≡ lowest (λ t. one_refusal limits p (table_at l t)) (table_count l.sizes) }
 {
     let n = sizes.len() / TABLE_SIZES;
-    let mut v = Verdict::Accepted;
-    let mut t = 0;
-    while t < n {
+    let mut v = Ok(());
+    for t in 0..n {
         let of_table = verdict_at(
             limits,
             p,
@@ -189,9 +166,7 @@ pub fn tables_verdict(
             elements,
             t,
         );
-        let next = lower(v, of_table);
-        v = next;
-        t += 1;
+        v = lower(v, of_table);
     }
     v
 }
@@ -222,17 +197,19 @@ pub fn lists_fit(
     requires { Sane limits }
     ensures { let l : TableLists = lent_tables sizes.now main.now preprocessed.now public_values.now nodes.now lookups.now names.now tuples.now multiplicities.now flags.now elements.now in result ≡ lists_fit limits l }
 {
-    if (sizes.len() % TABLE_SIZES == 0) & (sizes.len() / TABLE_SIZES <= limits.tables) {
-        return covers(sizes, MAIN_COUNT_SIZE, 1, main.len())
-            & covers(sizes, PREPROCESSED_COUNT_SIZE, 1, preprocessed.len())
-            & covers(sizes, PUBLIC_VALUE_COUNT_SIZE, 1, public_values.len())
-            & covers(sizes, NODE_COUNT_SIZE, NODE_WORDS, nodes.len())
-            & covers(sizes, LOOKUP_COUNT_SIZE, LOOKUP_WORDS, lookups.len())
-            & covers(sizes, NAME_BYTE_COUNT_SIZE, 1, names.len())
-            & covers(sizes, TUPLE_COUNT_SIZE, 1, tuples.len())
-            & covers(sizes, MULTIPLICITY_COUNT_SIZE, 1, multiplicities.len())
-            & covers(sizes, FLAG_COUNT_SIZE, 1, flags.len())
-            & covers(sizes, ELEMENT_COUNT_SIZE, 1, elements.len());
+    let tables_fit = (sizes.len() % TABLE_SIZES == 0)
+        & (sizes.len() / TABLE_SIZES <= limits.tables);
+    if !tables_fit {
+        return false;
     }
-    false
+    covers(sizes, MAIN_COUNT_SIZE, 1, main.len())
+        & covers(sizes, PREPROCESSED_COUNT_SIZE, 1, preprocessed.len())
+        & covers(sizes, PUBLIC_VALUE_COUNT_SIZE, 1, public_values.len())
+        & covers(sizes, NODE_COUNT_SIZE, NODE_WORDS, nodes.len())
+        & covers(sizes, LOOKUP_COUNT_SIZE, LOOKUP_WORDS, lookups.len())
+        & covers(sizes, NAME_BYTE_COUNT_SIZE, 1, names.len())
+        & covers(sizes, TUPLE_COUNT_SIZE, 1, tuples.len())
+        & covers(sizes, MULTIPLICITY_COUNT_SIZE, 1, multiplicities.len())
+        & covers(sizes, FLAG_COUNT_SIZE, 1, flags.len())
+        & covers(sizes, ELEMENT_COUNT_SIZE, 1, elements.len())
 }

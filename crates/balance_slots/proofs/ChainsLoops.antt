@@ -1,6 +1,8 @@
 -- The turns of hashing, linking and searching, over plain lists and numbers.
+use Rattle.std.specs.Prelude as Std
+use Rattle.std.specs.Prelude.{Some, None}
 use mathlib.Core.Path.{◌≡◌, refl, sym, ap, ap₂, ◌∙◌}
-use mathlib.Core.Bool.{Bool, true, false, cond}
+use mathlib.Core.Bool.{Bool, true, false, cond, ◌&&◌}
 use mathlib.Core.List.{List}
 use Prim.Native.Nat.{ℕ, suc, ◌+◌, ◌*◌, ◌-◌, ◌/◌, ◌%◌, ◌<◌, ◌≤◌, zero-le}
 use native.Mathlib.Nat.{zero-add, mul-le-mul, mod-add-mod}
@@ -19,7 +21,7 @@ use Rattle.balance_slots.proofs.laws.Add.{made}
 use Rattle.balance_slots.proofs.laws.Room.{new_at-long}
 use Rattle.balance_slots.specs.inner.Hash.{hash_prime, chains, polynomial, hash}
 use Rattle.balance_slots.specs.inner.Chain.{SlotsLinked, last_before, hash_at, Chained, holds, plain, plain_work, ChainsLinked}
-use Rattle.balance_slots.specs.declared.add.LinkedUse.{LinkedUse}
+use Rattle.balance_slots.specs.declared.add.Linked.{Linked}
 use Rattle.balance_slots.specs.declared.hash.Seed.{Seed}
 use Rattle.balance_slots.proofs.laws.Last.{last-le, last_hits, hash-same}
 use Rattle.balance_slots.proofs.laws.Plain.{plain-length, plain_none, plain-next, plain_linked, plain_added, plain_new, new_before}
@@ -114,25 +116,11 @@ unlink_turn {d} {workspace} {n} {i} u l =
 pub unlink_ends : {d workspace : List ℕ} {n i : ℕ} → UnlinkLoop d n i workspace → n ≤ i → workspace ≡ plain d n
 unlink_ends {d} {workspace} {n} {i} u l = let e : i ≡ n = omega (arith, u.within) in u.is ∙ ap (plain d) e
 
--- a linked slot and a tuple
-pub older_width : {w : ℕ} (workspace t : List ℕ) (k found : ℕ) → w ≡ word workspace (slot_words * k) → (w % 16 ≡ length t → ⊥) → found ≡ cond (holds workspace t k) k found
+-- the slot found so far, and slot k, which is linked
+pub found_next : {b : Bool} {next : ℕ} (workspace t : List ℕ) (k found : ℕ) (c : Bool) → b ≡ (eqb (word workspace (slot_words * k) % 16) (length t) && same_list (take (length t) (drop (slot_words * k + tuple_word) workspace)) t) → b ≡ c
+    → next ≡ cond c k found → next ≡ cond (holds workspace t k) k found
 unfolding holds
-older_width workspace t k found e n = rw (ne_eqb (word workspace (slot_words * k) % 16) (length t) (λ z. n (ap (λ (x : ℕ). x % 16) e ∙ z)))
-
-older_is : {w : ℕ} {r : Bool} (workspace t : List ℕ) (k : ℕ) → w ≡ word workspace (slot_words * k) → w % 16 ≡ length t
-    → r ≡ same_list (take ((slot_words * k + tuple_word + length t) - (slot_words * k + tuple_word)) (drop (slot_words * k + tuple_word) workspace)) t → r ≡ holds workspace t k
-unfolding holds
-older_is workspace t k e z er =
-    let a : (slot_words * k + tuple_word + length t) - (slot_words * k + tuple_word) ≡ length t = omega arith in
-    rw (eq-eqb (word workspace (slot_words * k) % 16) (length t) (ap (λ (x : ℕ). x % 16) (sym e) ∙ z)) (er ∙ ap (λ (n : ℕ). same_list (take n (drop (slot_words * k + tuple_word) workspace)) t) a)
-
-pub older_yes : {w : ℕ} {r : Bool} (workspace t : List ℕ) (k found : ℕ) → w ≡ word workspace (slot_words * k) → w % 16 ≡ length t
-    → r ≡ same_list (take ((slot_words * k + tuple_word + length t) - (slot_words * k + tuple_word)) (drop (slot_words * k + tuple_word) workspace)) t → r ≡ true → k ≡ cond (holds workspace t k) k found
-older_yes workspace t k found e z er y = sym (ap (λ (b : Bool). cond b k found) (sym (older_is workspace t k e z er) ∙ y))
-
-pub older_no : {w : ℕ} {r : Bool} (workspace t : List ℕ) (k found : ℕ) → w ≡ word workspace (slot_words * k) → w % 16 ≡ length t
-    → r ≡ same_list (take ((slot_words * k + tuple_word + length t) - (slot_words * k + tuple_word)) (drop (slot_words * k + tuple_word) workspace)) t → r ≡ false → found ≡ cond (holds workspace t k) k found
-older_no workspace t k found e z er y = sym (ap (λ (b : Bool). cond b k found) (sym (older_is workspace t k e z er) ∙ y))
+found_next workspace t k found c e y n = n ∙ ap (λ (x : Bool). cond x k found) (sym y ∙ e)
 
 -- one slot is linked
 pub link_low : {seed : Seed} {heads workspace : List ℕ} {i h : ℕ} → Chained seed heads workspace i → h < chains → word heads h ≤ i
@@ -267,12 +255,12 @@ unfolding added_at
 added_alike p workspace k c l = record { words = λ i j g m. get_or-set_other workspace (slot_words * k + net_word) (slot_words * i + j) (add_m p (word workspace (slot_words * k + net_word)) c) 0 (λ z. omega arith) }
 
 -- what an entry leaves
-abbrev pub left : ℕ → Bool → ℕ → LinkedUse
-left n b l = record { used = n; full = b; linked = l }
+abbrev pub left : ℕ → ℕ → Std.Option Linked
+left n l = Some (record { used = n; linked = l })
 
 -- the three ways of an entry
-pub add_nonzero_found : {seed : Seed} {heads workspace b : List ℕ} {v : LinkedUse} {k : ℕ} (p : ℕ) (t : List ℕ) (count : ℕ) → ChainsLinked seed heads workspace v → k ≡ find_slot (plain workspace v.linked) t 0 v.used → k < v.used → b ≡ added_at p workspace k count
-    → (plain_work b (left v.used false v.linked) ≡ add_nonzero_at p (plain_work workspace v) t count) × ChainsLinked seed heads b (left v.used false v.linked)
+pub add_nonzero_found : {seed : Seed} {heads workspace b : List ℕ} {v : Linked} {k : ℕ} (p : ℕ) (t : List ℕ) (count : ℕ) → ChainsLinked seed heads workspace (Some v) → k ≡ find_slot (plain workspace v.linked) t 0 v.used → k < v.used → b ≡ added_at p workspace k count
+    → (plain_work b (left v.used v.linked) ≡ add_nonzero_at p (plain_work workspace (Some v)) t count) × ChainsLinked seed heads b (left v.used v.linked)
 unfolding add_nonzero_at
 add_nonzero_found {seed} {heads} {workspace} {b} {v} {k} p t count r e h eb =
     let f : ltb (find_slot (plain workspace v.linked) t 0 v.used) v.used ≡ true = rw (sym e) (lt-ltb k v.used h) in
@@ -285,8 +273,8 @@ add_nonzero_found {seed} {heads} {workspace} {b} {v} {k} p t count r e h eb =
       },
     )
 
-pub add_nonzero-full : {seed : Seed} {heads workspace b hs : List ℕ} {v : LinkedUse} {k : ℕ} (p : ℕ) (t : List ℕ) (count : ℕ) → ChainsLinked seed heads workspace v → k ≡ find_slot (plain workspace v.linked) t 0 v.used → v.used ≤ k → length workspace - slot_words * v.used < 10
-    → b ≡ replicate (length workspace) 0 → hs ≡ replicate (length heads) 0 → (plain_work b (left 0 true 0) ≡ add_nonzero_at p (plain_work workspace v) t count) × ChainsLinked seed hs b (left 0 true 0)
+pub add_nonzero-full : {seed : Seed} {heads workspace b hs : List ℕ} {v : Linked} {k : ℕ} (p : ℕ) (t : List ℕ) (count : ℕ) → ChainsLinked seed heads workspace (Some v) → k ≡ find_slot (plain workspace v.linked) t 0 v.used → v.used ≤ k → length workspace - slot_words * v.used < 10
+    → b ≡ replicate (length workspace) 0 → hs ≡ replicate (length heads) 0 → (plain_work b (None) ≡ add_nonzero_at p (plain_work workspace (Some v)) t count) × ChainsLinked seed hs b (None)
 unfolding add_nonzero_at
 add_nonzero-full {seed} {heads} {workspace} {b} {hs} {v} {k} p t count r e h g eb eh =
     let f : ltb (find_slot (plain workspace v.linked) t 0 v.used) v.used ≡ false = rw (sym e) (le-ltb k v.used h) in
@@ -295,9 +283,9 @@ add_nonzero-full {seed} {heads} {workspace} {b} {hs} {v} {k} p t count r e h g e
       record { chained = chained_none b (eh ∙ ap (λ (n : ℕ). replicate n 0) r.chained.long); inside = zero-le; room = zero-le },
     )
 
-pub add_nonzero_new : {seed : Seed} {heads workspace b hs : List ℕ} {v : LinkedUse} {k l : ℕ} (p : ℕ) (t : List ℕ) (count : ℕ) → ChainsLinked seed heads workspace v → k ≡ find_slot (plain workspace v.linked) t 0 v.used → v.used ≤ k → 10 ≤ length workspace - slot_words * v.used
+pub add_nonzero_new : {seed : Seed} {heads workspace b hs : List ℕ} {v : Linked} {k l : ℕ} (p : ℕ) (t : List ℕ) (count : ℕ) → ChainsLinked seed heads workspace (Some v) → k ≡ find_slot (plain workspace v.linked) t 0 v.used → v.used ≤ k → 10 ≤ length workspace - slot_words * v.used
     → SlotsLinked seed hs b l 0 (v.used + 1) (new_at (plain workspace v.linked) v.used t count)
-    → (plain_work b (left (v.used + 1) false l) ≡ add_nonzero_at p (plain_work workspace v) t count) × ChainsLinked seed hs b (left (v.used + 1) false l)
+    → (plain_work b (left (v.used + 1) l) ≡ add_nonzero_at p (plain_work workspace (Some v)) t count) × ChainsLinked seed hs b (left (v.used + 1) l)
 unfolding add_nonzero_at
 add_nonzero_new {seed} {heads} {workspace} {b} {hs} {v} {k} {l} p t count r e h g s =
     let P : List ℕ = plain workspace v.linked in
@@ -307,21 +295,15 @@ add_nonzero_new {seed} {heads} {workspace} {b} {hs} {v} {k} {l} p t count r e h 
     let z : length b ≡ length workspace = sym (plain-length b l) ∙ ap length s.same ∙ new_at-long P v.used t count (rw n (omega (arith, r.room))) ∙ n in
     (rw (f, m) (ap (λ (x : List ℕ). made x (v.used + 1) false) s.same), record { chained = s.chained; inside = s.not_more; room = rw z (omega (arith, r.room)) })
 
--- the three ways of a step
-pub step-full : {seed : Seed} {heads workspace : List ℕ} {v : LinkedUse} (p : ℕ) (t : List ℕ) (count : ℕ) → ChainsLinked seed heads workspace v → v.full ≡ true
-    → (plain_work workspace v ≡ step p (plain_work workspace v) (record { tuple = t; count = count })) × ChainsLinked seed heads workspace v
+-- the two ways of a step
+pub step_skip : {seed : Seed} {heads workspace : List ℕ} {v : Linked} (p : ℕ) (t : List ℕ) (count : ℕ) → ChainsLinked seed heads workspace (Some v) → count ≡ 0
+    → (plain_work workspace (Some v) ≡ step p (plain_work workspace (Some v)) (record { tuple = t; count = count })) × ChainsLinked seed heads workspace (Some v)
 unfolding step
-step-full {seed} {heads} {workspace} {v} p t count r e =
-    (sym (ap (λ (b : Bool). cond b (plain_work workspace v) (cond (eqb count 0) (plain_work workspace v) (add_nonzero_at p (plain_work workspace v) t count))) e), r)
+step_skip {seed} {heads} {workspace} {v} p t count r z =
+    (sym (ap (λ (d : Bool). cond d (plain_work workspace (Some v)) (add_nonzero_at p (plain_work workspace (Some v)) t count)) (eq-eqb count 0 z)), r)
 
-pub step_skip : {seed : Seed} {heads workspace : List ℕ} {v : LinkedUse} (p : ℕ) (t : List ℕ) (count : ℕ) → ChainsLinked seed heads workspace v → v.full ≡ false → count ≡ 0
-    → (plain_work workspace v ≡ step p (plain_work workspace v) (record { tuple = t; count = count })) × ChainsLinked seed heads workspace v
+pub step-add : {seed : Seed} {hs vs : List ℕ} {u : Std.Option Linked} {w : Work} (p : ℕ) (workspace t : List ℕ) (v : Linked) (count : ℕ) → (count ≡ 0 → ⊥) → (w ≡ add_nonzero_at p (plain_work workspace (Some v)) t count) × ChainsLinked seed hs vs u
+    → (w ≡ step p (plain_work workspace (Some v)) (record { tuple = t; count = count })) × ChainsLinked seed hs vs u
 unfolding step
-step_skip {seed} {heads} {workspace} {v} p t count r e z =
-    (sym (ap₂ (λ (b d : Bool). cond b (plain_work workspace v) (cond d (plain_work workspace v) (add_nonzero_at p (plain_work workspace v) t count))) e (eq-eqb count 0 z)), r)
-
-pub step-add : {seed : Seed} {hs vs : List ℕ} {u : LinkedUse} {w : Work} (p : ℕ) (workspace t : List ℕ) (v : LinkedUse) (count : ℕ) → v.full ≡ false → (count ≡ 0 → ⊥) → (w ≡ add_nonzero_at p (plain_work workspace v) t count) × ChainsLinked seed hs vs u
-    → (w ≡ step p (plain_work workspace v) (record { tuple = t; count = count })) × ChainsLinked seed hs vs u
-unfolding step
-step-add p workspace t v count e n (q, r) =
-    (q ∙ sym (ap₂ (λ (b d : Bool). cond b (plain_work workspace v) (cond d (plain_work workspace v) (add_nonzero_at p (plain_work workspace v) t count))) e (ne_eqb count 0 n)), r)
+step-add p workspace t v count n (q, r) =
+    (q ∙ sym (ap (λ (d : Bool). cond d (plain_work workspace (Some v)) (add_nonzero_at p (plain_work workspace (Some v)) t count)) (ne_eqb count 0 n)), r)

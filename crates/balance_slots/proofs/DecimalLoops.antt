@@ -1,4 +1,8 @@
 -- Decimal texts and the order of lists, over plain lists and numbers.
+use Rattle.std.specs.Prelude.{Some}
+use Rattle.std.specs.Ordering.{is_lt, is_some_and, nat_cmp, partial_ordering_then}
+use Rattle.std.proofs.Common.{Less, Equal, Greater}
+use Rattle.std.specs.Cmp.Lexicographic.{slice_partial_cmp}
 use mathlib.Core.Path.{◌≡◌, refl, sym, ap, ap₂, ◌∙◌}
 use mathlib.Core.Bool.{Bool, true, false, cond}
 use mathlib.Core.List.{List, [], ◌∷◌, ◌++◌}
@@ -8,7 +12,7 @@ use native.Mathlib.Omega.{arith}
 use lib.Dec.{eqb, ltb, lit≤}
 use lib.ListN.{length, take, drop, get_or, set, replicate, length-append, drop_of_length-le}
 use lib.Seq.{drop-cons, take_at}
-use borrow.Author.Tests.{eq-eqb, ne_eqb, lt-ltb, le-ltb, ltb-true, ltb-false}
+use borrow.Author.Tests.{eq-eqb, ne_eqb, lt-ltb, le-ltb, ltb-true, ltb-false, eqb-true}
 use Rattle.lists.specs.laws.Parts.{put_next, through_length}
 use Rattle.balance_slots.specs.Decimal.{digits, text, in_order}
 
@@ -100,13 +104,27 @@ unfolding in_order
 agree_longer {less} {x} {y} {i} a h g = (rw (drop-cons x i 0 h, drop_of_length-le y {i = i} g) at a.rest)
 
 -- x ends first
-pub agree-ends : {less : ℕ → ℕ → Bool} {x y : List ℕ} {i : ℕ} → LessLoop less x y i → length x ≤ i → ltb i (length y) ≡ in_order less x y
+pub agree-ends : {less : ℕ → ℕ → Bool} {x y : List ℕ} {i : ℕ} → LessLoop less x y i → length x ≤ i → ltb (length x) (length y) ≡ in_order less x y
 unfolding in_order
-agree-ends {less} {x} {y} {i} a h = go (ltb i (length y)) refl
+agree-ends {less} {x} {y} {i} a h = ap (λ (n : ℕ). ltb n (length y)) (let e : length x ≡ i = omega (arith, a.in_x) in e) ∙ go (ltb i (length y)) refl
   where
     go : (b : Bool) → ltb i (length y) ≡ b → b ≡ in_order less x y
     go true e = rw (drop_of_length-le x {i = i} h, drop-cons y i 0 (ltb-true i (length y) e)) at a.rest
     go false e = rw (drop_of_length-le x {i = i} h, drop_of_length-le y {i = i} (ltb-false i (length y) e)) at a.rest
+
+-- what `<` of slices answers
+slices_less : (x y : List ℕ) → is_some_and is_lt (slice_partial_cmp (λ (a b : ℕ). Some (nat_cmp a b)) x y) ≡ in_order ltb x y
+unfolding in_order
+slices_less [] [] = refl
+slices_less [] (b ∷ y) = refl
+slices_less (a ∷ x) [] = refl
+slices_less (a ∷ x) (b ∷ y) = go (ltb a b) (eqb a b) refl refl (slices_less x y)
+  where
+    go : (l e : Bool) → ltb a b ≡ l → eqb a b ≡ e → is_some_and is_lt (slice_partial_cmp (λ (a b : ℕ). Some (nat_cmp a b)) x y) ≡ in_order ltb x y → is_some_and is_lt (partial_ordering_then (Some (cond l Less (cond e Equal Greater))) (slice_partial_cmp (λ (a b : ℕ). Some (nat_cmp a b)) x y)) ≡ cond e (in_order ltb x y) l
+    go true true p q i = let h : a < b = ltb-true a b p in let z : a ≡ b = eqb-true a b q in absurd (omega arith)
+    go true false p q i = refl
+    go false true p q i = i
+    go false false p q i = refl
 
 -- the texts in the arrays' fronts
 pub front-text : {n : ℕ} {b : List ℕ} (x : ℕ) (d : List ℕ) → (n ≡ length (text x)) × (b ≡ text x ++ drop n d) → take (n - 0) (drop 0 b) ≡ text x
@@ -115,8 +133,8 @@ front-text {n} {b} x d (en, eb) =
     ap₂ (λ (m : ℕ) (l : List ℕ). take m l) z eb ∙ take_at (text x) (drop n d) n (sym en)
 
 pub less_is : {r : Bool} {n m : ℕ} {a b : List ℕ} (x y : ℕ) (d e : List ℕ) → (n ≡ length (text x)) × (a ≡ text x ++ drop n d) → (m ≡ length (text y)) × (b ≡ text y ++ drop m e)
-    → r ≡ in_order ltb (take (n - 0) (drop 0 a)) (take (m - 0) (drop 0 b)) → r ≡ in_order ltb (text x) (text y)
-less_is x y d e p q er = er ∙ ap₂ (in_order ltb) (front-text x d p) (front-text y e q)
+    → r ≡ is_some_and is_lt (slice_partial_cmp (λ (i j : ℕ). Some (nat_cmp i j)) (take (n - 0) (drop 0 a)) (take (m - 0) (drop 0 b))) → r ≡ in_order ltb (text x) (text y)
+less_is x y d e p q er = er ∙ slices_less _ _ ∙ ap₂ (in_order ltb) (front-text x d p) (front-text y e q)
 
 pub few : (x : ℕ) → x ≤ 4294967295 → length (text (x / 10)) ≤ 10
 few x h = text-long (x / 10) (omega arith)

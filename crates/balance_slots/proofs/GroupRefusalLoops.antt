@@ -1,4 +1,6 @@
 -- The turns of the search for the slot that refusal 18 names, over plain lists and numbers.
+use Rattle.std.specs.Prelude as Std
+use Rattle.std.specs.Prelude.{Some, None}
 use mathlib.Core.Path.{◌≡◌, refl, sym, ap, ap₂, ◌∙◌}
 use mathlib.Core.Bool.{Bool, true, false, cond}
 use mathlib.Core.List.{List}
@@ -9,11 +11,9 @@ use lib.ListN.{get_or, take, drop}
 use borrow.Author.Tests.{eq-eqb, ne_eqb}
 use Rattle.expression.specs.Words.{word}
 use Rattle.balance_slots.specs.Decimal.{tuple_less}
-use Rattle.balance_slots.specs.declared.group_refusal.Best.{Best}
 use mathlib.Core.Option.{none, some}
 use Rattle.expression.specs.declared.refusal.Refusal.TheVariants.{WorkspaceFull, NetNotZero}
-use Rattle.balance_slots.specs.declared.slot.SlotUse.{SlotUse}
-use Rattle.balance_slots.specs.inner.Work.{work, net_at, tuple_at, best, better_at, least_to, slot_refusal, work_refusal}
+use Rattle.balance_slots.specs.inner.Work.{slot_of, work, net_at, tuple_at, chosen_at, better_at, least_to, slot_refusal, work_refusal}
 use Rattle.balance_slots.specs.Workspace.{slot_words, tuple_word, net_word}
 
 pub less_is : {m n : ℕ} {r : Bool} (workspace : List ℕ) (k b : ℕ) → m ≡ get_or workspace (slot_words * k) 0 → n ≡ get_or workspace (slot_words * b) 0
@@ -24,59 +24,55 @@ less_is {m} {n} workspace k b em en er =
     let y : (slot_words * b + tuple_word + n) - (slot_words * b + tuple_word) ≡ n = omega arith in
     er ∙ ap₂ (λ (i j : ℕ). tuple_less (take i (drop (slot_words * k + tuple_word) workspace)) (take j (drop (slot_words * b + tuple_word) workspace))) (x ∙ em) (y ∙ en)
 
-pub better_zero : (workspace : List ℕ) (b : Best) (k : ℕ) → b.slot ≤ k → net_at workspace k ≡ 0 → (b ≡ better_at workspace b k) × (b.slot ≤ k)
+pub better_zero : (workspace : List ℕ) (b : Std.Option ℕ) (k : ℕ) → slot_of b ≤ k → net_at workspace k ≡ 0 → (b ≡ better_at workspace b k) × (slot_of b ≤ k)
 unfolding better_at
 better_zero workspace b k h e = (rw (eq-eqb (net_at workspace k) 0 e), h)
 
-pub better_less : {t : Bool} (workspace : List ℕ) (b : Best) (k : ℕ) → (net_at workspace k ≡ 0 → ⊥) → b.found ≡ true → t ≡ tuple_less (tuple_at workspace k) (tuple_at workspace b.slot) → t ≡ true → (best true k ≡ better_at workspace b k) × (k ≤ k)
+chosen_loud : (workspace : List ℕ) (b : Std.Option ℕ) (k : ℕ) → (net_at workspace k ≡ 0 → ⊥) → better_at workspace b k ≡ chosen_at workspace b k
 unfolding better_at
-better_less workspace b k n f e z = (rw (ne_eqb (net_at workspace k) 0 n, f, sym e ∙ z), omega arith)
+chosen_loud workspace b k n = rw (ne_eqb (net_at workspace k) 0 n)
 
-pub better_kept : {t : Bool} (workspace : List ℕ) (b : Best) (k : ℕ) → b.slot ≤ k → (net_at workspace k ≡ 0 → ⊥) → b.found ≡ true → t ≡ tuple_less (tuple_at workspace k) (tuple_at workspace b.slot) → t ≡ false → (b ≡ better_at workspace b k) × (b.slot ≤ k)
-unfolding better_at
-better_kept workspace b k h n f e z = (
-  sym (ap (λ (x : Bool). cond x b (cond b.found (cond (tuple_less (tuple_at workspace k) (tuple_at workspace b.slot)) (best true k) b) (best true k))) (ne_eqb (net_at workspace k) 0 n)
-      ∙ ap₂ (λ (x y : Bool). cond x (cond y (best true k) b) (best true k)) f (sym e ∙ z)),
-  h,
-)
+pub better_less : {t : Bool} (workspace : List ℕ) {b : Std.Option ℕ} {j : ℕ} (k : ℕ) → (net_at workspace k ≡ 0 → ⊥) → b ≡ Some j → t ≡ tuple_less (tuple_at workspace k) (tuple_at workspace j) → t ≡ true → (Some k ≡ better_at workspace b k) × (k ≤ k)
+better_less workspace {b} {j} k n f e z = (sym (chosen_loud workspace b k n ∙ ap (λ (x : Std.Option ℕ). chosen_at workspace x k) f ∙ ap (λ (x : Bool). cond x (Some k) (Some j)) (sym e ∙ z)), omega arith)
 
-pub better_first : (workspace : List ℕ) (b : Best) (k : ℕ) → (net_at workspace k ≡ 0 → ⊥) → b.found ≡ false → (best true k ≡ better_at workspace b k) × (k ≤ k)
-unfolding better_at
-better_first workspace b k n f = (rw (ne_eqb (net_at workspace k) 0 n, f), omega arith)
+pub better_kept : {t : Bool} (workspace : List ℕ) {b : Std.Option ℕ} {j : ℕ} (k : ℕ) → slot_of b ≤ k → (net_at workspace k ≡ 0 → ⊥) → b ≡ Some j → t ≡ tuple_less (tuple_at workspace k) (tuple_at workspace j) → t ≡ false → (Some j ≡ better_at workspace b k) × (j ≤ k)
+better_kept workspace {b} {j} k h n f e z =
+    (sym (chosen_loud workspace b k n ∙ ap (λ (x : Std.Option ℕ). chosen_at workspace x k) f ∙ ap (λ (x : Bool). cond x (Some k) (Some j)) (sym e ∙ z)), rw f at h)
 
-pub record LeastLoop (workspace : List ℕ) (n k : ℕ) (b : Best) : Type 0 where
+pub better_first : (workspace : List ℕ) {b : Std.Option ℕ} (k : ℕ) → (net_at workspace k ≡ 0 → ⊥) → b ≡ None → (Some k ≡ better_at workspace b k) × (k ≤ k)
+better_first workspace {b} k n f = (sym (chosen_loud workspace b k n ∙ ap (λ (x : Std.Option ℕ). chosen_at workspace x k) f), omega arith)
+
+pub record LeastLoop (workspace : List ℕ) (n k : ℕ) (b : Std.Option ℕ) : Type 0 where
   pub is : b ≡ least_to workspace k
-  pub at : b.slot ≤ k
+  pub at : slot_of b ≤ k
   pub within : k ≤ n
 
-pub least_loop_begins : {workspace : List ℕ} {n : ℕ} → LeastLoop workspace n 0 (best false 0)
+pub least_loop_begins : {workspace : List ℕ} {n : ℕ} → LeastLoop workspace n 0 None
 unfolding least_to
 least_loop_begins = record { is = refl; at = zero-le; within = zero-le }
 
-pub least_loop_turn : {workspace : List ℕ} {n k : ℕ} {b c : Best} → LeastLoop workspace n k b → k < n → (c ≡ better_at workspace b k) × (c.slot ≤ k) → LeastLoop workspace n (k + 1) c
+pub least_loop_turn : {workspace : List ℕ} {n k : ℕ} {b c : Std.Option ℕ} → LeastLoop workspace n k b → k < n → (c ≡ better_at workspace b k) × (slot_of c ≤ k) → LeastLoop workspace n (k + 1) c
 unfolding least_to
-least_loop_turn {workspace} {n} {k} {b} {c} l h (e, s) = record { is = rw (add-one k) (e ∙ ap (λ (x : Best). better_at workspace x k) l.is); at = omega arith; within = omega arith }
+least_loop_turn {workspace} {n} {k} {b} {c} l h (e, s) = record { is = rw (add-one k) (e ∙ ap (λ (x : Std.Option ℕ). better_at workspace x k) l.is); at = omega arith; within = omega arith }
 
-pub least_loop_ends : {workspace : List ℕ} {n k : ℕ} {b : Best} → LeastLoop workspace n k b → n ≤ k → (b ≡ least_to workspace n) × (b.slot ≤ n)
+pub least_loop_ends : {workspace : List ℕ} {n k : ℕ} {b : Std.Option ℕ} → LeastLoop workspace n k b → n ≤ k → (b ≡ least_to workspace n) × (slot_of b ≤ n)
 least_loop_ends {workspace} {n} {k} {b} l h = let e : k ≡ n = omega (arith, l.within) in (l.is ∙ ap (least_to workspace) e, omega (arith, l.at))
 
 -- the three ways of a verdict
-pub refusal-full : (workspace : List ℕ) (u : SlotUse) (g : ℕ) → u.full ≡ true → some WorkspaceFull ≡ work_refusal g (work workspace u)
+pub refusal-full : (workspace : List ℕ) (u : Std.Option ℕ) (g : ℕ) → u ≡ None → some WorkspaceFull ≡ work_refusal g (work workspace u)
 unfolding work_refusal
-refusal-full workspace u g e = sym (ap (λ (b : Bool). cond b (some WorkspaceFull) (slot_refusal g workspace (least_to workspace u.used))) e)
+refusal-full workspace u g e = sym (ap (λ (v : Std.Option ℕ). work_refusal g (work workspace v)) e)
 
-pub refusal-named : {b : Best} {k net : ℕ} (workspace : List ℕ) (u : SlotUse) (g : ℕ) → u.full ≡ false → b ≡ least_to workspace u.used → b.found ≡ true → k ≡ b.slot → net ≡ word workspace (slot_words * k + net_word)
+pub refusal-named : {b u : Std.Option ℕ} {n k net : ℕ} (workspace : List ℕ) (g : ℕ) → u ≡ Some n → b ≡ least_to workspace n → b ≡ Some k → net ≡ word workspace (slot_words * k + net_word)
     → some (NetNotZero g k net) ≡ work_refusal g (work workspace u)
 unfolding work_refusal
-refusal-named {b} {k} {net} workspace u g f e t ek en =
-    ap₂ (λ (x y : ℕ). some (NetNotZero g x y)) ek (en ∙ ap (λ (x : ℕ). word workspace (slot_words * x + net_word)) ek)
-    ∙ sym (ap (λ (x : Bool). cond x (some (NetNotZero g b.slot (net_at workspace b.slot))) none) t)
-    ∙ ap (slot_refusal g workspace) e
-    ∙ sym (ap (λ (x : Bool). cond x (some WorkspaceFull) (slot_refusal g workspace (least_to workspace u.used))) f)
+refusal-named {b} {u} {n} {k} {net} workspace g f e t en =
+    ap (λ (x : ℕ). some (NetNotZero g k x)) en
+    ∙ ap (slot_refusal g workspace) (sym t ∙ e)
+    ∙ sym (ap (λ (v : Std.Option ℕ). work_refusal g (work workspace v)) f)
 
-pub refusal_none : {b : Best} (workspace : List ℕ) (u : SlotUse) (g : ℕ) → u.full ≡ false → b ≡ least_to workspace u.used → b.found ≡ false → none ≡ work_refusal g (work workspace u)
+pub refusal_none : {b u : Std.Option ℕ} {n : ℕ} (workspace : List ℕ) (g : ℕ) → u ≡ Some n → b ≡ least_to workspace n → b ≡ None → none ≡ work_refusal g (work workspace u)
 unfolding work_refusal
-refusal_none {b} workspace u g f e t =
-    sym (ap (λ (x : Bool). cond x (some (NetNotZero g b.slot (net_at workspace b.slot))) none) t)
-    ∙ ap (slot_refusal g workspace) e
-    ∙ sym (ap (λ (x : Bool). cond x (some WorkspaceFull) (slot_refusal g workspace (least_to workspace u.used))) f)
+refusal_none {b} {u} {n} workspace g f e t =
+    ap (slot_refusal g workspace) (sym t ∙ e)
+    ∙ sym (ap (λ (v : Std.Option ℕ). work_refusal g (work workspace v)) f)

@@ -1,5 +1,5 @@
 // An entry is added to the slots in the workspace.
-ghost use Rattle.std.specs.Prelude.{◌≡◌, ◌+◌, ◌*◌, ◌≤◌, length};
+ghost use Rattle.std.specs.Prelude.{◌≡◌, ◌+◌, ◌*◌, ◌≤◌, Some, length};
 ghost use Rattle.field.specs.inner.Requires.{KnownPrime};
 ghost use Rattle.balance_slots.specs.inner.Work.{new_at, add_nonzero_at, step};
 ghost use Rattle.balance_slots.specs.inner.Chain.{Chained, SlotsLinked, ChainsLinked, plain, plain_work};
@@ -11,11 +11,10 @@ use crate::link::link;
 use crate::slot::{SLOT_WORDS, add_count, new_slot};
 use expression::words::clear;
 
-// How many slots are in use, whether one was missing, and how many of them are linked.
+// How many slots are in use, and how many of them are linked.
 #[derive(Clone, Copy)]
-pub struct LinkedUse {
+pub struct Linked {
     pub used: usize,
-    pub full: bool,
     pub linked: usize,
 }
 
@@ -39,65 +38,52 @@ fn add_slot(
     link(seed, heads, workspace, n)
 }
 
-// An entry goes to its tuple's slot, or to a new one; without room all is zero.
+// An entry goes to its tuple's slot, or to a new one. Without room all is zero, and there is no answer.
 fn add_nonzero(
     p: u32,
     seed: Seed,
     heads: &mut [u32],
     workspace: &mut [u32],
-    v: LinkedUse,
+    v: Linked,
     t: &[u32],
     count: u32,
-) -> LinkedUse
-    requires { KnownPrime p × (length t.now ≤ tuple_words) × ChainsLinked seed heads.old workspace.old v }
-    ensures { (plain_work workspace.new result ≡ add_nonzero_at p (plain_work workspace.old v) t.now count) × ChainsLinked seed heads.new workspace.new result }
+) -> Option<Linked>
+    requires { KnownPrime p × (length t.now ≤ tuple_words) × ChainsLinked seed heads.old workspace.old (Some v) }
+    ensures { (plain_work workspace.new result ≡ add_nonzero_at p (plain_work workspace.old (Some v)) t.now count) × ChainsLinked seed heads.new workspace.new result }
 {
     let n = v.used;
-    let m = v.linked;
-    let k = find(seed, heads, workspace, m, n, t);
+    let k = find(seed, heads, workspace, v.linked, n, t);
     if k < n {
         add_count(p, workspace, k, count);
-        return LinkedUse {
-            used: n,
-            full: false,
-            linked: m,
-        };
+        return Some(v);
     }
     if workspace.len() - SLOT_WORDS * n < SLOT_WORDS {
         clear(workspace);
         clear(heads);
-        return LinkedUse {
-            used: 0,
-            full: true,
-            linked: 0,
-        };
+        return None;
     }
-    let linked = add_slot(seed, heads, workspace, m, n, t, count);
-    LinkedUse {
+    let linked = add_slot(seed, heads, workspace, v.linked, n, t, count);
+    Some(Linked {
         used: n + 1,
-        full: false,
-        linked: linked,
-    }
+        linked,
+    })
 }
 
-// A count of 0 is skipped, and nothing is added after a slot was missing.
+// A count of 0 is skipped. None: a slot was missing.
 pub fn add(
     p: u32,
     seed: Seed,
     heads: &mut [u32],
     workspace: &mut [u32],
-    v: LinkedUse,
+    v: Linked,
     t: &[u32],
     count: u32,
-) -> LinkedUse
-    requires { KnownPrime p × (length t.now ≤ tuple_words) × ChainsLinked seed heads.old workspace.old v }
-    ensures { (plain_work workspace.new result ≡ step p (plain_work workspace.old v) (record { tuple = t.now; count = count })) × ChainsLinked seed heads.new workspace.new result }
+) -> Option<Linked>
+    requires { KnownPrime p × (length t.now ≤ tuple_words) × ChainsLinked seed heads.old workspace.old (Some v) }
+    ensures { (plain_work workspace.new result ≡ step p (plain_work workspace.old (Some v)) (record { tuple = t.now; count = count })) × ChainsLinked seed heads.new workspace.new result }
 {
-    if v.full {
-        return v;
-    }
     if count == 0 {
-        return v;
+        return Some(v);
     }
     add_nonzero(p, seed, heads, workspace, v, t, count)
 }

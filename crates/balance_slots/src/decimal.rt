@@ -2,8 +2,6 @@
 ghost use Rattle.std.specs.Prelude.{◌≡◌, ◌++◌, ◌≤◌, ◌<◌, length, drop, ltb};
 ghost use Rattle.balance_slots.specs.Decimal.{text, in_order, text_less, tuple_less};
 
-use expression::words::to_u64;
-
 // The decimal digits of x at the front of out; answers how many.
 pub fn push_digits(x: u32, out: &mut [u32]) -> usize
     requires { (x ≤ 4294967295) × (length (text x) ≤ length out.old) }
@@ -18,50 +16,29 @@ pub fn push_digits(x: u32, out: &mut [u32]) -> usize
     n + 1
 }
 
-// Whether a text is before another, digit by digit.
-pub fn digits_less(x: &[u32], y: &[u32]) -> bool
-    ensures { result ≡ in_order ltb x.now y.now }
-{
-    let mut i = 0;
-    while i < x.len() {
-        if y.len() <= i {
-            return false;
-        }
-        if x[i] != y[i] {
-            return x[i] < y[i];
-        }
-        i += 1;
-    }
-    i < y.len()
-}
-
 // Whether a word is before another by decimal text.
 pub fn word_less(a: u32, b: u32) -> bool
     ensures { result ≡ text_less a b }
 {
     let mut x = [0u32; 10];
     let mut y = [0u32; 10];
-    // Both words have at most ten digits, since they have 32 bits: what `to_u64` says of its result.
-    let a_bound = to_u64(a);
-    let b_bound = to_u64(b);
+    // Both words have at most ten digits, since they have 32 bits.
     let n = push_digits(a, &mut x);
     let m = push_digits(b, &mut y);
-    digits_less(&x[0..n], &y[0..m])
+    x[0..n] < y[0..m]
 }
 
-// Whether a tuple is before another.
+// Whether a tuple is before another. No `<` of slices: their words are ordered by text.
 pub fn tuple_less(x: &[u32], y: &[u32]) -> bool
     ensures { result ≡ tuple_less x.now y.now }
 {
-    let mut i = 0;
-    while i < x.len() {
+    for i in 0..x.len() {
         if y.len() <= i {
             return false;
         }
         if x[i] != y[i] {
             return word_less(x[i], y[i]);
         }
-        i += 1;
     }
-    i < y.len()
+    x.len() < y.len()
 }

@@ -33,16 +33,15 @@ pub fn hash(seed: Seed, s: &[u32], at: usize, n: usize) -> usize
     requires { at + n ≤ length s.now }
     ensures { (result ≡ hash seed (λ j. word s.now (at + j)) n) × (result < chains) }
 {
+    // `to_u64` says of its result that it has 32 bits, so that the products fit.
     let point = to_u64(seed.point);
     let factor = to_u64(seed.factor);
     let mut h: u64 = 1;
-    let mut j = 0;
-    while j < n {
+    for j in 0..n {
         // 2^31 is 1 modulo the prime: what is above 31 bits is added to what is below, twice, in place of a division.
         let x = h * point + to_u64(s[at + j]);
         let y = x % 2147483648 + x / 2147483648;
         h = y % 2147483648 + y / 2147483648;
-        j += 1;
     }
     (h * factor % HASH_PRIME % CHAINS) as usize
 }

@@ -6,7 +6,6 @@ ghost use Rattle.balance_slots.specs.Workspace.{slot_words};
 
 use crate::hash::{Seed, hash};
 use crate::slot::{SLOT_WORDS, TUPLE_WORD};
-use expression::words::to_usize;
 
 // The greatest number of slots before a linked one: its link has 28 bits.
 const MOST_LINKED: usize = 268435455;
@@ -24,7 +23,7 @@ pub fn link(seed: Seed, heads: &mut [u32], workspace: &mut [u32], i: usize) -> u
     if MOST_LINKED < i {
         return i;
     }
-    let h = hash(seed, workspace, slot + TUPLE_WORD, to_usize(width));
+    let h = hash(seed, workspace, slot + TUPLE_WORD, width as usize);
     let newest = heads[h];
     let linked = i + 1;
     workspace[slot] = width + 16 * newest;
@@ -37,13 +36,10 @@ pub fn link_slots(seed: Seed, heads: &mut [u32], workspace: &mut [u32], n: usize
     requires { (heads.old ≡ replicate chains 0) × (slot_words * n ≤ length workspace.old) }
     ensures { SlotsLinked seed heads.new workspace.new result 0 n workspace.old }
 {
-    let mut i = 0;
-    while i < n {
-        let linked = link(seed, heads, workspace, i);
-        if linked == i {
+    for i in 0..n {
+        if link(seed, heads, workspace, i) == i {
             return i;
         }
-        i += 1;
     }
     n
 }
@@ -53,10 +49,8 @@ pub fn unlink_slots(workspace: &mut [u32], n: usize)
     requires { slot_words * n ≤ length workspace.old }
     ensures { workspace.new ≡ plain workspace.old n }
 {
-    let mut i = 0;
-    while i < n {
+    for i in 0..n {
         let slot = SLOT_WORDS * i;
         workspace[slot] = workspace[slot] % 16;
-        i += 1;
     }
 }

@@ -5,7 +5,7 @@ ghost use Rattle.expression.specs.Words.{word};
 ghost use Rattle.balance_slots.specs.inner.Work.{added_at, new_words, new_at};
 ghost use Rattle.balance_slots.specs.Workspace.{slot_words, tuple_words};
 
-use expression::words::{to_u64, word_at};
+use expression::words::word_at;
 use field::word;
 
 // A slot has ten words: the width of its tuple, eight words for the tuple (zeros past the width), and the net.
@@ -18,21 +18,13 @@ pub const TUPLE_WORD: usize = 1;
 
 pub const NET_WORD: usize = 9;
 
-// How many slots are in use, and whether one was missing.
-#[derive(Clone, Copy)]
-pub struct SlotUse {
-    pub used: usize,
-    pub full: bool,
-}
-
 // A count is added to slot k's net.
 pub fn add_count(p: u32, workspace: &mut [u32], k: usize, count: u32)
     requires { KnownPrime p × (slot_words * k + slot_words ≤ length workspace.old) }
     ensures { workspace.new ≡ added_at p workspace.old k count }
 {
     let at = SLOT_WORDS * k + NET_WORD;
-    let net = word::reduce(p, to_u64(workspace[at]) + to_u64(count));
-    workspace[at] = net;
+    workspace[at] = word::reduce(p, u64::from(workspace[at]) + u64::from(count));
 }
 
 // The words of a new slot.
@@ -41,11 +33,8 @@ fn put_slot(out: &mut [u32], t: &[u32], count: u32)
     ensures { out.new ≡ new_words t.now count }
 {
     out[0] = t.len() as u32;
-    let mut j = 0;
-    while j < TUPLE_WORDS {
-        let value = word_at(t, j);
-        out[j + TUPLE_WORD] = value;
-        j += 1;
+    for j in 0..TUPLE_WORDS {
+        out[j + TUPLE_WORD] = word_at(t, j);
     }
     out[NET_WORD] = count;
 }
@@ -56,6 +45,5 @@ pub fn new_slot(workspace: &mut [u32], n: usize, t: &[u32], count: u32)
     ensures { workspace.new ≡ new_at workspace.old n t.now count }
 {
     let start = SLOT_WORDS * n;
-    let end = start + SLOT_WORDS;
-    put_slot(&mut workspace[start..end], t, count);
+    put_slot(&mut workspace[start..start + SLOT_WORDS], t, count);
 }

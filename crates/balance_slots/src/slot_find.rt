@@ -1,54 +1,30 @@
 // The slot of a tuple among slots that are not linked, one by one.
-ghost use Rattle.std.specs.Prelude.{◌≡◌, ◌+◌, ◌*◌, ◌-◌, ◌≤◌, length};
+ghost use Rattle.std.specs.Prelude.{◌≡◌, ◌&&◌, ◌+◌, ◌*◌, ◌-◌, ◌≤◌, eqb, length, take, drop};
 ghost use Rattle.lists.specs.Same.{same_list};
-ghost use Rattle.balance_slots.specs.inner.Work.{match_at, find_slot};
-ghost use Rattle.balance_slots.specs.Workspace.{slot_words, tuple_words};
+ghost use Rattle.balance_slots.specs.inner.Work.{find_slot};
+ghost use Rattle.balance_slots.specs.Workspace.{slot_words, tuple_words, tuple_word};
 
 use crate::slot::{SLOT_WORDS, TUPLE_WORD};
-use expression::words::to_usize;
 
-pub fn same_words(x: &[u32], y: &[u32]) -> bool
-    ensures { result ≡ same_list x.now y.now }
-{
-    if x.len() != y.len() {
-        return false;
-    }
-    let mut i = 0;
-    while i < x.len() {
-        if x[i] != y[i] {
-            return false;
-        }
-        i += 1;
-    }
-    true
-}
-
-// Whether slot k holds the tuple t.
-fn slot_matches(workspace: &[u32], t: &[u32], k: usize) -> bool
+// Whether slot k, whose tuple has so many words, holds the tuple t.
+pub fn holds(workspace: &[u32], k: usize, width: u32, t: &[u32]) -> bool
     requires { (length t.now ≤ tuple_words) × (slot_words * k + slot_words ≤ length workspace.now) }
-    ensures { result ≡ match_at workspace.now t.now k }
+    ensures { result ≡ (eqb width (length t.now) && same_list (take (length t.now) (drop (slot_words * k + tuple_word) workspace.now)) t.now) }
 {
-    let slot = SLOT_WORDS * k;
+    let start = SLOT_WORDS * k + TUPLE_WORD;
     let n = t.len();
-    if to_usize(workspace[slot]) != n {
-        return false;
-    }
-    let start = slot + TUPLE_WORD;
-    let end = start + n;
-    same_words(&workspace[start..end], t)
+    width as usize == n && &workspace[start..start + n] == t
 }
 
-// The slot of t among those from slot `first` on and before slot n, or n.
+// The slot of t among those from slot `first` on and before slot n, or n, as in the definition of that name.
 pub fn find_slot(workspace: &[u32], first: usize, n: usize, t: &[u32]) -> usize
     requires { (length t.now ≤ tuple_words) × (first ≤ n) × (slot_words * n ≤ length workspace.now) }
     ensures { result ≡ find_slot workspace.now t.now first (n - first) }
 {
-    let mut k = first;
-    while k < n {
-        if slot_matches(workspace, t, k) {
+    for k in first..n {
+        if holds(workspace, k, workspace[SLOT_WORDS * k], t) {
             return k;
         }
-        k += 1;
     }
     n
 }

@@ -1,24 +1,22 @@
 -- What the exported functions return and write: the number of the refusal, 0 where nothing is refused, its three details, and each lent output
 -- afterwards. Number and details are the answer, and are always told; refusals 1 to 12 leave every lent output as it was (SPECIFICATION,
 -- section 10.5), so that a definition takes what was lent.
-use Rattle.std.specs.Prelude.{ℕ, List}
+use Rattle.std.specs.Prelude.{ℕ, List, Result}
 use Rattle.std.proofs.Math.Option.{Option}
 use Rattle.expression.specs.Refusal.{answer_number, answer_details}
 use Rattle.expression.specs.declared.refusal.Refusal.{Refusal}
 use Rattle.lookup.specs.Lookups.{Lookups}
 use Rattle.lookup_challenges.specs.Prefixes as prefixes
-use Rattle.lookup_degree.specs.declared.constraint_degree.DegreeAnswer.{DegreeAnswer}
-use Rattle.lookup_buses.specs.declared.check_bus_widths.WidthsAnswer.{WidthsAnswer}
 use Rattle.lookup_builder.specs.FromInteractions as building
 use Rattle.lookup_count.specs.Count as count
 use Rattle.packing.specs.PackSameBus as packing
 use Rattle.logup.specs.Generation as generation
 use Rattle.balance.specs.Balance as balance
 use Rattle.delmatik_answers.specs.Generation.{generation_number, generation_details, generation_terminal}
-use Rattle.delmatik_answers.specs.Types.{degree_refused, degree_value, widths_refused, widest_value}
-use Rattle.delmatik_answers.specs.Packing.{packing_refused, packing_used}
-use Rattle.delmatik_answers.specs.Building.{building_refused, building_used}
-use Rattle.delmatik_answers.specs.Count.{count_refused, counted_words}
+use Rattle.delmatik_answers.specs.Refused.{refused}
+use Rattle.delmatik_answers.specs.Types.{number_written}
+use Rattle.delmatik_answers.specs.Packing.{packing_used}
+use Rattle.delmatik_answers.specs.Count.{counted_words}
 
 pub record ExportedVerdict : Type 0 where
   pub number : ℕ
@@ -50,13 +48,13 @@ pub record ExportedNumber : Type 0 where
   pub value : List ℕ
 
 -- the answer, and the lent number
-unfoldable pub exported_degree : DegreeAnswer → List ℕ → ExportedNumber
+unfoldable pub exported_degree : Result ℕ Refusal → List ℕ → ExportedNumber
 exported_degree a lent =
-    record { number = answer_number (degree_refused a); details = answer_details (degree_refused a); value = degree_value a lent }
+    record { number = answer_number (refused a); details = answer_details (refused a); value = number_written a lent }
 
-unfoldable pub exported_widest : WidthsAnswer → List ℕ → ExportedNumber
+unfoldable pub exported_widest : Result ℕ Refusal → List ℕ → ExportedNumber
 exported_widest a lent =
-    record { number = answer_number (widths_refused a); details = answer_details (widths_refused a); value = widest_value a lent }
+    record { number = answer_number (refused a); details = answer_details (refused a); value = number_written a lent }
 
 -- how much of each lent list is used; the lists
 pub record ExportedPacking : Type 0 where
@@ -69,8 +67,8 @@ pub record ExportedPacking : Type 0 where
 unfoldable pub exported_packing : packing.Outcome → List ℕ → ExportedPacking
 exported_packing o lent =
     record {
-      number = answer_number (packing_refused o.answer);
-      details = answer_details (packing_refused o.answer);
+      number = answer_number (refused o.answer);
+      details = answer_details (refused o.answer);
       used = packing_used o.answer lent;
       lists = o.lists;
     }
@@ -85,9 +83,9 @@ pub record ExportedBuilding : Type 0 where
 unfoldable pub exported_building : building.Outcome → List ℕ → ExportedBuilding
 exported_building o lent =
     record {
-      number = answer_number (building_refused o.answer);
-      details = answer_details (building_refused o.answer);
-      used = building_used o.answer lent;
+      number = answer_number (refused o.answer);
+      details = answer_details (refused o.answer);
+      used = number_written o.answer lent;
       lookups = o.lookups;
     }
 
@@ -118,8 +116,8 @@ pub record ExportedCount : Type 0 where
 unfoldable pub exported_count : count.Outcome → List ℕ → ExportedCount
 exported_count o lent =
     record {
-      number = answer_number (count_refused o.answer);
-      details = answer_details (count_refused o.answer);
+      number = answer_number (refused o.answer);
+      details = answer_details (refused o.answer);
       count = counted_words o.answer lent;
       nodes = o.nodes;
     }

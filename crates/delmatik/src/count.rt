@@ -5,8 +5,8 @@ ghost use Rattle.lookup_count.specs.Count.{count_of, from_i32_at, negated_at};
 ghost use Rattle.delmatik_answers.specs.Count.{count_words};
 ghost use Rattle.delmatik.specs.Exports.{exported_count};
 
-use delmatik_answers::answer::write_answer;
-use delmatik_answers::count::{count_verdict, write_count, write_counted};
+use delmatik_answers::answer::{verdict, write_answer};
+use delmatik_answers::count::{write_count, write_counted};
 use expression::choices::Choices;
 use lookup_count::count::{Count, bounded, from_i32, negated, provided};
 
@@ -25,7 +25,7 @@ pub fn delmatik_count_from_i32(
 {
     let a = from_i32(Choices { field, profile }, nodes, used, x);
     write_counted(a, count);
-    write_answer(count_verdict(a), details)
+    write_answer(verdict(a), details)
 }
 
 // The count with the other sign: a negation is added as node `used`. A refusal leaves count and nodes as they were.
@@ -49,7 +49,7 @@ pub fn delmatik_count_negated(
         Count { node, weight },
     );
     write_counted(a, count);
-    write_answer(count_verdict(a), details)
+    write_answer(verdict(a), details)
 }
 
 // A count that the table's constraints keep within a bound.

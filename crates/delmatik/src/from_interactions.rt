@@ -6,8 +6,8 @@ ghost use Rattle.delmatik_answers.specs.Types.{columns_of};
 ghost use Rattle.delmatik_answers.specs.Building.{kinds_of};
 ghost use Rattle.delmatik.specs.Exports.{exported_building};
 
-use delmatik_answers::answer::write_answer;
-use delmatik_answers::built::{building_verdict, write_built};
+use delmatik_answers::answer::{verdict, write_answer};
+use delmatik_answers::built::write_built;
 use expression::choices::Choices;
 use lookup::refusals::Columns;
 use lookup_builder::answer::Kinds;
@@ -66,5 +66,5 @@ pub fn delmatik_build(
         lookups_out,
     );
     write_built(a, used);
-    write_answer(building_verdict(a), details)
+    write_answer(verdict(a), details)
 }

@@ -9,8 +9,8 @@ ghost use Rattle.delmatik_answers.specs.Generation.{shape_of};
 ghost use Rattle.delmatik_answers.specs.Row.{exported_row};
 ghost use Rattle.delmatik.specs.Exports.{exported_generation};
 
-use delmatik_answers::answer::write_details;
-use delmatik_answers::generated::{generation_details, generation_number, write_terminal};
+use delmatik_answers::answer::{verdict, write_answer};
+use delmatik_answers::generated::write_terminal;
 use delmatik_answers::row::write_part;
 use expression::choices::Choices;
 use expression::sizes::Shape;
@@ -71,8 +71,7 @@ pub fn delmatik_generate(
         trace,
     );
     write_terminal(g, terminal);
-    write_details(generation_details(g), details_out);
-    generation_number(g)
+    write_answer(verdict(g), details_out)
 }
 
 // Row r of a trace of so many lookups and rows, as a part of it: where it begins, and how many words it has; 0 and 0 where it is empty.

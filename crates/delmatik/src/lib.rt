@@ -3,6 +3,7 @@
 // the call are of that field. `profile` is 1, the limits of the cabinet. `rule`, of generation and constraints, is 1, the tuple rule. Any
 // other number is refusal 1, before anything else is read. Powers and inverses have no limits and take the field alone; what refuses nothing
 // (a row of a trace, a count by its node) takes none of them.
+// Parameters stay numbers and slices, and the number of the refusal is returned: this is the C interface.
 
 #![tactic(auto)]
 

@@ -6,8 +6,8 @@ ghost use Rattle.packing.specs.PackSameBus.{packing_at};
 ghost use Rattle.delmatik_answers.specs.Types.{columns_of};
 ghost use Rattle.delmatik.specs.Exports.{exported_packing};
 
-use delmatik_answers::answer::write_answer;
-use delmatik_answers::packed::{packing_verdict, write_used};
+use delmatik_answers::answer::{verdict, write_answer};
+use delmatik_answers::packed::write_used;
 use expression::choices::Choices;
 use lookup::refusals::Columns;
 use packing_entry::pack_same_bus::pack_same_bus;
@@ -73,5 +73,5 @@ pub fn delmatik_pack(
         elements_out,
     );
     write_used(a, used);
-    write_answer(packing_verdict(a), details)
+    write_answer(verdict(a), details)
 }

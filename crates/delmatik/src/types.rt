@@ -7,8 +7,8 @@ ghost use Rattle.lookup_buses.specs.CheckBusWidths.{widths_at, lent_bus_tables};
 ghost use Rattle.delmatik_answers.specs.Types.{columns_of};
 ghost use Rattle.delmatik.specs.Exports.{exported_degree, exported_widest};
 
-use delmatik_answers::answer::write_answer;
-use delmatik_answers::values::{degree_verdict, widths_verdict, write_degree, write_widest};
+use delmatik_answers::answer::{verdict, write_answer};
+use delmatik_answers::values::write_number;
 use expression::choices::Choices;
 use lookup::refusals::Columns;
 use lookup_buses::check_bus_widths::check_bus_widths;
@@ -55,8 +55,8 @@ pub fn delmatik_degree(
         lookup,
         transition,
     );
-    write_degree(a, degree);
-    write_answer(degree_verdict(a), details)
+    write_number(a, degree);
+    write_answer(verdict(a), details)
 }
 
 // `check_bus_widths` of several tables: the widest bus tuple. `sizes` has for each table how many lookups, bytes of names and tuples it has.
@@ -76,6 +76,6 @@ pub fn delmatik_widths(
         widest.old }
 {
     let a = check_bus_widths(Choices { field, profile }, lookups, names, tuples, sizes);
-    write_widest(a, widest);
-    write_answer(widths_verdict(a), details)
+    write_number(a, widest);
+    write_answer(verdict(a), details)
 }

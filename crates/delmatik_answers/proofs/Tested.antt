@@ -2,8 +2,11 @@
 use mathlib.Core.Path.{◌≡◌, refl, sym, ap, ◌∙◌, subst}
 use mathlib.Core.Bool.{Bool, true, false, cond, ◌&&◌, false≢true}
 use mathlib.Core.List.{List}
-use Prim.Native.Nat.{ℕ, zero, suc, ◌<◌}
-use native.Mathlib.Omega.{arith}
+use Prim.Native.Nat.{ℕ, ◌<◌}
+use Rattle.std.proofs.Math.Option.{Option, none, some, some-ne-none}
+use Rattle.expression.specs.Refusal.{answer_number}
+use Rattle.expression.specs.declared.refusal.Refusal.{Refusal}
+use Rattle.expression.specs.declared.refusal.Refusal.TheVariants.{SizeAtOdds, WordTooLarge}
 use lib.Dec.{eqb, ltb}
 use lib.ListN.{length}
 use borrow.Author.Tests.{eqb-true, ltb-true}
@@ -14,21 +17,21 @@ use Rattle.field.specs.inner.Requires.{KnownPrime}
 use Rattle.field.specs.Known.{known_field, prime_of, w_of}
 use Rattle.field.proofs.laws.Known.{known-prime, w_below, certificate_of}
 use Rattle.field.proofs.laws.Slice.{element-whole}
-use Rattle.delmatik_answers.specs.Element.{four_below, element_number, element_after, exported_element}
+use Rattle.delmatik_answers.specs.Element.{four_below, element_refusal, element_after, exported_element}
 
 -- the test: the field's number and the sizes first
 module _ (field : ℕ) (a : List ℕ) (room : ℕ) where
-  pub refused : {k : Bool} → k ≡ known_field field → (k && eqb (length a) 4 && eqb room 4) ≡ false → 1 ≡ element_number field a room
-  unfolding element_number
-  refused {k} e t = rw (← e, t)
+  pub odd : {k : Bool} → k ≡ known_field field → (k && eqb (length a) 4 && eqb room 4) ≡ false → some SizeAtOdds ≡ element_refusal field a room
+  unfolding element_refusal
+  odd {k} e t = rw (← e, t)
 
   pub four-words : {k : Bool} → k ≡ known_field field → (k && eqb (length a) 4 && eqb room 4) ≡ true → length a ≡ 4
   four-words {k} e t =
       eqb-true (length a) 4 (both_right k (eqb (length a) 4) (both_left (k && eqb (length a) 4) (eqb room 4) t))
 
   pub compared : {k b : Bool} {p : ℕ} → k ≡ known_field field → (k && eqb (length a) 4 && eqb room 4) ≡ true → p ≡ prime_of field → b ≡ four_below p a
-      → cond b 0 2 ≡ element_number field a room
-  unfolding element_number
+      → cond b none (some WordTooLarge) ≡ element_refusal field a room
+  unfolding element_refusal
   compared {k} e t g h = rw (← e, t, ← g, ← h)
 
 -- four words below the field's prime, and room for four
@@ -50,18 +53,18 @@ words_of p a e =
     let k = below4 (ltb (at a 0) p) (ltb (at a 1) p) (ltb (at a 2) p) (ltb (at a 3) p) e in
     record { w0 = ltb-true _ _ k.0; w1 = ltb-true _ _ k.1; w2 = ltb-true _ _ k.2; w3 = ltb-true _ _ k.3 }
 
-pub tested : {n : ℕ} (field : ℕ) (a : List ℕ) (room : ℕ) → n ≡ element_number field a room → n ≡ 0 → Tested field a room
-unfolding element_number
-tested {n} field a room e z =
-    go (known_field field) (eqb (length a) 4) (eqb room 4) (four_below (prime_of field) a) refl refl refl (sym e ∙ z)
+pub tested : (field : ℕ) (a : List ℕ) (room : ℕ) → none ≡ element_refusal field a room → Tested field a room
+unfolding element_refusal
+tested field a room e =
+    go (known_field field) (eqb (length a) 4) (eqb room 4) (four_below (prime_of field) a) refl refl refl (sym e)
   where
-    go : (f x y b : Bool) → eqb (length a) 4 ≡ x → eqb room 4 ≡ y → four_below (prime_of field) a ≡ b → ◌≡◌ {A = ℕ} (cond (f && x && y) (cond b 0 2) 1) 0
-        → Tested field a room
+    go : (f x y b : Bool) → eqb (length a) 4 ≡ x → eqb room 4 ≡ y → four_below (prime_of field) a ≡ b
+        → ◌≡◌ {A = Option Refusal} (cond (f && x && y) (cond b none (some WordTooLarge)) (some SizeAtOdds)) none → Tested field a room
     go true true true true ex ey eb k = record { size = eqb-true _ _ ex; place = eqb-true _ _ ey; words = words_of (prime_of field) a eb }
-    go true true true false ex ey eb k = absurd (omega arith)
-    go true true false b ex ey eb k = absurd (omega arith)
-    go true false y b ex ey eb k = absurd (omega arith)
-    go false x y b ex ey eb k = absurd (omega arith)
+    go true true true false ex ey eb k = absurd (some-ne-none _ k)
+    go true true false b ex ey eb k = absurd (some-ne-none _ k)
+    go true false y b ex ey eb k = absurd (some-ne-none _ k)
+    go false x y b ex ey eb k = absurd (some-ne-none _ k)
 
 -- the prime and the value of X⁴ as the code reads them, and the words of the element
 module _ {p w : ℕ} (field : ℕ) (e : p ≡ prime_of field) (f : w ≡ w_of field) where
@@ -82,13 +85,8 @@ module _ {p w : ℕ} (field : ℕ) (e : p ≡ prime_of field) (f : w ≡ w_of fi
       → y ≡ op (prime_of field) (w_of field) a
   computed {x} {y} {a} op t k h = h ∙ (λ i. op (e i) (f i) ((k ∙ element-whole a t.size) i))
 
--- a refused call leaves the output as it was
-pub untouched : (n : ℕ) (element before : List ℕ) → (n ≡ 0 → ⊥) → before ≡ element_after n element before
-untouched zero element before h = absurd (h refl)
-untouched (suc n) element before h = refl
-
 -- the number and the output are the exported ones
-pub element_is : {n k : ℕ} {after : List ℕ} (element before : List ℕ) → n ≡ k → after ≡ element_after n element before
-    → record { number = n; out = after } ≡ exported_element k element before
+pub element_is : {n : ℕ} {o r : Option Refusal} {after : List ℕ} (element before : List ℕ) → n ≡ answer_number o → o ≡ r → after ≡ element_after o element before
+    → record { number = n; out = after } ≡ exported_element r element before
 unfolding exported_element
-element_is {n} element before e f = (λ i. record { number = n; out = f i }) ∙ ap (λ (x : ℕ). exported_element x element before) e
+element_is element before e q f = (λ i. record { number = e i; out = f i }) ∙ ap (λ (x : Option Refusal). exported_element x element before) q

@@ -1,3 +1,4 @@
+pub mod Refused
 pub mod Building
 pub mod Element
 pub mod Generation
@@ -6,3 +7,4 @@ pub mod Types
 pub mod Packing
 pub mod Count
 pub mod Row
+pub mod laws

@@ -1,28 +1,14 @@
 // Building's answer as numbers.
 ghost use Rattle.std.specs.Prelude.{◌≡◌};
-ghost use Rattle.expression.specs.Refusal.{refusal};
-ghost use Rattle.delmatik_answers.specs.Building.{building_refused, building_used};
+ghost use Rattle.delmatik_answers.specs.Types.{number_written};
 
-use expression::refusal::Verdict;
-use lookup_builder::answer::BuildingAnswer;
+use expression::refusal::Refusal;
 
-pub fn building_verdict(a: BuildingAnswer) -> Verdict
-    ensures { refusal result ≡ building_refused a }
+// How many words are used; a refusal writes nothing. Beside `write_number`, since a usize is no u64 before it is written.
+pub fn write_built(a: Result<usize, Refusal>, out: &mut [u64; 1])
+    ensures { out.new ≡ number_written a out.old }
 {
-    match a {
-        BuildingAnswer::Built(_) => Verdict::Accepted,
-        BuildingAnswer::Refused(f) => Verdict::Refused(f),
-    }
-}
-
-// How many words are used; a refusal writes nothing.
-pub fn write_built(a: BuildingAnswer, out: &mut [u64; 1])
-    ensures { out.new ≡ building_used a out.old }
-{
-    match a {
-        BuildingAnswer::Built(n) => {
-            *out = [n as u64];
-        }
-        BuildingAnswer::Refused(_) => {}
+    if let Ok(n) = a {
+        *out = [n as u64];
     }
 }

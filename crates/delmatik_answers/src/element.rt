@@ -1,7 +1,10 @@
 // Powers and inverses of one extension element, for callers that hold four words.
 ghost use Rattle.std.specs.Prelude.{◌≡◌, length};
-ghost use Rattle.delmatik_answers.specs.Element.{four_below, element_number, exported_power, exported_inverse};
+ghost use Rattle.expression.specs.Refusal.{refusal};
+ghost use Rattle.delmatik_answers.specs.Element.{four_below, element_refusal, exported_power, exported_inverse};
 
+use expression::numbers;
+use expression::refusal::Refusal;
 use field::extension;
 use field::modulus::{known_field, prime_of, w_of};
 
@@ -13,23 +16,25 @@ fn below(p: u32, a: &[u32]) -> bool
     (a[0] < p) & (a[1] < p) & (a[2] < p) & (a[3] < p)
 }
 
-// 1 where the field is unknown or a or out is not four words, 2 where a word is not below p, else 0.
-fn test(field: u32, a: &[u32], out: &[u32]) -> u32
-    ensures { result ≡ element_number field a.now (length out.now) }
+// Refusal 1 where the field is unknown or a or out is not four words, 2 where a word is not below p.
+fn test(field: u32, a: &[u32], out: &[u32]) -> Result<(), Refusal>
+    ensures { refusal result ≡ element_refusal field a.now (length out.now) }
 {
     if !(known_field(field) & (a.len() == 4) & (out.len() == 4)) {
-        return 1;
+        return Err(Refusal::SizeAtOdds);
     }
-    if below(prime_of(field), a) { 0 } else { 2 }
+    if !below(prime_of(field), a) {
+        return Err(Refusal::WordTooLarge);
+    }
+    Ok(())
 }
 
 // a to the power n.
 pub fn power(field: u32, a: &[u32], n: u32, out: &mut [u32]) -> u32
     ensures { record { number = result; out = out.new } ≡ exported_power field a.now n out.old }
 {
-    let number = test(field, a, out);
-    if number != 0 {
-        return number;
+    if let Err(f) = test(field, a, out) {
+        return numbers::number(f);
     }
     extension::store(
         out,
@@ -42,9 +47,8 @@ pub fn power(field: u32, a: &[u32], n: u32, out: &mut [u32]) -> u32
 pub fn inverse(field: u32, a: &[u32], out: &mut [u32]) -> u32
     ensures { record { number = result; out = out.new } ≡ exported_inverse field a.now out.old }
 {
-    let number = test(field, a, out);
-    if number != 0 {
-        return number;
+    if let Err(f) = test(field, a, out) {
+        return numbers::number(f);
     }
     extension::store(
         out,

@@ -4,59 +4,35 @@ ghost use Rattle.expression.specs.Refusal.{the_details};
 ghost use Rattle.logup.specs.Generation.{answer_of};
 ghost use Rattle.delmatik_answers.specs.Generation.{generation_number, generation_details, marked_words, generation_terminal};
 
-use expression::numbers;
-use expression::refusal::ThreeDetails;
-use logup::logup::Generated;
+use crate::answer::{details, number, verdict};
+use expression::refusal::{Refusal, ThreeDetails};
+use lookup::types::LookupTerminal;
 
 // The number of an answer: 0 where nothing is refused.
-pub fn generation_number(g: Generated) -> u32
+pub fn generation_number(g: Result<Option<LookupTerminal>, Refusal>) -> u32
     ensures { result ≡ generation_number (answer_of g) }
 {
-    match g {
-        Generated::Terminal(_) => 0,
-        Generated::Absent => 0,
-        Generated::Refused(f) => numbers::number(f),
-    }
+    number(verdict(g))
 }
 
-pub fn generation_details(g: Generated) -> ThreeDetails
+pub fn generation_details(g: Result<Option<LookupTerminal>, Refusal>) -> ThreeDetails
     ensures { the_details result ≡ generation_details (answer_of g) }
 {
-    match g {
-        Generated::Terminal(_) => ThreeDetails {
-            first: 0,
-            second: 0,
-            third: 0,
-        },
-        Generated::Absent => ThreeDetails {
-            first: 0,
-            second: 0,
-            third: 0,
-        },
-        Generated::Refused(f) => numbers::details(f),
-    }
+    details(verdict(g))
 }
 
 // 1 and the terminal's four words, or zeros where there is none.
-fn put_terminal(g: Generated, out: &mut [u32; 5])
+fn put_terminal(g: Result<Option<LookupTerminal>, Refusal>, out: &mut [u32; 5])
     ensures { out.new ≡ marked_words (answer_of g).terminal }
 {
-    match g {
-        Generated::Terminal(t) => {
-            let e = t.0;
-            *out = [1u32, e.c0, e.c1, e.c2, e.c3];
-        }
-        Generated::Absent => {
-            *out = [0u32, 0, 0, 0, 0];
-        }
-        Generated::Refused(_) => {
-            *out = [0u32, 0, 0, 0, 0];
-        }
-    }
+    *out = match g {
+        Ok(Some(LookupTerminal(e))) => [1, e.c0, e.c1, e.c2, e.c3],
+        Ok(None) | Err(_) => [0; 5],
+    };
 }
 
 // The terminal; refusals 1 to 12 write nothing.
-pub fn write_terminal(g: Generated, out: &mut [u32; 5])
+pub fn write_terminal(g: Result<Option<LookupTerminal>, Refusal>, out: &mut [u32; 5])
     ensures { out.new ≡ generation_terminal (answer_of g) out.old }
 {
     let n = generation_number(g);

@@ -1,22 +1,20 @@
 // Packing's answer as numbers.
-ghost use Rattle.std.specs.Prelude.{◌≡◌, [], ◌∷◌};
+ghost use Rattle.std.specs.Prelude.{◌≡◌};
 ghost use Rattle.expression.specs.Refusal.{refusal};
-ghost use Rattle.delmatik_answers.specs.Packing.{packing_refused, packing_used};
+ghost use Rattle.delmatik_answers.specs.Packing.{counts_words, packing_refused, packing_used};
 
-use expression::refusal::Verdict;
-use packing::answer::{Counts, PackingAnswer};
+use crate::answer::verdict;
+use expression::refusal::Refusal;
+use packing::answer::Counts;
 
-pub fn packing_verdict(a: PackingAnswer) -> Verdict
+pub fn packing_verdict(a: Result<Counts, Refusal>) -> Result<(), Refusal>
     ensures { refusal result ≡ packing_refused a }
 {
-    match a {
-        PackingAnswer::Packed(_) => Verdict::Accepted,
-        PackingAnswer::Refused(f) => Verdict::Refused(f),
-    }
+    verdict(a)
 }
 
 pub fn write_counts(c: Counts, out: &mut [u64; 6])
-    ensures { out.new ≡ c.lookups ∷ c.names ∷ c.tuples ∷ c.multiplicities ∷ c.flags ∷ c.elements ∷ [] }
+    ensures { out.new ≡ counts_words c }
 {
     *out = [
         c.lookups as u64,
@@ -29,13 +27,10 @@ pub fn write_counts(c: Counts, out: &mut [u64; 6])
 }
 
 // How much of each list is used; a refusal writes nothing.
-pub fn write_used(a: PackingAnswer, out: &mut [u64; 6])
+pub fn write_used(a: Result<Counts, Refusal>, out: &mut [u64; 6])
     ensures { out.new ≡ packing_used a out.old }
 {
-    match a {
-        PackingAnswer::Packed(c) => {
-            write_counts(c, out);
-        }
-        PackingAnswer::Refused(_) => {}
+    if let Ok(c) = a {
+        write_counts(c, out);
     }
 }

@@ -4,14 +4,13 @@ ghost use Rattle.logup_constraints.specs.Refusals.{terminal_of};
 ghost use Rattle.delmatik_answers.specs.Constraints.{marked_terminal};
 
 use field::extension::Ext;
-use logup_constraints::eval_all::Terminal;
 use lookup::types::LookupTerminal;
 
-pub fn marked_terminal(mark: u32, c0: u32, c1: u32, c2: u32, c3: u32) -> Terminal
+pub fn marked_terminal(mark: u32, c0: u32, c1: u32, c2: u32, c3: u32) -> Option<LookupTerminal>
     ensures { terminal_of result ≡ marked_terminal mark c0 c1 c2 c3 }
 {
     if mark == 0 {
-        return Terminal::Absent;
+        return None;
     }
-    Terminal::Given(LookupTerminal(Ext { c0, c1, c2, c3 }))
+    Some(LookupTerminal(Ext { c0, c1, c2, c3 }))
 }

@@ -3,20 +3,20 @@ use mathlib.Core.Path.{◌≡◌, refl, sym, ap, ap₂, ◌∙◌}
 use mathlib.Core.Bool.{Bool, true, ◌&&◌}
 use mathlib.Core.List.{List, [], ◌∷◌, ◌++◌, map}
 use Prim.Native.Nat.{ℕ}
+use Rattle.std.specs.Prelude.{Option, Some}
 use lib.ListN.{length}
 use Rattle.wire.specs.Room.{fit}
 use Rattle.wire.specs.inner.Place.{all_less, filled}
-use Rattle.wire.specs.declared.room.Left.{Left}
 use Rattle.wire.specs.laws.Room.{fit-told}
 
 -- what the first lists leave, and what the others leave of it
-less_more : (left : Left) (xs ys : List (List ℕ)) → all_less left (map length (xs ++ ys)) ≡ all_less (all_less left (map length xs)) (map length ys)
+less_more : (left : Option ℕ) (xs ys : List (List ℕ)) → all_less left (map length (xs ++ ys)) ≡ all_less (all_less left (map length xs)) (map length ys)
 less_more left [] ys = refl
 less_more left (x ∷ xs) ys = less_more (all_less left (length x ∷ [])) xs ys
 
-pub both_told : (xs ys zs : List (List ℕ)) (room other : List ℕ) {l m k : Left} {b d : Bool}
-    → l ≡ all_less (record { fits = true; words = length room }) (map length xs) → m ≡ all_less l (map length ys) → b ≡ filled m
-    → k ≡ all_less (record { fits = true; words = length other }) (map length zs) → d ≡ filled k → (b && d) ≡ (fit (xs ++ ys) room && fit zs other)
+pub both_told : (xs ys zs : List (List ℕ)) (room other : List ℕ) {l m k : Option ℕ} {b d : Bool}
+    → l ≡ all_less (Some (length room)) (map length xs) → m ≡ all_less l (map length ys) → b ≡ filled m
+    → k ≡ all_less (Some (length other)) (map length zs) → d ≡ filled k → (b && d) ≡ (fit (xs ++ ys) room && fit zs other)
 both_told xs ys zs room other e f g h q =
-    let more = f ∙ ap (λ (l : Left). all_less l (map length ys)) e ∙ sym (less_more _ xs ys) in
+    let more = f ∙ ap (λ (l : Option ℕ). all_less l (map length ys)) e ∙ sym (less_more _ xs ys) in
     ap₂ ◌&&◌ (fit-told (xs ++ ys) room more g) (fit-told zs other h q)

@@ -1,5 +1,5 @@
 -- Packing for a caller that holds bytes: what is answered, and what stands in the lent bytes and rooms afterwards, for every input.
-use Rattle.std.specs.Prelude.{ℕ, cond, ◌&&◌, List, ◌∷◌}
+use Rattle.std.specs.Prelude.{ℕ, cond, ◌&&◌, List, ◌∷◌, Err, Result}
 use Rattle.expression.specs.Choices.{known}
 use Rattle.expression.specs.Refusal.{answer_number, answer_details}
 use Rattle.expression.specs.declared.choices.Choices.{Choices}
@@ -7,11 +7,11 @@ use Rattle.expression.specs.declared.refusal.Refusal.TheVariants.{SizeAtOdds}
 use Rattle.lookup.specs.Lookups.{Lookups}
 use Rattle.lookup.specs.declared.refusals.Columns.{Columns}
 use Rattle.packing.specs.PackSameBus.{Outcome, packing_at}
-use Rattle.packing.specs.declared.answer.PackingAnswer.{PackingAnswer}
-use Rattle.packing.specs.declared.answer.PackingAnswer.TheVariants.{Refused}
 use Rattle.delmatik_answers.specs.Packing.{packing_refused, packing_used}
 use Rattle.wire.specs.Wire.{words_of}
 use Rattle.wire.specs.Room.{fit, flat, all_words}
+use Rattle.expression.specs.declared.refusal.Refusal.{Refusal}
+use Rattle.packing.specs.declared.answer.Counts.{Counts}
 use Rattle.delmatik_bytes.specs.Bytes.{decoded_lookups, encoded_lookups, lookup_lists}
 
 pub record Packing : Type 0 where
@@ -26,7 +26,7 @@ pub record Packing : Type 0 where
   pub out_room : List ℕ
 
 -- an answer, and what was lent for `used`
-abbrev pub answered : PackingAnswer → List ℕ → Lookups → List ℕ → List ℕ → Packing
+abbrev pub answered : Result Counts Refusal → List ℕ → Lookups → List ℕ → List ℕ → Packing
 answered a used lists room out_room =
     record {
       number = answer_number (packing_refused a);
@@ -46,4 +46,4 @@ unfoldable pub packing_on_bytes : Choices → ℕ → Columns → List ℕ → L
 packing_on_bytes c limit columns nodes l lent used room out_room =
     cond (known c && fit (nodes ∷ lookup_lists l) room && fit (lookup_lists lent) out_room)
     (in_bytes (packing_at c limit columns (words_of nodes) (decoded_lookups l) (decoded_lookups lent)) used (all_words (nodes ∷ lookup_lists l)))
-    (answered (Refused SizeAtOdds) used lent room out_room)
+    (answered (Err SizeAtOdds) used lent room out_room)

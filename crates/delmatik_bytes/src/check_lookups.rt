@@ -10,8 +10,8 @@ ghost use Rattle.delmatik_bytes.specs.inner.Words.{balance_on_words};
 use balance_entry::debug_util::check_lookups;
 use delmatik_answers::answer::write_answer;
 use expression::choices::{Choices, known};
-use expression::refusal::{Refusal, Verdict};
-use wire::room::{Ends, Left, fill, fill_five, filled, less, less_five};
+use expression::refusal::Refusal;
+use wire::room::{Ends, fill, fill_five, filled, less, less_five};
 use wire::words::encode;
 
 // Balance on the words in a room: main, preprocessed, public values, nodes and sizes end at these places, and then the lists of the lookups.
@@ -23,33 +23,23 @@ fn check_in(
     names: &[u8],
     seed: u64,
     workspace: &mut [u32],
-) -> Verdict
+) -> Result<(), Refusal>
     requires { Ordered front back (length room.now) }
     ensures { record { refusal = refusal result; workspace = workspace.new } ≡ balance_on_words choices names.now (parts room.now 0 (both_ends front back)) workspace.old }
 {
-    let a = front.first;
-    let b = front.second;
-    let c = front.third;
-    let d = front.fourth;
-    let e = front.fifth;
-    let f = back.first;
-    let g = back.second;
-    let h = back.third;
-    let i = back.fourth;
-    let j = back.fifth;
     check_lookups(
         choices,
-        &room[d..e],
-        &room[0..a],
-        &room[a..b],
-        &room[b..c],
-        &room[c..d],
-        &room[e..f],
+        &room[front.fourth..front.fifth],
+        &room[0..front.first],
+        &room[front.first..front.second],
+        &room[front.second..front.third],
+        &room[front.third..front.fourth],
+        &room[front.fifth..back.first],
         names,
-        &room[f..g],
-        &room[g..h],
-        &room[h..i],
-        &room[i..j],
+        &room[back.first..back.second],
+        &room[back.second..back.third],
+        &room[back.third..back.fourth],
+        &room[back.fourth..back.fifth],
         seed,
         workspace,
     )
@@ -84,13 +74,10 @@ pub fn delmatik_balance_bytes(
 {
     let choices = Choices { field, profile };
     if !known(choices) {
-        return write_answer(Verdict::Refused(Refusal::SizeAtOdds), details);
+        return write_answer(Err(Refusal::SizeAtOdds), details);
     }
     let left = less_five(
-        Left {
-            fits: true,
-            words: room.len(),
-        },
+        Some(room.len()),
         main.len(),
         preprocessed.len(),
         public_values.len(),
@@ -105,15 +92,9 @@ pub fn delmatik_balance_bytes(
         flags.len(),
         elements.len(),
     );
-    let workspace_left = less(
-        Left {
-            fits: true,
-            words: workspace_room.len(),
-        },
-        workspace.len(),
-    );
+    let workspace_left = less(Some(workspace_room.len()), workspace.len());
     if !(filled(left) & filled(workspace_left)) {
-        return write_answer(Verdict::Refused(Refusal::SizeAtOdds), details);
+        return write_answer(Err(Refusal::SizeAtOdds), details);
     }
     let front = fill_five(main, preprocessed, public_values, nodes, sizes, room, 0);
     let back = fill_five(

@@ -14,13 +14,17 @@ use delmatik_answers::generated::{generation_details, generation_number, write_t
 use expression::choices::{Choices, known, known_rule};
 use expression::refusal::Refusal;
 use expression::sizes::Shape;
-use logup::logup::Generated;
 use logup_generation::generate_permutation::generate;
-use wire::room::{Ends, Left, fill, fill_five, filled, less, less_five};
+use lookup::types::LookupTerminal;
+use wire::room::{Ends, fill, fill_five, filled, less, less_five};
 use wire::words::encode;
 
 // The number of an answer; its details and the terminal are written.
-fn tell_generated(g: Generated, terminal: &mut [u32; 5], details_out: &mut [u64; 3]) -> u32
+fn tell_generated(
+    g: Result<Option<LookupTerminal>, Refusal>,
+    terminal: &mut [u32; 5],
+    details_out: &mut [u64; 3],
+) -> u32
     ensures { (result ≡ generation_number (answer_of g)) × (details_out.new ≡ generation_details (answer_of g)) × (terminal.new ≡ generation_terminal (answer_of g) terminal.old) }
 {
     write_terminal(g, terminal);
@@ -38,35 +42,25 @@ fn generate_in(
     back: Ends,
     names: &[u8],
     trace: &mut [u32],
-) -> Generated
+) -> Result<Option<LookupTerminal>, Refusal>
     requires { Ordered front back (length room.now) }
     ensures { record { answer = answer_of result; buffer = trace.new } ≡ generation_on_words choices rule shape names.now (parts room.now 0 (both_ends front back)) trace.old }
 {
-    let a = front.first;
-    let b = front.second;
-    let c = front.third;
-    let d = front.fourth;
-    let e = front.fifth;
-    let f = back.first;
-    let g = back.second;
-    let h = back.third;
-    let i = back.fourth;
-    let j = back.fifth;
     generate(
         choices,
         rule,
         shape,
-        &room[0..a],
-        &room[a..b],
-        &room[b..c],
-        &room[c..d],
-        &room[e..f],
+        &room[0..front.first],
+        &room[front.first..front.second],
+        &room[front.second..front.third],
+        &room[front.third..front.fourth],
+        &room[front.fifth..back.first],
         names,
-        &room[f..g],
-        &room[g..h],
-        &room[h..i],
-        &room[i..j],
-        &room[d..e],
+        &room[back.first..back.second],
+        &room[back.second..back.third],
+        &room[back.third..back.fourth],
+        &room[back.fourth..back.fifth],
+        &room[front.fourth..front.fifth],
         trace,
     )
 }
@@ -107,17 +101,10 @@ pub fn delmatik_generate_bytes(
 {
     let choices = Choices { field, profile };
     if !(known(choices) & known_rule(rule)) {
-        return tell_generated(
-            Generated::Refused(Refusal::SizeAtOdds),
-            terminal,
-            details_out,
-        );
+        return tell_generated(Err(Refusal::SizeAtOdds), terminal, details_out);
     }
     let left = less_five(
-        Left {
-            fits: true,
-            words: room.len(),
-        },
+        Some(room.len()),
         main.len(),
         preprocessed.len(),
         public_values.len(),
@@ -132,19 +119,9 @@ pub fn delmatik_generate_bytes(
         flags.len(),
         elements.len(),
     );
-    let trace_left = less(
-        Left {
-            fits: true,
-            words: trace_room.len(),
-        },
-        trace.len(),
-    );
+    let trace_left = less(Some(trace_room.len()), trace.len());
     if !(filled(left) & filled(trace_left)) {
-        return tell_generated(
-            Generated::Refused(Refusal::SizeAtOdds),
-            terminal,
-            details_out,
-        );
+        return tell_generated(Err(Refusal::SizeAtOdds), terminal, details_out);
     }
     let front = fill_five(
         main,

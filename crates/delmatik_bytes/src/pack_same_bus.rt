@@ -21,16 +21,16 @@ ghost use Rattle.delmatik_bytes.specs.inner.Sized.{Sized};
 use delmatik_answers::answer::write_answer;
 use delmatik_answers::packed::{packing_verdict, write_used};
 use expression::choices::{Choices, known, limits_of};
-use expression::refusal::{Refusal, Verdict};
+use expression::refusal::Refusal;
 use expression::sizes::Limits;
 use field::modulus::prime_of;
 use lookup::refusals::{Columns, form_refusal};
 use lookup::types::LOOKUP_WORDS;
-use packing::answer::{Counts, PackingAnswer};
+use packing::answer::Counts;
 use packing_columns::columns::Plan;
 use packing_columns::layout::{counts_hold, counts_of, plan_of, plan_refusal};
-use packing_columns::lookup_lists::{LookupList, copy, write_list, write_names};
-use wire::room::{Ends, Left, fill, fill_five, filled, less, less_five};
+use packing_columns::lookup_lists::{LookupList, copy, write_list};
+use wire::room::{Ends, fill, fill_five, filled, less, less_five};
 use wire::words::encode;
 
 // The parts of one list that belong to these lookups, at the front of a part of the room.
@@ -72,19 +72,17 @@ fn write_in(
         (lookups_in names_out.old (parts room.old 0 (five_ends ends))) }
 {
     let n = lookups.len() / LOOKUP_WORDS;
-    let m = plan.columns;
-    let used = LOOKUP_WORDS * m;
-    let sorted = plan.order;
-    let order = &sorted[0..n];
-    let heads = plan.heads;
-    let words = plan.words;
-    let a = ends.first;
-    let b = ends.second;
-    let c = ends.third;
-    let d = ends.fourth;
-    let e = ends.fifth;
-    copy(&words[0..used], &mut room[0..a]);
-    write_names(lookups, &heads[0..m], names, names_out);
+    let used = LOOKUP_WORDS * plan.columns;
+    let order = &plan.order[0..n];
+    copy(&plan.words[0..used], &mut room[0..ends.first]);
+    write_list(
+        LookupList::Names,
+        lookups,
+        &[],
+        &plan.heads[0..plan.columns],
+        names,
+        names_out,
+    );
     write_at(
         LookupList::Tuples,
         lookups,
@@ -92,8 +90,8 @@ fn write_in(
         order,
         tuples,
         room,
-        a,
-        b,
+        ends.first,
+        ends.second,
     );
     write_at(
         LookupList::Multiplicities,
@@ -102,10 +100,19 @@ fn write_in(
         order,
         multiplicities,
         room,
-        b,
-        c,
+        ends.second,
+        ends.third,
     );
-    write_at(LookupList::Flags, lookups, tuples, order, flags, room, c, d);
+    write_at(
+        LookupList::Flags,
+        lookups,
+        tuples,
+        order,
+        flags,
+        room,
+        ends.third,
+        ends.fourth,
+    );
     write_at(
         LookupList::Elements,
         lookups,
@@ -113,8 +120,8 @@ fn write_in(
         order,
         elements,
         room,
-        d,
-        e,
+        ends.fourth,
+        ends.fifth,
     );
 }
 
@@ -132,7 +139,7 @@ fn pack_formed(
     ends: Ends,
     names_out: &mut [u8],
     room: &mut [u32],
-) -> PackingAnswer
+) -> Result<Counts, Refusal>
     requires { Formed limits nodes.now (lent_lookups lookups.now names.now tuples.now multiplicities.now flags.now elements.now)
         × ListsExact lookups.now names.now tuples.now × Split ends (length room.old)
         × (holds (lookups_in names_out.old (parts room.old 0 (five_ends ends))) (lent_lookups lookups.now names.now tuples.now multiplicities.now flags.now elements.now) ≡ true) }
@@ -153,25 +160,20 @@ fn pack_formed(
         elements,
     );
     let counts = counts_of(plan, lookups, tuples);
-    let v = plan_refusal(plan.over, lookups, names, tuples);
-    match v {
-        Verdict::Refused(f) => PackingAnswer::Refused(f),
-        Verdict::Accepted => {
-            write_in(
-                plan,
-                lookups,
-                names,
-                tuples,
-                multiplicities,
-                flags,
-                elements,
-                ends,
-                names_out,
-                room,
-            );
-            PackingAnswer::Packed(counts)
-        }
-    }
+    plan_refusal(plan.over, lookups, names, tuples)?;
+    write_in(
+        plan,
+        lookups,
+        names,
+        tuples,
+        multiplicities,
+        flags,
+        elements,
+        ends,
+        names_out,
+        room,
+    );
+    Ok(counts)
 }
 
 // Packing of the words in a room: the nodes, and then the lists of the lookups. What is written goes into the parts of another room.
@@ -186,23 +188,18 @@ fn pack_in(
     out_ends: Ends,
     names_out: &mut [u8],
     out_room: &mut [u32],
-) -> PackingAnswer
+) -> Result<Counts, Refusal>
     requires { After nodes_end ends (length room.now) × Split out_ends (length out_room.old) }
     ensures { record { answer = result; lists = lookups_in names_out.new (parts out_room.new 0 (five_ends out_ends)) }
         ≡ packing_on_words choices limit columns names.now (parts room.now 0 (nodes_end ∷ five_ends ends))
         (lookups_in names_out.old (parts out_room.old 0 (five_ends out_ends))) }
 {
-    let a = ends.first;
-    let b = ends.second;
-    let c = ends.third;
-    let d = ends.fourth;
-    let e = ends.fifth;
     let nodes = &room[0..nodes_end];
-    let lookups = &room[nodes_end..a];
-    let tuples = &room[a..b];
-    let multiplicities = &room[b..c];
-    let flags = &room[c..d];
-    let elements = &room[d..e];
+    let lookups = &room[nodes_end..ends.first];
+    let tuples = &room[ends.first..ends.second];
+    let multiplicities = &room[ends.second..ends.third];
+    let flags = &room[ends.third..ends.fourth];
+    let elements = &room[ends.fourth..ends.fifth];
     let own = Counts {
         lookups: lookups.len(),
         names: names.len(),
@@ -220,10 +217,10 @@ fn pack_in(
         elements: out_ends.fifth - out_ends.fourth,
     };
     if !counts_hold(own, lent) {
-        return PackingAnswer::Refused(Refusal::SizeAtOdds);
+        return Err(Refusal::SizeAtOdds);
     }
     let limits = limits_of(choices.profile);
-    let v = form_refusal(
+    form_refusal(
         limits,
         prime_of(choices.field),
         columns,
@@ -234,24 +231,21 @@ fn pack_in(
         multiplicities,
         flags,
         elements,
-    );
-    match v {
-        Verdict::Refused(f) => PackingAnswer::Refused(f),
-        Verdict::Accepted => pack_formed(
-            limits,
-            limit,
-            nodes,
-            lookups,
-            names,
-            tuples,
-            multiplicities,
-            flags,
-            elements,
-            out_ends,
-            names_out,
-            out_room,
-        ),
-    }
+    )?;
+    pack_formed(
+        limits,
+        limit,
+        nodes,
+        lookups,
+        names,
+        tuples,
+        multiplicities,
+        flags,
+        elements,
+        out_ends,
+        names_out,
+        out_room,
+    )
 }
 
 // The words of the five parts of a room as bytes.
@@ -268,21 +262,16 @@ fn encode_five(
     ensures { (lookups_out.new ∷ tuples_out.new ∷ multiplicities_out.new ∷ flags_out.new ∷ elements_out.new ∷ [])
         ≡ map bytes_of (parts room.now 0 (five_ends ends)) }
 {
-    let a = ends.first;
-    let b = ends.second;
-    let c = ends.third;
-    let d = ends.fourth;
-    let e = ends.fifth;
-    encode(&room[0..a], lookups_out);
-    encode(&room[a..b], tuples_out);
-    encode(&room[b..c], multiplicities_out);
-    encode(&room[c..d], flags_out);
-    encode(&room[d..e], elements_out);
+    encode(&room[0..ends.first], lookups_out);
+    encode(&room[ends.first..ends.second], tuples_out);
+    encode(&room[ends.second..ends.third], multiplicities_out);
+    encode(&room[ends.third..ends.fourth], flags_out);
+    encode(&room[ends.fourth..ends.fifth], elements_out);
 }
 
 // The number of an answer; its details are written, and how many words, or bytes of names, of each list are used. A refusal leaves these numbers as
 // they were.
-fn tell_packed(a: PackingAnswer, used: &mut [u64; 6], details: &mut [u64; 3]) -> u32
+fn tell_packed(a: Result<Counts, Refusal>, used: &mut [u64; 6], details: &mut [u64; 3]) -> u32
     ensures { (result ≡ answer_number (packing_refused a)) × (details.new ≡ answer_details (packing_refused a)) × (used.new ≡ packing_used a used.old) }
 {
     write_used(a, used);
@@ -332,15 +321,9 @@ pub fn delmatik_pack_bytes(
 {
     let choices = Choices { field, profile };
     if !known(choices) {
-        return tell_packed(PackingAnswer::Refused(Refusal::SizeAtOdds), used, details);
+        return tell_packed(Err(Refusal::SizeAtOdds), used, details);
     }
-    let left = less(
-        Left {
-            fits: true,
-            words: room.len(),
-        },
-        nodes.len(),
-    );
+    let left = less(Some(room.len()), nodes.len());
     let left = less_five(
         left,
         lookups.len(),
@@ -350,10 +333,7 @@ pub fn delmatik_pack_bytes(
         elements.len(),
     );
     let out_left = less_five(
-        Left {
-            fits: true,
-            words: out_room.len(),
-        },
+        Some(out_room.len()),
         lookups_out.len(),
         tuples_out.len(),
         multiplicities_out.len(),
@@ -361,7 +341,7 @@ pub fn delmatik_pack_bytes(
         elements_out.len(),
     );
     if !(filled(left) & filled(out_left)) {
-        return tell_packed(PackingAnswer::Refused(Refusal::SizeAtOdds), used, details);
+        return tell_packed(Err(Refusal::SizeAtOdds), used, details);
     }
     let nodes_end = fill(nodes, room, 0);
     let ends = fill_five(

@@ -1,12 +1,10 @@
 -- The number and the three details of each refusal. SPECIFICATION, section 1.4: "its details are zero unless the table there names them";
 -- the table is section 10.1.
-use Rattle.std.specs.Prelude.{ℕ, Bool, true, false, List, [], ◌∷◌}
+use Rattle.std.specs.Prelude.{ℕ, Bool, true, false, List, [], ◌∷◌, Result, Err, Ok}
 use Rattle.std.proofs.Math.Option.{Option, none, some}
 use Rattle.expression.specs.declared.refusal.Refusal.{Refusal}
 use Rattle.expression.specs.declared.refusal.Refusal.TheVariants.{SizeAtOdds, WordTooLarge, NodeInvalid, DegreeTooHigh, LookupInvalid, WidthsDiffer, WeightTooLarge, ChallengesMissing, RowsMissing, TraceTooSmall, TerminalMisplaced, WidthZero, FlagNotBinary, TwoFlags, DenominatorZero, WorkspaceFull, ConstraintNotZero, NetNotZero, HeightSumTooLarge, TerminalsNotZero}
 use Rattle.expression.specs.declared.refusal.ThreeDetails.{ThreeDetails}
-use Rattle.expression.specs.declared.refusal.Verdict.{Verdict}
-use Rattle.expression.specs.declared.refusal.Verdict.TheVariants.{Accepted, Refused}
 
 abbrev pub number : Refusal → ℕ
 number SizeAtOdds = 1
@@ -56,10 +54,14 @@ details TerminalsNotZero = 0 ∷ 0 ∷ 0 ∷ []
 abbrev pub the_details : ThreeDetails → List ℕ
 the_details d = d.first ∷ d.second ∷ d.third ∷ []
 
+-- what a test answers
+abbrev pub Verdict : Type 0
+Verdict = Result (Unit {0}) Refusal
+
 -- what a verdict refuses, if anything
 abbrev pub refusal : Verdict → Option Refusal
-refusal Accepted = none
-refusal (Refused f) = some f
+refusal (Ok u) = none
+refusal (Err f) = some f
 
 -- "Number 0 with zero details means that nothing is refused"
 abbrev pub answer_number : Option Refusal → ℕ

@@ -5,7 +5,8 @@ ghost use Rattle.expression.specs.Choices.{known, known_profile, known_rule, lim
 use crate::sizes::{Limits, cabinet, gateway};
 use field::modulus::known_field;
 
-// The field, by the number that the field crate gives it, and the profile, whose limits the call keeps.
+// The field, by the number that the field crate gives it, and the profile, whose limits the call keeps. Numbers and no enums: they are words of
+// the C interface, known or not.
 #[derive(Clone, Copy)]
 pub struct Choices {
     pub field: u32,
@@ -26,6 +27,7 @@ fn known_profile(profile: u32) -> bool
     (profile == CABINET_NUMBER) | (profile == GATEWAY_NUMBER)
 }
 
+#[tactic(auto, unfolding(crate::specs::Choices::known))]
 pub fn known(choices: Choices) -> bool
     ensures { result ≡ known choices }
 {
@@ -33,6 +35,7 @@ pub fn known(choices: Choices) -> bool
 }
 
 // The tuple rule, which generation and constraints take beside the other choices.
+#[tactic(auto, unfolding(crate::specs::Choices::known_rule))]
 pub fn known_rule(rule: u32) -> bool
     ensures { result ≡ known_rule rule }
 {
@@ -40,6 +43,7 @@ pub fn known_rule(rule: u32) -> bool
 }
 
 // The limits of a known profile: a call that names another is refused before they are read.
+#[tactic(auto, unfolding(crate::specs::Choices::limits_of))]
 pub fn limits_of(profile: u32) -> Limits
     ensures { result ≡ limits_of profile }
 {

@@ -24,6 +24,7 @@ pub enum Node {
     Difference(u32, u32),
     Product(u32, u32),
     Negation(u32),
+    // of no known kind: a node too, since refusal 2 reads the nodes before refusal 3 tests their kinds
     Unknown,
 }
 
@@ -51,6 +52,7 @@ pub fn decode(k: u32, a: u32, b: u32) -> Node
 }
 
 // Node i of a table.
+#[tactic(auto, unfolding(crate::specs::Node::node))]
 pub fn node_at(nodes: &[u32], i: usize) -> Node
     requires { node_words * i + node_words ≤ length nodes.now }
     ensures { result ≡ node nodes.now i }

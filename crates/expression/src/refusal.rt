@@ -1,9 +1,8 @@
 // The refusals of SPECIFICATION, section 10.1, one for each of its numbers 1 to 20, with the details that its table names.
-ghost use Rattle.std.specs.Prelude.{◌≡◌};
-ghost use Rattle.lists.specs.Count.{or_else};
-ghost use Rattle.expression.specs.Refusal.{refusal};
+ghost use Rattle.std.specs.Prelude.{◌≡◌, [], ◌∷◌};
+ghost use Rattle.expression.specs.Refusal.{number, details, the_details};
 
-#[derive(Clone, Copy)]
+#[derive(Clone, Copy, PartialEq, Eq, Debug)]
 pub enum Refusal {
     // 1: a size is over a limit or at odds with a slice, or main has no columns.
     SizeAtOdds,
@@ -47,27 +46,66 @@ pub enum Refusal {
     TerminalsNotZero,
 }
 
-// What a test answers: nothing is wrong, or the first refusal.
-#[derive(Clone, Copy)]
-pub enum Verdict {
-    Accepted,
-    Refused(Refusal),
-}
-
 // The three details of an answer.
-#[derive(Clone, Copy)]
+#[derive(Clone, Copy, PartialEq, Eq, Debug)]
 pub struct ThreeDetails {
     pub first: u64,
     pub second: u64,
     pub third: u64,
 }
 
-// The first of two verdicts that refuses.
-pub fn first(a: Verdict, b: Verdict) -> Verdict
-    ensures { refusal result ≡ or_else (refusal a) (refusal b) }
+fn three(first: u64, second: u64, third: u64) -> ThreeDetails
+    ensures { the_details result ≡ first ∷ second ∷ third ∷ [] }
 {
-    match a {
-        Verdict::Accepted => b,
-        Verdict::Refused(_) => a,
+    ThreeDetails {
+        first,
+        second,
+        third,
+    }
+}
+
+impl Refusal {
+    // Its number.
+    pub fn number(self) -> u32
+        ensures { result ≡ number self }
+    {
+        match self {
+            Refusal::SizeAtOdds => 1,
+            Refusal::WordTooLarge => 2,
+            Refusal::NodeInvalid => 3,
+            Refusal::DegreeTooHigh => 4,
+            Refusal::LookupInvalid => 5,
+            Refusal::WidthsDiffer(_, _, _) => 6,
+            Refusal::WeightTooLarge => 7,
+            Refusal::ChallengesMissing => 8,
+            Refusal::RowsMissing => 9,
+            Refusal::TraceTooSmall => 10,
+            Refusal::TerminalMisplaced => 11,
+            Refusal::WidthZero => 12,
+            Refusal::FlagNotBinary(_, _) => 13,
+            Refusal::TwoFlags(_, _) => 14,
+            Refusal::DenominatorZero(_, _) => 15,
+            Refusal::WorkspaceFull => 16,
+            Refusal::ConstraintNotZero(_, _) => 17,
+            Refusal::NetNotZero(_, _, _) => 18,
+            Refusal::HeightSumTooLarge(_) => 19,
+            Refusal::TerminalsNotZero => 20,
+        }
+    }
+
+    // Its details, zero unless SPECIFICATION, section 10.1, names them.
+    pub fn details(self) -> ThreeDetails
+        ensures { the_details result ≡ details self }
+    {
+        match self {
+            Refusal::WidthsDiffer(lookup, expected, actual) => three(lookup, expected, actual),
+            Refusal::FlagNotBinary(row, lookup)
+            | Refusal::TwoFlags(row, lookup)
+            | Refusal::DenominatorZero(row, lookup) => three(row, lookup, 0),
+            Refusal::ConstraintNotZero(row, place) => three(row, place, 0),
+            Refusal::NetNotZero(group, slot, net) => three(group, slot, net),
+            Refusal::HeightSumTooLarge(sum) => three(sum, 0, 0),
+            _ => three(0, 0, 0),
+        }
     }
 }

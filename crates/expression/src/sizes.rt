@@ -28,6 +28,7 @@ pub struct Limits {
 }
 
 // The limits of SPECIFICATION, section 11: of the cabinet, and of the gateway, which differ in three.
+#[tactic(auto, unfolding(crate::specs::Limits::cabinet))]
 pub fn cabinet() -> Limits
     ensures { result ≡ cabinet }
 {
@@ -48,6 +49,7 @@ pub fn cabinet() -> Limits
     }
 }
 
+#[tactic(auto, unfolding(crate::specs::Limits::gateway))]
 pub fn gateway() -> Limits
     ensures { result ≡ gateway }
 {

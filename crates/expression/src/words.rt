@@ -20,13 +20,13 @@ pub fn to_usize(x: u32) -> usize
 pub fn low_half(n: u64) -> u32
     ensures { result ≡ low_half n }
 {
-    (n % 4294967296) as u32
+    (n % (1 << 32)) as u32
 }
 
 pub fn high_half(n: u64) -> u32
     ensures { result ≡ high_half n }
 {
-    (n / 4294967296) as u32
+    (n >> 32) as u32
 }
 
 // Each word is below n.
@@ -34,10 +34,8 @@ pub fn all_below(n: u32, s: &[u32]) -> bool
     ensures { result ≡ all_below n s.now }
 {
     let mut ok = true;
-    let mut i = 0;
-    while i < s.len() {
-        ok = ok & (s[i] < n);
-        i += 1;
+    for x in s {
+        ok &= (*x < n);
     }
     ok
 }
@@ -47,10 +45,8 @@ pub fn all_within(n: u32, s: &[u32]) -> bool
     ensures { result ≡ all_within n s.now }
 {
     let mut ok = true;
-    let mut i = 0;
-    while i < s.len() {
-        ok = ok & (s[i] <= n);
-        i += 1;
+    for x in s {
+        ok &= (*x <= n);
     }
     ok
 }
@@ -59,7 +55,7 @@ pub fn all_within(n: u32, s: &[u32]) -> bool
 pub fn word_at(s: &[u32], i: usize) -> u32
     ensures { result ≡ word s.now i }
 {
-    if i < s.len() { s[i] } else { 0 }
+    s.get(i).copied().unwrap_or(0)
 }
 
 // The sum of word f of the first n records of so many words each: where what the n-th record counts begins.
@@ -68,11 +64,8 @@ pub fn total_of(s: &[u32], words: usize, f: usize, n: usize) -> usize
     ensures { (result ≡ total (λ i. word s.now (words * i + f)) n) × (result ≤ n * 4294967295) }
 {
     let mut sum: usize = 0;
-    let mut i = 0;
-    while i < n {
-        let w = to_usize(word_at(s, words * i + f));
-        sum = sum + w;
-        i += 1;
+    for i in 0..n {
+        sum += word_at(s, words * i + f) as usize;
     }
     sum
 }
@@ -81,20 +74,12 @@ pub fn total_of(s: &[u32], words: usize, f: usize, n: usize) -> usize
 pub fn saturate_u32(n: u64) -> u32
     ensures { result ≡ min n 4294967295 }
 {
-    if n <= 4294967295 {
-        n as u32
-    } else {
-        4294967295
-    }
+    n.min(u64::from(u32::MAX)) as u32
 }
 
 // Every word zero.
 pub fn clear(s: &mut [u32])
     ensures { s.new ≡ replicate (length s.old) 0 }
 {
-    let mut i = 0;
-    while i < s.len() {
-        s[i] = 0;
-        i += 1;
-    }
+    s.fill(0);
 }

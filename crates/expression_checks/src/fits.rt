@@ -7,6 +7,7 @@ use expression::node::NODE_WORDS;
 use expression::sizes::{Limits, Shape};
 
 // The sizes of the traces and of the public values are within the limits, and main has columns.
+#[tactic(auto, unfolding(expression::specs::Tests::traces_within))]
 pub fn traces_within(limits: Limits, shape: Shape, public_values: &[u32]) -> bool
     ensures { result ≡ traces_within limits shape public_values.now }
 {
@@ -19,6 +20,7 @@ pub fn traces_within(limits: Limits, shape: Shape, public_values: &[u32]) -> boo
 }
 
 // The nodes are within the limit.
+#[tactic(auto, unfolding(expression::specs::Tests::nodes_within))]
 pub fn nodes_within(limits: Limits, nodes: &[u32]) -> bool
     ensures { result ≡ nodes_within limits nodes.now }
 {
@@ -26,6 +28,7 @@ pub fn nodes_within(limits: Limits, nodes: &[u32]) -> bool
 }
 
 // The traces have the words that their sizes say. The limits have been tested, so that the products stay in 64 bits.
+#[tactic(auto, unfolding(expression::specs::Tests::traces_fit))]
 pub fn traces_fit(shape: Shape, main: &[u32], preprocessed: &[u32]) -> bool
     requires { Small shape }
     ensures { result ≡ traces_fit shape main.now preprocessed.now }
@@ -35,6 +38,7 @@ pub fn traces_fit(shape: Shape, main: &[u32], preprocessed: &[u32]) -> bool
 }
 
 // Each node has its three words.
+#[tactic(auto, unfolding(expression::specs::Tests::nodes_fit))]
 pub fn nodes_fit(nodes: &[u32]) -> bool
     ensures { result ≡ nodes_fit nodes.now }
 {

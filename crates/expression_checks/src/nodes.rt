@@ -1,4 +1,5 @@
-// Refusals 2 and 3: the words are below p, and the nodes are known.
+// Refusals 2 and 3: the words are below p, and the nodes are known. The loops go by number and not by chunks of three words: a node's operands
+// are compared with its number.
 ghost use Rattle.std.specs.Prelude.{◌≡◌};
 ghost use Rattle.expression.specs.Window.{lent_traces};
 ghost use Rattle.expression.specs.Tests.{traces_below, constant_below, constants_below, node_known, nodes_known};
@@ -6,9 +7,10 @@ ghost use Rattle.expression.specs.declared.sizes.Shape as Sizes;
 
 use expression::node::{NODE_WORDS, Node, ROW_OFFSETS, node_at};
 use expression::sizes::Shape;
-use expression::words::{all_below, to_usize};
+use expression::words::all_below;
 
 // Each word of the traces and of the public values is below p, whatever their sizes.
+#[tactic(auto, unfolding(expression::specs::Tests::traces_below))]
 pub fn traces_below(p: u32, main: &[u32], preprocessed: &[u32], public_values: &[u32]) -> bool
     ensures { (s : Sizes.Shape) → result ≡ traces_below p (lent_traces s main.now preprocessed.now public_values.now) }
 {
@@ -30,10 +32,8 @@ pub fn constants_below(p: u32, nodes: &[u32]) -> bool
 {
     let n = nodes.len() / NODE_WORDS;
     let mut ok = true;
-    let mut i = 0;
-    while i < n {
-        ok = ok & constant_below(p, node_at(nodes, i));
-        i += 1;
+    for i in 0..n {
+        ok &= constant_below(p, node_at(nodes, i));
     }
     ok
 }
@@ -42,17 +42,14 @@ fn node_known(shape: Shape, publics: usize, i: usize, n: Node) -> bool
     ensures { result ≡ node_known shape publics i n }
 {
     match n {
-        Node::Constant(_) => true,
-        Node::Main(o, a) => (o < ROW_OFFSETS) & (to_usize(a) < shape.main_width),
-        Node::Preprocessed(o, a) => (o < ROW_OFFSETS) & (to_usize(a) < shape.pre_width),
-        Node::PublicValue(a) => to_usize(a) < publics,
-        Node::FirstRow => true,
-        Node::LastRow => true,
-        Node::Transition => true,
-        Node::Sum(a, b) => (to_usize(a) < i) & (to_usize(b) < i),
-        Node::Difference(a, b) => (to_usize(a) < i) & (to_usize(b) < i),
-        Node::Product(a, b) => (to_usize(a) < i) & (to_usize(b) < i),
-        Node::Negation(a) => to_usize(a) < i,
+        Node::Constant(_) | Node::FirstRow | Node::LastRow | Node::Transition => true,
+        Node::Main(o, a) => (o < ROW_OFFSETS) & ((a as usize) < shape.main_width),
+        Node::Preprocessed(o, a) => (o < ROW_OFFSETS) & ((a as usize) < shape.pre_width),
+        Node::PublicValue(a) => (a as usize) < publics,
+        Node::Sum(a, b) | Node::Difference(a, b) | Node::Product(a, b) => {
+            ((a as usize) < i) & ((b as usize) < i)
+        }
+        Node::Negation(a) => (a as usize) < i,
         Node::Unknown => false,
     }
 }
@@ -63,10 +60,8 @@ pub fn nodes_known(shape: Shape, publics: usize, nodes: &[u32]) -> bool
 {
     let n = nodes.len() / NODE_WORDS;
     let mut ok = true;
-    let mut i = 0;
-    while i < n {
-        ok = ok & node_known(shape, publics, i, node_at(nodes, i));
-        i += 1;
+    for i in 0..n {
+        ok &= node_known(shape, publics, i, node_at(nodes, i));
     }
     ok
 }

@@ -3,31 +3,25 @@ ghost use Rattle.std.specs.Prelude.{◌≡◌, ◌++◌, ◌+◌, ◌-◌, ◌<�
 ghost use Rattle.expression.specs.Words.{word};
 ghost use Rattle.expression.specs.Node.{node_count};
 ghost use Rattle.expression.specs.Window.{lent_traces, window};
-ghost use Rattle.expression.specs.Values.{bit, node_value, row_values};
+ghost use Rattle.expression.specs.Values.{node_value, row_values};
 ghost use Rattle.expression.specs.Requires.{Slots, Evaluable, NodeReadable};
 ghost use Rattle.expression_eval.specs.inner.Window.{rows_ahead};
 
 use crate::window::{read, rows_ahead};
 use expression::node::{NODE_WORDS, Node, node_at};
 use expression::sizes::Shape;
-use expression::words::to_usize;
 use field::word;
-
-fn bit(b: bool) -> u32
-    ensures { (result ≤ 1) × (result ≡ bit b) }
-{
-    if b { 1 } else { 0 }
-}
 
 // The value of a lower node.
 fn value(vals: &[u32; 1024], a: u32) -> u32
     requires { a < 1024 }
     ensures { result ≡ word vals.now a }
 {
-    vals[to_usize(a)]
+    vals[a as usize]
 }
 
 // The value of a node on row r, from the traces and the values of the lower nodes. Rows of both traces are counted around main's height.
+#[tactic(auto, unfolding(expression::specs::Values::node_value, expression::specs::Window::window))]
 fn node_value(
     p: u32,
     shape: Shape,
@@ -45,17 +39,17 @@ fn node_value(
     match n {
         Node::Constant(a) => a,
         Node::Main(o, a) => {
-            let ahead = rows[to_usize(o)];
+            let ahead = rows[o as usize];
             read(main, shape.main_width, shape.height, r, ahead, o, a)
         }
         Node::Preprocessed(o, a) => {
-            let ahead = rows[to_usize(o)];
+            let ahead = rows[o as usize];
             read(preprocessed, shape.pre_width, shape.height, r, ahead, o, a)
         }
-        Node::PublicValue(a) => public_values[to_usize(a)],
-        Node::FirstRow => bit(r == 0),
-        Node::LastRow => bit(r + 1 == shape.height),
-        Node::Transition => bit(!(r + 1 == shape.height)),
+        Node::PublicValue(a) => public_values[a as usize],
+        Node::FirstRow => u32::from(r == 0),
+        Node::LastRow => u32::from(r + 1 == shape.height),
+        Node::Transition => u32::from(r + 1 != shape.height),
         Node::Sum(a, b) => word::add(p, value(vals, a), value(vals, b)),
         Node::Difference(a, b) => word::sub(p, value(vals, a), value(vals, b)),
         Node::Product(a, b) => word::mul(p, value(vals, a), value(vals, b)),
@@ -80,9 +74,8 @@ pub fn row_values(
 {
     let rows = rows_ahead(r, shape.height);
     let n = nodes.len() / NODE_WORDS;
-    let mut i = 0;
-    while i < n {
-        let v = node_value(
+    for i in 0..n {
+        vals[i] = node_value(
             p,
             shape,
             main,
@@ -93,8 +86,6 @@ pub fn row_values(
             node_at(nodes, i),
             vals,
         );
-        vals[i] = v;
-        i += 1;
     }
 }
 
@@ -118,8 +109,8 @@ pub fn pair_values(
     let next = rows[1];
     let next_rows = rows_ahead(next, shape.height);
     let n = nodes.len() / NODE_WORDS;
-    let mut i = 0;
-    while i < n {
+    for i in 0..n {
+        // Both values are made before either is stored, so that they need not wait for each other.
         let node = node_at(nodes, i);
         let current = node_value(
             p,
@@ -145,6 +136,5 @@ pub fn pair_values(
         );
         vals[i] = current;
         next_vals[i] = following;
-        i += 1;
     }
 }

@@ -4,9 +4,8 @@ ghost use Rattle.expression.specs.Words.{word};
 ghost use Rattle.expression.specs.Window.{row_of};
 ghost use Rattle.expression_eval.specs.inner.Window.{rows_ahead, at_offset};
 
-use expression::words::to_usize;
-
 // Row r of a trace, as the part of it that is lent.
+#[tactic(auto, unfolding(expression::specs::Window::row_of))]
 pub fn row_of(s: &[u32], width: usize, height: usize, r: usize) -> &[u32]
     requires { (r < height) × (width * height ≤ length s.now) }
     ensures { result.now ≡ row_of s.now width r }
@@ -41,30 +40,18 @@ pub struct VerticalPair<'a> {
     pub bottom: &'a [u32],
 }
 
-pub fn from_two_rows<'a>(top: &'a [u32], bottom: &'a [u32]) -> VerticalPair<'a>
-    ensures { (result.top ≡ top.entry) × (result.bottom ≡ bottom.entry) }
-{
-    VerticalPair { top, bottom }
-}
-
-// Word a of the row at an offset, 0 the current row: the work, on two rows.
-pub fn at_offset<'a>(top: &'a [u32], bottom: &'a [u32], o: u32, a: u32) -> u32
-    requires { (a < length top.now) × (a < length bottom.now) }
-    ensures { result ≡ word (at_offset top.now bottom.now o) a }
-{
-    if o == 0 {
-        top[to_usize(a)]
-    } else {
-        bottom[to_usize(a)]
+impl<'a> VerticalPair<'a> {
+    // Word a of the row at an offset, 0 the current row.
+    pub fn at_offset(self, o: u32, a: u32) -> u32
+        requires { (a < length self.top.now) × (a < length self.bottom.now) }
+        ensures { result ≡ word (at_offset self.entry.top.now self.entry.bottom.now o) a }
+    {
+        if o == 0 {
+            self.top[a as usize]
+        } else {
+            self.bottom[a as usize]
+        }
     }
-}
-
-// The same of the window.
-pub fn shown<'a>(pair: VerticalPair<'a>, o: u32, a: u32) -> u32
-    requires { (a < length pair.top.now) × (a < length pair.bottom.now) }
-    ensures { result ≡ word (at_offset pair.entry.top.now pair.entry.bottom.now o) a }
-{
-    at_offset(pair.top, pair.bottom, o, a)
 }
 
 // Word a of the row at an offset from row r of a trace, which is row `ahead`: the window on the two is held here.
@@ -80,6 +67,9 @@ pub fn read<'a>(
     requires { (r < height) × (ahead < height) × (ahead ≡ (r + o) % height) × (width * height ≤ length s.now) × (a < width) }
     ensures { result ≡ word (row_of s.now width ((r + o) % height)) a }
 {
-    let window = from_two_rows(row_of(s, width, height, r), row_of(s, width, height, ahead));
-    shown(window, o, a)
+    let window = VerticalPair {
+        top: row_of(s, width, height, r),
+        bottom: row_of(s, width, height, ahead),
+    };
+    window.at_offset(o, a)
 }

@@ -1,4 +1,4 @@
-// Elements of four words, c0 + c1·X + c2·X² + c3·X³ with X⁴ = w.
+// Elements of four words, c0 + c1·X + c2·X² + c3·X³ with X⁴ = w. Functions and no methods: each takes p first, as those on words do.
 ghost use Rattle.std.specs.Prelude.{◌≡◌, ◌<◌, ◌≤◌, ◌+◌, ◌*◌, length};
 ghost use Rattle.field.specs.Modulus.{Certificate};
 ghost use Rattle.field.specs.inner.Requires.{KnownPrime};
@@ -7,7 +7,7 @@ ghost use Rattle.field.specs.Ext.{ext_words};
 
 use crate::word;
 
-#[derive(Clone, Copy)]
+#[derive(Clone, Copy, PartialEq, Eq)]
 pub struct Ext {
     pub c0: u32,
     pub c1: u32,
@@ -15,6 +15,23 @@ pub struct Ext {
     pub c3: u32,
 }
 
+impl Ext {
+    pub const ZERO: Ext = Ext {
+        c0: 0,
+        c1: 0,
+        c2: 0,
+        c3: 0,
+    };
+
+    pub const ONE: Ext = Ext {
+        c0: 1,
+        c1: 0,
+        c2: 0,
+        c3: 0,
+    };
+}
+
+#[tactic(auto, unfolding(crate::specs::Element::add4))]
 pub fn add(p: u32, a: Ext, b: Ext) -> Ext
     requires { KnownPrime p × Word4 p (ext_words a) × Word4 p (ext_words b) }
     ensures { Word4 p (ext_words result) × (ext_words result ≡ add4 p (ext_words a) (ext_words b)) }
@@ -27,6 +44,7 @@ pub fn add(p: u32, a: Ext, b: Ext) -> Ext
     }
 }
 
+#[tactic(auto, unfolding(crate::specs::Element::sub4))]
 pub fn sub(p: u32, a: Ext, b: Ext) -> Ext
     requires { KnownPrime p × Word4 p (ext_words a) × Word4 p (ext_words b) }
     ensures { Word4 p (ext_words result) × (ext_words result ≡ sub4 p (ext_words a) (ext_words b)) }
@@ -39,6 +57,7 @@ pub fn sub(p: u32, a: Ext, b: Ext) -> Ext
     }
 }
 
+#[tactic(auto, unfolding(crate::specs::Element::neg4))]
 pub fn neg(p: u32, a: Ext) -> Ext
     requires { KnownPrime p × Word4 p (ext_words a) }
     ensures { Word4 p (ext_words result) × (ext_words result ≡ neg4 p (ext_words a)) }
@@ -52,6 +71,7 @@ pub fn neg(p: u32, a: Ext) -> Ext
 }
 
 // A word times an element.
+#[tactic(auto, unfolding(crate::specs::Element::scale4))]
 pub fn scale(p: u32, z: u32, a: Ext) -> Ext
     requires { KnownPrime p × (z < p) × Word4 p (ext_words a) }
     ensures { Word4 p (ext_words result) × (ext_words result ≡ scale4 p z (ext_words a)) }
@@ -85,12 +105,7 @@ pub fn power(p: u32, w: u32, b: Ext, n: u32) -> Ext
     requires { KnownPrime p × (w < p) × Word4 p (ext_words b) }
     ensures { Word4 p (ext_words result) × (ext_words result ≡ power4 p w (ext_words b) n) }
 {
-    let mut r = Ext {
-        c0: 1,
-        c1: 0,
-        c2: 0,
-        c3: 0,
-    };
+    let mut r = Ext::ONE;
     let mut x = b;
     let mut k = n;
     while 0 < k {
@@ -98,30 +113,25 @@ pub fn power(p: u32, w: u32, b: Ext, n: u32) -> Ext
             r = mul(p, w, r, x);
         }
         x = mul(p, w, x, x);
-        k = k / 2;
+        k /= 2;
     }
     r
 }
 
 // The first and the third word of a(X)·a(-X) = n0 + n1·X². The minus signs are in the factors, so that each is one sum of four products.
-pub fn norm_lo(p: u32, w: u32, a: Ext) -> u32
+pub fn norm2(p: u32, w: u32, a: Ext) -> (u32, u32)
     requires { KnownPrime p × (w < p) × Certificate p w × Word4 p (ext_words a) }
-    ensures { (result < p) × (result ≡ at (norm2 p w (ext_words a)) 0) }
+    ensures { (result.0 < p) × (result.1 < p) × (result.0 ≡ at (norm2 p w (ext_words a)) 0) × (result.1 ≡ at (norm2 p w (ext_words a)) 2) }
 {
     let v1 = word::mul(p, w, a.c1);
     let v2 = word::mul(p, w, a.c2);
-    let minus3 = word::neg(p, a.c3);
-    word::dot4(p, a.c0, a.c0, v2, a.c2, v1, minus3, v1, minus3)
-}
-
-pub fn norm_hi(p: u32, w: u32, a: Ext) -> u32
-    requires { KnownPrime p × (w < p) × Certificate p w × Word4 p (ext_words a) }
-    ensures { (result < p) × (result ≡ at (norm2 p w (ext_words a)) 2) }
-{
     let v3 = word::mul(p, w, a.c3);
     let minus1 = word::neg(p, a.c1);
     let minus3 = word::neg(p, a.c3);
-    word::dot4(p, a.c0, a.c2, a.c0, a.c2, a.c1, minus1, v3, minus3)
+    (
+        word::dot4(p, a.c0, a.c0, v2, a.c2, v1, minus3, v1, minus3),
+        word::dot4(p, a.c0, a.c2, a.c0, a.c2, a.c1, minus1, v3, minus3),
+    )
 }
 
 // The norm, from these two words.
@@ -156,26 +166,25 @@ pub fn inv(p: u32, w: u32, a: Ext) -> Ext
     requires { KnownPrime p × (w < p) × Certificate p w × Word4 p (ext_words a) }
     ensures { Word4 p (ext_words result) × (ext_words result ≡ inverse4 p w (ext_words a)) }
 {
-    let x = norm_lo(p, w, a);
-    let y = norm_hi(p, w, a);
-    let m = norm_of(p, w, a, x, y);
-    let i = word::inv(p, m);
+    let (x, y) = norm2(p, w, a);
+    let i = word::inv(p, norm_of(p, w, a, x, y));
     cofactor_times(p, w, a, x, y, i)
 }
 
 pub fn is_zero(a: Ext) -> bool
     ensures { result ≡ is_zero (ext_words a) }
 {
-    (a.c0 == 0) & (a.c1 == 0) & (a.c2 == 0) & (a.c3 == 0)
+    a == Ext::ZERO
 }
 
 pub fn same(a: Ext, b: Ext) -> bool
     ensures { result ≡ same4 (ext_words a) (ext_words b) }
 {
-    (a.c0 == b.c0) & (a.c1 == b.c1) & (a.c2 == b.c2) & (a.c3 == b.c3)
+    a == b
 }
 
 // Element i of a slice of words.
+#[tactic(auto, unfolding(crate::specs::Element::element))]
 pub fn load(s: &[u32], i: usize) -> Ext
     requires { 4 * i + 4 ≤ length s.now }
     ensures { ext_words result ≡ element s.now i }
@@ -189,7 +198,7 @@ pub fn load(s: &[u32], i: usize) -> Ext
     }
 }
 
-// An element into the four words that are lent for it.
+// An element into the four words that are lent for it, word by word, as `load` reads it.
 pub fn store(out: &mut [u32], a: Ext)
     requires { length out.old ≡ 4 }
     ensures { out.new ≡ ext_words a }

@@ -17,16 +17,19 @@ pub const BABYBEAR_U64: u64 = BABYBEAR as u64;
 
 pub const KOALABEAR_U64: u64 = KOALABEAR as u64;
 
+// A field goes by its number and not by an enum: it is a word of the C interface, which may name no field.
 pub const BABYBEAR_NUMBER: u32 = 1;
 
 pub const KOALABEAR_NUMBER: u32 = 2;
 
+#[tactic(auto, unfolding(crate::specs::Known::known_field))]
 pub fn known_field(field: u32) -> bool
     ensures { result ≡ known_field field }
 {
     (field == BABYBEAR_NUMBER) | (field == KOALABEAR_NUMBER)
 }
 
+#[tactic(auto, unfolding(crate::specs::Known::prime_of))]
 pub fn prime_of(field: u32) -> u32
     ensures { result ≡ prime_of field }
 {
@@ -37,6 +40,7 @@ pub fn prime_of(field: u32) -> u32
     }
 }
 
+#[tactic(auto, unfolding(crate::specs::Known::w_of))]
 pub fn w_of(field: u32) -> u32
     ensures { result ≡ w_of field }
 {

@@ -6,7 +6,7 @@ ghost use Rattle.field.specs.Word.{add_m, sub_m, neg_m, mul_m, dot, inverse1};
 
 use crate::modulus::{BABYBEAR, BABYBEAR_U64, KOALABEAR_U64};
 
-const TWO_TO_63: u64 = 9223372036854775808;
+const TWO_TO_63: u64 = 1 << 63;
 
 pub fn add(p: u32, a: u32, b: u32) -> u32
     requires { KnownPrime p × (a < p) × (b < p) }
@@ -46,7 +46,7 @@ pub fn product(p: u32, a: u32, b: u32) -> u64
     requires { KnownPrime p × (a < p) × (b < p) }
     ensures { (result ≡ a * b) × (result ≤ 2147483647 * 2147483647) }
 {
-    (a as u64) * (b as u64)
+    u64::from(a) * u64::from(b)
 }
 
 pub fn mul(p: u32, a: u32, b: u32) -> u32

@@ -2,12 +2,13 @@
 use mathlib.Core.Path.{◌≡◌, refl, sym, ap, ap₂, ◌∙◌, subst}
 use mathlib.Core.Logic.{◌≢◌}
 use mathlib.Core.List.{List, [], ◌∷◌, ◌++◌}
-use Prim.Native.Nat.{ℕ, suc, ◌+◌, ◌*◌, ◌-◌, ◌<◌, ◌≤◌, zero-le}
+use Prim.Native.Nat.{ℕ, zero, suc, max, ◌+◌, ◌*◌, ◌-◌, ◌<◌, ◌≤◌, zero-le}
 use native.Mathlib.Nat.{zero-add}
 use native.Mathlib.Numerals.{add-one}
 use native.Mathlib.Omega.{arith}
 use lib.ListN.{length, take, drop, length-append}
 use lib.Seq.{take_at}
+use lib.Dec.{eqb-suc-zero}
 use borrow.Rule.Slice.PartMut.{put_mid}
 use Rattle.lists.specs.Count.{joined}
 use Rattle.lists.specs.laws.Count.{joined-one}
@@ -39,6 +40,11 @@ factor-kept p w m q d k e = ap (λ (l : List ℕ). at l 2) e ∙ kept-factor p w
 
 pub product_kept : (p w m q : ℕ) (d : List ℕ) (k : Ext) → ext_words k ≡ kept p w m d q → k.c3 ≡ q
 product_kept p w m q d k e = ap (λ (l : List ℕ). at l 3) e ∙ kept_product p w m d q
+
+-- 1 for 0
+pub at_least_one : (n : ℕ) → max n 1 ≡ nonzero n
+at_least_one zero = refl
+at_least_one (suc n) = rw (eqb-suc-zero n) (omega arith)
 
 -- what is kept where the multiplicity is not 0
 pub keep_in : {x y n z : ℕ} (p w m : ℕ) (d : Ext) (q : ℕ) → m ≢ 0 → x ≡ at (norm2 p w (ext_words d)) 0 → y ≡ at (norm2 p w (ext_words d)) 2 → n ≡ norm p w (ext_words d) → z ≡ nonzero n

@@ -17,7 +17,7 @@ pub struct Sum {
     pub s3: u64,
 }
 
-// The sum of nothing.
+// The sum of nothing. A function and no constant: its contract says what that is modulo p.
 pub fn none(p: u32) -> Sum
     requires { KnownPrime p }
     ensures { Room 4 result × (residues p result ≡ zero4) }
@@ -49,10 +49,10 @@ pub fn reduced(p: u32, s: Sum) -> Sum
     ensures { Room 4 result × (residues p result ≡ residues p s) }
 {
     Sum {
-        s0: word::reduce(p, s.s0) as u64,
-        s1: word::reduce(p, s.s1) as u64,
-        s2: word::reduce(p, s.s2) as u64,
-        s3: word::reduce(p, s.s3) as u64,
+        s0: u64::from(word::reduce(p, s.s0)),
+        s1: u64::from(word::reduce(p, s.s1)),
+        s2: u64::from(word::reduce(p, s.s2)),
+        s3: u64::from(word::reduce(p, s.s3)),
     }
 }
 

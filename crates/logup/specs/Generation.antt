@@ -1,6 +1,7 @@
 -- Generation (`LogUpGadget::generate_permutation`): its answer and the words of the buffer afterwards, for every input. SPECIFICATION,
 -- section 4.1.
-use Rattle.std.specs.Prelude.{ℕ, ◌*◌, ◌/◌, ◌%◌, Bool, cond, not, ◌&&◌, ◌||◌, List, [], ◌∷◌, ◌++◌, eqb, leb, length, drop, replicate}
+use Rattle.std.specs.Prelude.{ℕ, ◌*◌, ◌/◌, ◌%◌, Bool, cond, not, ◌&&◌, ◌||◌, List, [], ◌∷◌, ◌++◌, eqb, leb, length, drop, replicate, Result, Ok, Err, Some, None}
+use Rattle.std.specs.Prelude as Std
 use Rattle.std.proofs.Math.Option.{Option, none, some, get_or}
 use Rattle.field.specs.Element.{zero4}
 use Rattle.field.specs.Ext.{ext_words}
@@ -16,11 +17,10 @@ use Rattle.expression.specs.declared.refusal.Refusal.TheVariants.{SizeAtOdds, Tr
 use Rattle.lookup.specs.Lookups.{lookup_count}
 use Rattle.lookup.specs.Table.{Table}
 use Rattle.lookup.specs.Tests.{has_lookups}
+use Rattle.lookup.specs.declared.types.LookupTerminal.{LookupTerminal}
 use Rattle.logup.specs.Rule.{table_under}
 use Rattle.logup.specs.Rows.{trace, used, accumulator, first_fault}
 use Rattle.logup.specs.Refusals.{logup_refusal}
-use Rattle.logup.specs.declared.logup.Generated.{Generated}
-use Rattle.logup.specs.declared.logup.Generated.TheVariants.{Terminal, Absent, Refused}
 
 -- SPECIFICATION, section 1.4: "An answer is a number and three 64-bit details", and "a terminal" beside it: its four words, none where it is absent
 pub record Answer : Type 0 where
@@ -41,11 +41,11 @@ absent = accepted none
 abbrev pub terminal : List ℕ → Answer
 terminal e = accepted (some e)
 
--- the answer that each case of the code's enum stands for
-abbrev pub answer_of : Generated → Answer
-answer_of (Terminal t) = terminal (ext_words t.0)
-answer_of Absent = absent
-answer_of (Refused f) = refused f
+-- the answer that each result of the code stands for
+abbrev pub answer_of : Result (Std.Option LookupTerminal) Refusal → Answer
+answer_of (Ok (Some t)) = terminal (ext_words t.0)
+answer_of (Ok None) = absent
+answer_of (Err f) = refused f
 
 pub record Outcome : Type 0 where
   pub answer : Answer

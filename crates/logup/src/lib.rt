@@ -1,5 +1,3 @@
-// LogUp: the definitions of generation, of the row reader, of the constraints and of the ledger, and generation's answer. The crates above have the code.
+// LogUp: the definitions of generation, of the row reader, of the constraints and of the ledger. The crates above have the code.
 
 #![tactic(auto)]
-
-pub mod logup;

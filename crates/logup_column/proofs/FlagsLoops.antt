@@ -8,47 +8,67 @@ use native.Mathlib.Numerals.{add-one}
 use native.Mathlib.Omega.{arith}
 use lib.Dec.{eqb, ltb}
 use lib.ListN.{length}
+use mir.Val.{bool_byte}
 use Rattle.lists.specs.Count.{some_of, total}
-use Rattle.lists.specs.laws.Count.{total-le}
+use Rattle.lists.specs.laws.Count.{total-le, eqb_true, eqb_false}
 use Rattle.expression.specs.Words.{word}
 use Rattle.expression.specs.Values.{bit}
 use Rattle.lookup.specs.Lookups.{element_start}
 use Rattle.logup.specs.Column.{chosen}
+use Rattle.std.specs.Prelude as Std
+use Rattle.std.specs.Prelude.{◌≢◌, Some, None}
 use Rattle.logup_column.specs.inner.Own.{branch_code}
+use Rattle.logup_column.specs.inner.Kinds.{chosen_number}
 use Rattle.logup_column.specs.inner.Results.{FlagsRead}
 use Rattle.logup_column.specs.laws.Own.{start-next}
 
 -- the first k flags
-pub record FlagsLoop (flags vals : List ℕ) (n : ℕ) (over : Bool) (ones ch k : ℕ) : Type 0 where
+pub record FlagsLoop (flags vals : List ℕ) (n : ℕ) (over : Bool) (ones : ℕ) (ch : Std.Option ℕ) (k : ℕ) : Type 0 where
   pub within : k ≤ n
   pub room : n ≤ length flags
   pub few : ones ≤ k
   pub over≡ : over ≡ some_of (λ k. ltb 1 (word vals (word flags k))) k
   pub ones≡ : ones ≡ total (λ k. bit (eqb (word vals (word flags k)) 1)) k
-  pub chosen≡ : ch ≡ branch_code (chosen (λ k. word vals (word flags k)) k)
+  pub chosen≡ : chosen_number ch ≡ branch_code (chosen (λ k. word vals (word flags k)) k)
 
-pub flags_loop_begins : {flags vals : List ℕ} {n : ℕ} {over : Bool} → over ≡ false → n ≤ length flags → FlagsLoop flags vals n over 0 0 0
+pub flags_loop_begins : {flags vals : List ℕ} {n : ℕ} {over : Bool} → over ≡ false → n ≤ length flags → FlagsLoop flags vals n over 0 None 0
 unfolding some_of total chosen
 flags_loop_begins e h = record { within = zero-le; room = h; few = zero-le; over≡ = e; ones≡ = refl; chosen≡ = refl }
 
-code_cond : (b : Bool) (k : ℕ) (o : Option ℕ) → cond b (k + 1) (branch_code o) ≡ branch_code (cond b (some k) o)
-code_cond true k o = add-one k
-code_cond false k o = refl
+code_cond : (b : Bool) (k : ℕ) (ch : Std.Option ℕ) (o : Option ℕ) → chosen_number ch ≡ branch_code o → chosen_number (cond b (Some k) ch) ≡ branch_code (cond b (some k) o)
+code_cond true k ch o e = refl
+code_cond false k ch o e = e
 
-pub flags_loop_turn : {flags vals : List ℕ} {n f : ℕ} {over over' : Bool} {ones x ch ch' k : ℕ} → FlagsLoop flags vals n over ones ch k → k < n → f ≡ word vals (word flags k)
-    → over' ≡ (over || ltb 1 f) → (x ≡ bit (eqb f 1)) × (x ≤ 1) → ch' ≡ cond (eqb f 1) (k + 1) ch → FlagsLoop flags vals n over' (ones + x) ch' (k + 1)
+-- a flag as a number
+pub bit_of : (b : Bool) → bool_byte b ≡ bit b
+bit_of true = refl
+bit_of false = refl
+
+-- what a flag that is 1, and another, makes of the choice
+pub taken : {f : ℕ} {ch' : Std.Option ℕ} (k : ℕ) (ch : Std.Option ℕ) → f ≡ 1 → ch' ≡ Some k → ch' ≡ cond (eqb f 1) (Some k) ch
+taken k ch e r = rw (eqb_true e) r
+
+pub kept : {f : ℕ} {ch' : Std.Option ℕ} (k : ℕ) (ch : Std.Option ℕ) → f ≢ 1 → ch' ≡ ch → ch' ≡ cond (eqb f 1) (Some k) ch
+kept k ch n r = rw (eqb_false n) r
+
+pub flags_loop_turn : {flags vals : List ℕ} {n f : ℕ} {over over' : Bool} {ones x k : ℕ} {ch ch' : Std.Option ℕ} → FlagsLoop flags vals n over ones ch k → k < n → f ≡ word vals (word flags k)
+    → over' ≡ (over || ltb 1 f) → x ≡ bit (eqb f 1) → ch' ≡ cond (eqb f 1) (Some k) ch → FlagsLoop flags vals n over' (ones + x) ch' (k + 1)
 unfolding some_of total chosen
-flags_loop_turn {flags} {vals} {n} {f} {over} {over'} {ones} {x} {ch} {ch'} {k} s h e eo (ex, lx) ec =
+flags_loop_turn {flags} {vals} {n} {f} {over} {over'} {ones} {x} {k} {ch} {ch'} s h e eo ex ec =
     record {
       within = omega arith;
       room = s.room;
-      few = omega (arith, s.few);
+      few = few_more (eqb f 1) ex;
       over≡ = rw (add-one k) (eo ∙ ap₂ ◌||◌ s.over≡ (ap (ltb 1) e));
       ones≡ = rw (add-one k) (ap₂ ◌+◌ s.ones≡ (ex ∙ ap (λ (n : ℕ). bit (eqb n 1)) e));
-      chosen≡ = rw (add-one k) (ec ∙ ap₂ (λ (f : ℕ) (c : ℕ). cond (eqb f 1) (k + 1) c) e s.chosen≡ ∙ code_cond (eqb (word vals (word flags k)) 1) k (chosen (λ k. word vals (word flags k)) k));
+      chosen≡ = rw (add-one k) (ap chosen_number (ec ∙ ap (λ (f : ℕ). cond (eqb f 1) (Some k) ch) e) ∙ code_cond (eqb (word vals (word flags k)) 1) k ch (chosen (λ k. word vals (word flags k)) k) s.chosen≡);
     }
+  where
+    few_more : (b : Bool) → x ≡ bit b → ones + x ≤ k + 1
+    few_more true e = omega (arith, s.few)
+    few_more false e = omega (arith, s.few)
 
-pub flags_loop_ends : {flags vals : List ℕ} {n : ℕ} {over : Bool} {ones ch k : ℕ} → FlagsLoop flags vals n over ones ch k → n ≤ k
+pub flags_loop_ends : {flags vals : List ℕ} {n : ℕ} {over : Bool} {ones : ℕ} {ch : Std.Option ℕ} {k : ℕ} → FlagsLoop flags vals n over ones ch k → n ≤ k
     → FlagsRead (λ k. word vals (word flags k)) n (record { over = over; ones = ones; chosen = ch })
 flags_loop_ends {flags} {vals} {n} {k = k} s h =
     let e : k ≡ n = omega (arith, s.within) in

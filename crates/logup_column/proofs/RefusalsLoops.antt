@@ -6,6 +6,8 @@ use Prim.Native.Nat.{ℕ, ◌≤◌}
 use lib.ListN.{length}
 use Rattle.lists.specs.Count.{or_else}
 use Rattle.lists.specs.laws.Tests.{both_left}
+use Rattle.std.specs.Prelude.{Ok, Err}
+use Rattle.expression.specs.Refusal.{Verdict, refusal}
 use Rattle.expression.specs.Limits.{Sane}
 use Rattle.expression.specs.Node.{node_count}
 use Rattle.expression.specs.declared.sizes.Limits.{Limits}
@@ -17,6 +19,13 @@ use Rattle.lookup.specs.Tests.{sizes, words_below, known}
 use Rattle.logup_column.specs.inner.Refusals.{position_refusal, table_tests}
 use Rattle.lookup.specs.laws.Tested.{few_nodes}
 use Rattle.logup_column.specs.laws.Refusals.{stops, passes}
+
+-- a `?` that returns, and one that goes on
+pub stopped : {x : Verdict} {f : Refusal} (y : Option Refusal) → x ≡ Err f → some f ≡ or_else (refusal x) y
+stopped y e = rw e
+
+pub went_on : {x : Verdict} (y : Option Refusal) → x ≡ Ok tt → y ≡ or_else (refusal x) y
+went_on y e = rw e
 
 module _ (m : Limits) (t : Table) (fit : Bool) {a : Bool} (ea : a ≡ sizes m t) (y : (a && fit) ≡ true) where
   sized : (sizes m t && fit) ≡ true

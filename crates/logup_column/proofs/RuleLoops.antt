@@ -1,38 +1,21 @@
--- The turns of the loops that write the elements as a rule takes them.
+-- The turns of the loop that writes the elements as a rule takes them.
 use mathlib.Core.Path.{◌≡◌, refl, sym, ap, ap₂, ◌∙◌}
 use mathlib.Core.Bool.{Bool, true, false, cond}
-use mathlib.Core.List.{List, [], ◌∷◌, ◌++◌, reverse, reverse-cons}
-use Prim.Native.Nat.{ℕ, suc, ◌+◌, ◌-◌, ◌<◌, ◌≤◌, zero-le}
+use mathlib.Core.List.{List, ◌++◌, reverse}
+use Prim.Native.Nat.{ℕ, ◌+◌, ◌-◌, ◌<◌, ◌≤◌, zero-le}
 use native.Mathlib.Omega.{arith}
-use lib.Dec.{eqb, ltb}
-use lib.ListN.{length, take, drop, set, get_or, length-reverse, get_or-append}
-use lib.Seq.{take_all, get_or_at}
-use borrow.Author.Tests.{ltb-true, ltb-false}
+use lib.Dec.{eqb}
+use lib.ListN.{length, take, drop, length-reverse}
+use lib.Seq.{take_all}
 use borrow.Rule.Slice.PartMut.{put_mid}
 use Rattle.lists.specs.Count.{total}
 use Rattle.lists.specs.laws.Count.{total-one, total_in}
-use Rattle.lists.specs.laws.Filled.{Filled, filled_none, filled-one, filled-part, filled-whole}
-use Rattle.lists.specs.laws.Parts.{take_more, take-one, part_length}
+use Rattle.lists.specs.laws.Filled.{Filled, filled_none, filled-part}
+use Rattle.lists.specs.laws.Parts.{take_more, part_length}
 use Rattle.expression.specs.Words.{word}
 use Rattle.lookup.specs.Lookups.{element_start}
 use Rattle.logup.specs.Rule.{elements_under}
 use Rattle.logup.proofs.laws.Rule.{ordered, part_under, length_under}
-
--- a word of a reversed list
-word-reverse : (l : List ℕ) (j : ℕ) → j < length l → word (reverse l) j ≡ word l (length l - 1 - j)
-word-reverse [] j h = absurd (omega (arith, h))
-word-reverse (x ∷ l) j h = ap (λ (q : List ℕ). word q j) (reverse-cons x l) ∙ go (ltb j (length l)) refl (word-reverse l j)
-  where
-    go : (b : Bool) → ltb j (length l) ≡ b → (j < length l → word (reverse l) j ≡ word l (length l - 1 - j))
-        → word (reverse l ++ (x ∷ [])) j ≡ word (x ∷ l) (suc (length l) - 1 - j)
-    go true e before =
-        let k : j < length l = ltb-true j (length l) e in
-        let one : suc (length l - 1 - j) ≡ suc (length l) - 1 - j = omega (arith, k) in
-        get_or-append (reverse l) (x ∷ []) 0 j (omega (arith, k, length-reverse l)) ∙ before k ∙ ap (word (x ∷ l)) one
-    go false e before =
-        let k : j ≡ length l = omega (arith, h, ltb-false j (length l) e) in
-        let none : 0 ≡ suc (length l) - 1 - j = omega (arith, k) in
-        get_or_at (reverse l) x [] 0 j (length-reverse l ∙ sym k) ∙ ap (word (x ∷ l)) none
 
 length-ordered : (rule : ℕ) (l : List ℕ) → length (ordered rule l) ≡ length l
 unfolding ordered
@@ -41,45 +24,6 @@ length-ordered rule l = go (eqb rule 2)
     go : (b : Bool) → length (cond b (reverse l) l) ≡ length l
     go true = length-reverse l
     go false = refl
-
-word-ordered : (rule : ℕ) (l : List ℕ) (j : ℕ) → j < length l → word (ordered rule l) j ≡ word l (cond (eqb rule 2) (length l - 1 - j) j)
-unfolding ordered
-word-ordered rule l j h = go (eqb rule 2)
-  where
-    go : (b : Bool) → word (cond b (reverse l) l) j ≡ word l (cond b (length l - 1 - j) j)
-    go true = word-reverse l j h
-    go false = refl
-
--- the first j elements of a tuple
-pub record TupleLoop (rule : ℕ) (nodes : List ℕ) (width : ℕ) (d out : List ℕ) (j : ℕ) : Type 0 where
-  pub wide : width ≡ length nodes
-  pub room : length nodes ≡ length d
-  pub out≡ : Filled d (take j (ordered rule nodes)) j out
-
-pub tuple_loop_begins : {rule : ℕ} {nodes d : List ℕ} {width : ℕ} → width ≡ length nodes → length nodes ≡ length d → TupleLoop rule nodes width d d 0
-tuple_loop_begins e r = record { wide = e; room = r; out≡ = filled_none }
-
-pub tuple_loop_turn : {rule : ℕ} {nodes : List ℕ} {width : ℕ} {d out : List ℕ} {j at : ℕ} → TupleLoop rule nodes width d out j → j < width
-    → at ≡ cond (eqb rule 2) (width - 1 - j) j → TupleLoop rule nodes width d (set out j (get_or nodes at 0)) (j + 1)
-tuple_loop_turn {rule} {nodes} {width} {d} {out} {j} {at} s h e =
-    record {
-      wide = s.wide;
-      room = s.room;
-      out≡ =
-          filled-one (get_or nodes at 0) 0 s.out≡ (omega (arith, s.wide, s.room))
-          (take-one (ordered rule nodes) j 0 (omega (arith, s.wide, length-ordered rule nodes)) ∙ ap (λ (x : ℕ). take j (ordered rule nodes) ++ (x ∷ [])) is);
-    }
-  where
-    is : word (ordered rule nodes) j ≡ word nodes at
-    is =
-        word-ordered rule nodes j (omega (arith, s.wide))
-        ∙ ap (word nodes) (ap (λ (n : ℕ). cond (eqb rule 2) (n - 1 - j) j) (sym s.wide) ∙ sym e)
-
-pub tuple_loop_ends : {rule : ℕ} {nodes : List ℕ} {width : ℕ} {d out : List ℕ} {j : ℕ} → TupleLoop rule nodes width d out j → width ≤ j
-    → out ≡ cond (eqb rule 2) (reverse nodes) nodes
-unfolding ordered
-tuple_loop_ends {rule} {nodes} {j = j} s h =
-    filled-whole s.out≡ (omega (arith, s.wide, s.room)) ∙ take_all j (ordered rule nodes) (omega (arith, s.wide, length-ordered rule nodes))
 
 -- the first k tuples, whose elements end at `start`
 pub record ElementsLoop (rule : ℕ) (tuples elements d out : List ℕ) (start k : ℕ) : Type 0 where

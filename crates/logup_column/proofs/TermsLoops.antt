@@ -25,6 +25,7 @@ use Rattle.logup.specs.Tuple.{tuple, denominator}
 use Rattle.logup.specs.Column.{Place, branches, multiplicity, flag, chosen, denom}
 use Rattle.logup_column.specs.inner.Powers.{beta_of}
 use Rattle.logup_column.specs.inner.Own.{own_place, Fits, branch_code, faults}
+use Rattle.logup_column.specs.inner.Kinds.{chosen_number}
 use Rattle.logup_column.specs.inner.Terms.{contributes_nothing, exclusive_lookup, multiplicity_by, denominator_by, branch_taken, term_multiplicity, term_denominator}
 use Rattle.logup_column.specs.inner.Results.{FlagsRead, IsTerm, TermsWritten, LookupTerms}
 use Rattle.logup_column.specs.declared.column.Flags.{Flags}
@@ -183,7 +184,7 @@ module _ (p w : ℕ) (own widths mults flags nodes vals alpha beta : List ℕ) w
     pub branch≡ : branch ≡ branch_taken whole
 
   pub flags-read : {f : Flags} → length flags ≡ cond (exclusive own 0) (tuple_count own 0) 0 → FlagsRead (λ k. word vals (word flags k)) (length flags) f
-      → Read f.over f.ones f.chosen
+      → Read f.over f.ones (chosen_number f.chosen)
   unfolding branches branch_taken some_of total chosen
   flags-read e r =
       let (a, b, c) = go (exclusive_lookup whole) in

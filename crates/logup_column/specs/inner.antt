@@ -1,6 +1,7 @@
 pub mod Powers
 pub mod Own
 pub mod Terms
+pub mod Kinds
 pub mod Requires
 pub mod Refusals
 pub mod Tested

@@ -1,19 +1,18 @@
-// A lookup on one row: the terms of its tuples in its fraction, and its fault, 13, 14 or 15, or 0 where there is none.
-ghost use Rattle.std.specs.Prelude.{◌≡◌, cond, ◌||◌, [], map, ◌<◌, ◌≤◌, ◌*◌, eqb, length};
+// A lookup on one row: the terms of its tuples in its fraction, and its fault.
+ghost use Rattle.std.specs.Prelude.{◌≡◌, cond, [], map, ◌≤◌, ◌*◌, length};
 ghost use Rattle.field.specs.Element.{Word4};
 ghost use Rattle.field.specs.Ext.{ext_words};
 ghost use Rattle.expression.specs.Words.{word};
-ghost use Rattle.expression.specs.Values.{bit};
 ghost use Rattle.lookup.specs.Lookups.{tuple_count, exclusive, element_start};
 ghost use Rattle.logup.specs.Tuple.{denominator};
 ghost use Rattle.logup.specs.Column.{Place};
 ghost use Rattle.logup_column.specs.inner.Powers.{beta_of, Powers};
 ghost use Rattle.logup_column.specs.inner.Own.{own_place, FieldValues, faults};
+ghost use Rattle.logup_column.specs.inner.Kinds.{is_exclusive, branch_of, fault_number};
 ghost use Rattle.logup_column.specs.inner.Terms.{contributes_nothing};
 ghost use Rattle.logup_column.specs.inner.Results.{PartsFit, FlagsRead, IsTerm, TermsWritten, LookupTerms};
 
 use crate::tuple;
-use expression::words::to_usize;
 use field::extension;
 use field::extension::Ext;
 use lookup::types;
@@ -25,20 +24,27 @@ pub struct Term {
     pub denominator: Ext,
 }
 
-// What the flags of a lookup say: whether one is over 1, how many are 1, and the number of the branch chosen plus 1, 0 for none.
+// What the flags of a lookup say: whether one is over 1, how many are 1, and which branch is chosen.
 #[derive(Clone, Copy)]
 pub struct Flags {
     pub over: bool,
     pub ones: usize,
-    pub chosen: usize,
+    pub chosen: Option<usize>,
 }
 
-// The word at i as a size.
-fn size_at(s: &[u32], i: usize) -> usize
-    requires { i < length s.now }
-    ensures { (result ≡ word s.now i) × (result ≤ 4294967295) }
-{
-    to_usize(s[i])
+// How a lookup's tuples go into its fraction: all of them, or that of the branch chosen alone.
+#[derive(Clone, Copy)]
+pub enum Kind {
+    Additive,
+    Exclusive(Option<usize>),
+}
+
+// What is wrong with a lookup on a row: refusals 13, 14 and 15.
+#[derive(Clone, Copy)]
+pub enum Fault {
+    FlagNotBinary,
+    TwoFlags,
+    DenominatorZero,
 }
 
 // A tuple's denominator: most tuples have few elements.
@@ -76,12 +82,7 @@ fn term_of(
     if nothing {
         return Term {
             multiplicity: 0,
-            denominator: Ext {
-                c0: 1,
-                c1: 0,
-                c2: 0,
-                c3: 0,
-            },
+            denominator: Ext::ONE,
         };
     }
     Term {
@@ -90,56 +91,28 @@ fn term_of(
     }
 }
 
-// Whether tuple k with multiplicity m contributes nothing; `branch` is the number of the branch chosen plus 1.
-fn contributes_nothing(exclusive: bool, branch: usize, k: usize, m: u32) -> bool
-    requires { k < 4611686018427387904 }
-    ensures { result ≡ contributes_nothing exclusive branch k m }
+// Whether tuple k with multiplicity m contributes nothing.
+fn contributes_nothing(kind: Kind, k: usize, m: u32) -> bool
+    ensures { result ≡ contributes_nothing (is_exclusive kind) (branch_of kind) k m }
 {
-    if exclusive {
-        !(branch == k + 1)
-    } else {
-        m == 0
+    match kind {
+        Kind::Additive => m == 0,
+        Kind::Exclusive(branch) => branch != Some(k),
     }
 }
 
-// The next three are steps of the loops below, each a function for its proof's sake: a call gives its result's equation in the definitions'
-// words as one fact, and the loop has no branch of its own.
-// Whether one of two holds.
-fn either(a: bool, b: bool) -> bool
-    ensures { result ≡ (a || b) }
-{
-    a | b
-}
-
-// 1 where a flag is 1, else 0.
-fn one_if(f: u32) -> usize
-    ensures { (result ≡ bit (eqb f 1)) × (result ≤ 1) }
-{
-    if f == 1 { 1 } else { 0 }
-}
-
-// a where a flag is 1, else b.
-fn pick(f: u32, a: usize, b: usize) -> usize
-    ensures { result ≡ cond (eqb f 1) a b }
-{
-    if f == 1 { a } else { b }
-}
-
-// The first n flags of a lookup.
-fn read_flags(flags: &[u32], vals: &[u32], n: usize) -> Flags
-    requires { n ≤ length flags.now }
-    ensures { FlagsRead (λ k. word vals.now (word flags.now k)) n result }
+// The flags of a lookup.
+fn read_flags(flags: &[u32], vals: &[u32]) -> Flags
+    ensures { FlagsRead (λ k. word vals.now (word flags.now k)) (length flags.now) result }
 {
     let mut over = false;
     let mut ones = 0;
-    let mut chosen = 0;
-    let mut k = 0;
-    while k < n {
+    let mut chosen = None;
+    for k in 0..flags.len() {
         let f = tuple::value(vals, flags[k]);
-        over = either(over, 1 < f);
-        ones = ones + one_if(f);
-        chosen = pick(f, k + 1, chosen);
-        k += 1;
+        over |= 1 < f;
+        ones += usize::from(f == 1);
+        chosen = if f == 1 { Some(k) } else { chosen };
     }
     Flags { over, ones, chosen }
 }
@@ -150,10 +123,8 @@ pub fn start_of(widths: &[u32], nodes: &[u32], from: usize, start: usize, to: us
     ensures { result ≡ element_start widths.now to }
 {
     let mut at = start;
-    let mut j = from;
-    while j < to {
-        at = at + size_at(widths, j);
-        j += 1;
+    for j in from..to {
+        at += widths[j] as usize;
     }
     at
 }
@@ -169,46 +140,44 @@ fn write_terms(
     multiplicities: &[u32],
     nodes: &[u32],
     vals: &[u32],
-    exclusive: bool,
-    branch: usize,
+    kind: Kind,
     term_multiplicities: &mut [u32],
     term_denominators: &mut [u32],
 ) -> bool
     requires { let c : Place = own_place own.now widths.now multiplicities.now [] nodes.now vals.now (ext_words alpha) (beta_of powers) in FieldValues p w c.vals × Powers p w powers × Word4 p c.alpha × PartsFit c
         × (length term_multiplicities.old ≡ tuple_count c.lookups.lookups 0) × (length term_denominators.old ≡ 4 * tuple_count c.lookups.lookups 0) }
-    ensures { let c : Place = own_place own.now widths.now multiplicities.now [] nodes.now vals.now (ext_words alpha) (beta_of powers) in TermsWritten p w c exclusive branch (tuple_count c.lookups.lookups 0) result term_multiplicities.new term_denominators.new }
+    ensures { let c : Place = own_place own.now widths.now multiplicities.now [] nodes.now vals.now (ext_words alpha) (beta_of powers) in TermsWritten p w c (is_exclusive kind) (branch_of kind) (tuple_count c.lookups.lookups 0) result term_multiplicities.new term_denominators.new }
 {
     let n = term_multiplicities.len();
     let mut at = 0;
     let mut zero = false;
-    let mut k = 0;
-    while k < n {
+    for k in 0..n {
         let m = tuple::value(vals, multiplicities[k]);
-        let end = at + size_at(widths, k);
-        let nothing = contributes_nothing(exclusive, branch, k, m);
+        let end = at + widths[k] as usize;
+        let nothing = contributes_nothing(kind, k, m);
         let t = term_of(p, w, powers, alpha, vals, &nodes[at..end], m, nothing);
-        let d = t.denominator;
         term_multiplicities[k] = t.multiplicity;
-        let word = 4 * k;
-        extension::store(&mut term_denominators[word..word + 4], d);
-        zero = either(zero, extension::is_zero(d));
+        extension::store(&mut term_denominators[4 * k..4 * k + 4], t.denominator);
+        zero |= extension::is_zero(t.denominator);
         at = end;
-        k += 1;
     }
     zero
 }
 
-// 13, 14, 15 or 0.
-fn fault_of(over: bool, ones: usize, zero: bool) -> u32
-    ensures { result ≡ faults over ones zero }
+// The first fault of the three.
+fn first_fault(over: bool, ones: usize, zero: bool) -> Result<(), Fault>
+    ensures { fault_number result ≡ faults over ones zero }
 {
     if over {
-        return 13;
+        return Err(Fault::FlagNotBinary);
     }
     if 1 < ones {
-        return 14;
+        return Err(Fault::TwoFlags);
     }
-    if zero { 15 } else { 0 }
+    if zero {
+        return Err(Fault::DenominatorZero);
+    }
+    Ok(())
 }
 
 // A lookup by its own parts: the terms of its tuples, and its fault.
@@ -225,15 +194,15 @@ pub fn lookup(
     vals: &[u32],
     term_multiplicities: &mut [u32],
     term_denominators: &mut [u32],
-) -> u32
+) -> Result<(), Fault>
     requires { let c : Place = own_place own.now widths.now multiplicities.now flags.now nodes.now vals.now (ext_words alpha) (beta_of powers) in FieldValues p w c.vals × Powers p w powers × Word4 p c.alpha × PartsFit c
         × (length c.lookups.flags ≡ cond (exclusive c.lookups.lookups 0) (tuple_count c.lookups.lookups 0) 0)
         × (length term_multiplicities.old ≡ tuple_count c.lookups.lookups 0) × (length term_denominators.old ≡ 4 * tuple_count c.lookups.lookups 0) }
-    ensures { let c : Place = own_place own.now widths.now multiplicities.now flags.now nodes.now vals.now (ext_words alpha) (beta_of powers) in LookupTerms p w c result term_multiplicities.new term_denominators.new }
+    ensures { let c : Place = own_place own.now widths.now multiplicities.now flags.now nodes.now vals.now (ext_words alpha) (beta_of powers) in LookupTerms p w c (fault_number result) term_multiplicities.new term_denominators.new }
 {
     // A call for each kind: the compiler keeps a loop that is called twice apart, and that is faster than all loops of a row in one.
     if types::exclusive(own, 0) {
-        let f = read_flags(flags, vals, flags.len());
+        let f = read_flags(flags, vals);
         let zero = write_terms(
             p,
             w,
@@ -244,12 +213,11 @@ pub fn lookup(
             multiplicities,
             nodes,
             vals,
-            true,
-            f.chosen,
+            Kind::Exclusive(f.chosen),
             term_multiplicities,
             term_denominators,
         );
-        return fault_of(f.over, f.ones, zero);
+        return first_fault(f.over, f.ones, zero);
     }
     let zero = write_terms(
         p,
@@ -261,10 +229,9 @@ pub fn lookup(
         multiplicities,
         nodes,
         vals,
-        false,
-        0,
+        Kind::Additive,
         term_multiplicities,
         term_denominators,
     );
-    fault_of(false, 0, zero)
+    first_fault(false, 0, zero)
 }

@@ -14,11 +14,13 @@ pub fn write_table(p: u32, w: u32, challenges: &[u32], n: usize, table: &mut [u3
     requires { Field p w × Below p challenges.now × (8 * n ≤ length challenges.now) × (32 * n ≤ length table.old) }
     ensures { table.new ≡ joined (λ i. joined (power4 p w (element challenges.now (2 * i + 1))) 0 8) 0 n ++ drop (32 * n) table.old }
 {
-    let mut i = 0;
-    while i < n {
+    for i in 0..n {
         let beta = extension::load(challenges, 2 * i + 1);
-        let at = POWERS_WORDS * i;
-        tuple::write_powers(p, w, beta, &mut table[at..at + POWERS_WORDS]);
-        i += 1;
+        tuple::write_powers(
+            p,
+            w,
+            beta,
+            &mut table[POWERS_WORDS * i..POWERS_WORDS * i + POWERS_WORDS],
+        );
     }
 }

@@ -9,7 +9,7 @@ ghost use Rattle.lookup.specs.Table.{lent_table};
 ghost use Rattle.logup_column.specs.inner.Refusals.{position_refusal, table_tests};
 
 use expression::node::NODE_WORDS;
-use expression::refusal::{Refusal, Verdict, first};
+use expression::refusal::Refusal;
 use expression::sizes::{Limits, Shape};
 use lookup::{refusals, tests};
 
@@ -20,7 +20,7 @@ fn position_refusal(
     multiplicities: &[u32],
     flags: &[u32],
     elements: &[u32],
-) -> Verdict
+) -> Result<(), Refusal>
     requires { node_count nodes.now ≤ 1024 }
     ensures { (names tuples : List ℕ) → refusal result ≡ position_refusal (node_count nodes.now) (lent_lookups lookups.now names tuples multiplicities.now flags.now elements.now) none }
 {
@@ -33,9 +33,9 @@ fn position_refusal(
     );
     let placed = tests::in_position(lookups);
     if agree & placed {
-        Verdict::Accepted
+        Ok(())
     } else {
-        Verdict::Refused(Refusal::LookupInvalid)
+        Err(Refusal::LookupInvalid)
     }
 }
 
@@ -56,7 +56,7 @@ pub fn table_refusal(
     elements: &[u32],
     fit: bool,
     low: bool,
-) -> Verdict
+) -> Result<(), Refusal>
     requires { Sane limits }
     ensures { refusal result ≡ table_tests limits p (lent_table shape main.now preprocessed.now public_values.now nodes.now (lent_lookups lookups.now names.now tuples.now multiplicities.now flags.now elements.now)) fit low none }
 {
@@ -75,14 +75,12 @@ pub fn table_refusal(
         elements,
     );
     if !(sized & fit) {
-        return Verdict::Refused(Refusal::SizeAtOdds);
+        return Err(Refusal::SizeAtOdds);
     }
     let below = refusals::words_below(p, main, preprocessed, public_values, nodes);
     if !(below & low) {
-        return Verdict::Refused(Refusal::WordTooLarge);
+        return Err(Refusal::WordTooLarge);
     }
-    first(
-        refusals::nodes_refusal(limits, shape, public_values.len(), nodes),
-        position_refusal(nodes, lookups, multiplicities, flags, elements),
-    )
+    refusals::nodes_refusal(limits, shape, public_values.len(), nodes)?;
+    position_refusal(nodes, lookups, multiplicities, flags, elements)
 }

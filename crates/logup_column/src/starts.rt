@@ -4,7 +4,6 @@ ghost use Rattle.lookup.specs.Lookups.{lookup_count};
 ghost use Rattle.logup_column.specs.inner.Requires.{LookupLists, StartsOf, StartsWithin};
 
 use crate::column;
-use expression::words::to_usize;
 use lookup::types;
 
 // Where a lookup's own parts begin in the table's lists.
@@ -29,15 +28,11 @@ pub fn next_starts(
     requires { LookupLists lookups.now tuples.now multiplicities.now flags.now elements.now × (i < lookup_count lookups.now) × StartsOf lookups.now tuples.now i at }
     ensures { StartsOf lookups.now tuples.now (i + 1) result × StartsWithin tuples.now multiplicities.now flags.now elements.now at result }
 {
-    let from = at.tuple;
-    let to = from + to_usize(types::tuple_count(lookups, i));
-    let multiplicity = at.multiplicity + to_usize(types::multiplicity_count(lookups, i));
-    let flag = at.flag + to_usize(types::flag_count(lookups, i));
-    let element = column::start_of(tuples, elements, from, at.element, to);
+    let tuple = at.tuple + types::tuple_count(lookups, i) as usize;
     Starts {
-        tuple: to,
-        multiplicity,
-        flag,
-        element,
+        tuple,
+        multiplicity: at.multiplicity + types::multiplicity_count(lookups, i) as usize,
+        flag: at.flag + types::flag_count(lookups, i) as usize,
+        element: column::start_of(tuples, elements, at.tuple, at.element, tuple),
     }
 }

@@ -34,33 +34,22 @@ pub fn write_powers(p: u32, w: u32, beta: Ext, out: &mut [u32])
     requires { KnownPrime p × (w < p) × Word4 p (ext_words beta) × (length out.old ≡ 32) }
     ensures { out.new ≡ joined (power4 p w (ext_words beta)) 0 8 }
 {
-    let mut power = Ext {
-        c0: 1,
-        c1: 0,
-        c2: 0,
-        c3: 0,
-    };
-    let mut e = 0;
-    while e < POWERS {
-        let at = 4 * e;
-        extension::store(&mut out[at..at + 4], power);
+    let mut power = Ext::ONE;
+    for e in 0..POWERS {
+        extension::store(&mut out[4 * e..4 * e + 4], power);
         power = extension::mul(p, w, power, beta);
-        e += 1;
     }
 }
 
-// The eight powers of lookup i, from a table of them.
+// The eight powers of lookup i, from a table of them: four words each and no `Ext`, as the functions of the constraints take them.
 pub fn load_powers(table: &[u32], i: usize) -> [[u32; 4]; 8]
     requires { 32 * i + 32 ≤ length table.now }
     ensures { result ≡ tab (λ e. element table.now (8 * i + e)) 0 8 }
 {
-    let zero = [0u32; 4];
-    let mut powers = [zero; 8];
-    let mut e = 0;
-    while e < POWERS {
+    let mut powers = [[0u32; 4]; 8];
+    for e in 0..POWERS {
         let power = extension::load(table, POWERS * i + e);
         powers[e] = [power.c0, power.c1, power.c2, power.c3];
-        e += 1;
     }
     powers
 }
@@ -69,11 +58,12 @@ pub fn load_powers(table: &[u32], i: usize) -> [[u32; 4]; 8]
 fn element(power: [u32; 4]) -> Ext
     ensures { ext_words result ≡ at power 0 ∷ at power 1 ∷ at power 2 ∷ at power 3 ∷ [] }
 {
-    let c0 = power[0];
-    let c1 = power[1];
-    let c2 = power[2];
-    let c3 = power[3];
-    Ext { c0, c1, c2, c3 }
+    Ext {
+        c0: power[0],
+        c1: power[1],
+        c2: power[2],
+        c3: power[3],
+    }
 }
 
 // A tuple's sum before element j is added. A sum takes four products before it must be reduced, and a tuple has at most eight: the sum is
@@ -92,12 +82,9 @@ pub fn combine(p: u32, w: u32, powers: [[u32; 4]; 8], vals: &[u32], nodes: &[u32
 {
     let k = nodes.len();
     let mut sum = dot::none(p);
-    let mut j = 0;
-    while j < k {
+    for j in 0..k {
         let v = value(vals, nodes[j]);
-        let power = powers[k - 1 - j];
-        sum = dot::more(p, ready(p, sum, j), v, element(power));
-        j += 1;
+        sum = dot::more(p, ready(p, sum, j), v, element(powers[k - 1 - j]));
     }
     dot::total(p, sum)
 }
@@ -109,12 +96,9 @@ pub fn combine_few(p: u32, w: u32, powers: [[u32; 4]; 8], vals: &[u32], nodes: &
 {
     let k = nodes.len();
     let mut sum = dot::none(p);
-    let mut j = 0;
-    while j < k {
+    for j in 0..k {
         let v = value(vals, nodes[j]);
-        let power = powers[k - 1 - j];
-        sum = dot::more(p, sum, v, element(power));
-        j += 1;
+        sum = dot::more(p, sum, v, element(powers[k - 1 - j]));
     }
     dot::total(p, sum)
 }

@@ -1,13 +1,20 @@
 -- The tests of the entry point: what they answer, and what they leave of a trace that passed them.
 use mathlib.Core.Path.{◌≡◌, refl, sym, ap, ◌∙◌, subst}
-use mathlib.Core.Bool.{Bool, true, false, cond, ◌&&◌, ◌||◌, not, true≢false}
+use mathlib.Core.Bool.{Bool, beq, true, false, cond, ◌&&◌, ◌||◌, not, true≢false}
+use mathlib.Core.Logic.{◌⊎◌, inl, inr}
 use mathlib.Core.Option.{Option, none, some}
 use mathlib.Core.List.{List}
 use Prim.Native.Nat.{ℕ, ◌+◌, ◌*◌, ◌/◌, ◌%◌, ◌<◌, ◌≤◌}
 use native.Mathlib.Omega.{arith}
-use lib.Dec.{eqb, leb}
+use lib.Dec.{eqb, leb, ltb}
 use lib.ListN.{length}
-use borrow.Author.Tests.{eqb-true, leb-true}
+use borrow.Author.Tests.{eqb-true, leb-true, lt-ltb, le-ltb}
+use Rattle.std.specs.Prelude.{Some, None}
+use Rattle.std.specs.Prelude as Std
+use Rattle.std.specs.Option.{is_some}
+use Rattle.lookup.specs.declared.types.LookupTerminal.{LookupTerminal}
+use Rattle.logup_constraints.specs.Refusals.{terminal_of}
+use Rattle.std.proofs.lemmas.Bool.Decides.{leb_tells}
 use Rattle.lists.specs.laws.Tests.{both_left, both_right}
 use Rattle.field.specs.Element.{Word4}
 use Rattle.expression.specs.Words.{all_below}
@@ -39,10 +46,33 @@ pub entry_is : (m : Limits) (p w : ℕ) (t : Table) (cs : List ℕ) (width : ℕ
 unfolding table_tests trace_tests constraints_refusal
 entry_is m p w t cs width words o = refl
 
-placed_is : (h b : Bool) → ((h && b) || (not h && not b)) ≡ cond h b (not b)
+-- the code's tests, which say what is refused, and the definition's
+at_most : (a b : ℕ) → leb a b ≡ not (ltb b a)
+at_most a b = go (leb_tells a b)
+  where
+    go : ((leb a b ≡ true) × (a ≤ b)) ⊎ ((leb a b ≡ false) × (b < a)) → leb a b ≡ not (ltb b a)
+    go (inl (e, l)) = e ∙ sym (ap not (le-ltb b a l))
+    go (inr (e, l)) = e ∙ sym (ap not (lt-ltb b a l))
+
+beyond : (a b : ℕ) → leb (b + 1) a ≡ not (leb a b)
+beyond a b = go (leb_tells (b + 1) a) (leb_tells a b)
+  where
+    go : ((leb (b + 1) a ≡ true) × (b + 1 ≤ a)) ⊎ ((leb (b + 1) a ≡ false) × (a < b + 1)) → ((leb a b ≡ true) × (a ≤ b)) ⊎ ((leb a b ≡ false) × (b < a))
+        → leb (b + 1) a ≡ not (leb a b)
+    go (inl (e, l)) (inl (f, m)) = absurd (omega arith)
+    go (inl (e, l)) (inr (f, m)) = e ∙ sym (ap not f)
+    go (inr (e, l)) (inl (f, m)) = e ∙ sym (ap not f)
+    go (inr (e, l)) (inr (f, m)) = absurd (omega arith)
+
+with_some : (h x y : Bool) → x ≡ not y → (not h || x) ≡ not (h && y)
+with_some true x y e = e
+with_some false x y e = refl
+
+placed_is : (h b : Bool) → cond h b (not b) ≡ not (not (beq h b))
 placed_is true true = refl
 placed_is true false = refl
-placed_is false b = refl
+placed_is false true = refl
+placed_is false false = refl
 
 module _ (s : Shape) (lookups : List ℕ) (k width : ℕ) (present : Bool) where
   abbrev F : Bool → Bool
@@ -67,14 +97,23 @@ module _ (s : Shape) (lookups : List ℕ) (k width : ℕ) (present : Bool) where
   after8 = unless G RowsMissing after9
 
   module _ {h : Bool} (eh : h ≡ has_lookups lookups) where
-    pub trace_8 : F h ≡ false → some ChallengesMissing ≡ trace_tests s lookups k width present
-    unfolding trace_tests
-    trace_8 x = stops (F (has_lookups lookups)) ChallengesMissing after8 (ap F (sym eh) ∙ x)
+    few_is : {b : Bool} → (h && ltb (k / 4) (2 * lookup_count lookups)) ≡ b → F (has_lookups lookups) ≡ not b
+    few_is e = ap F (sym eh) ∙ with_some h _ _ (at_most (2 * lookup_count lookups) (k / 4)) ∙ ap not e
 
-    module _ {r : Bool} (y8 : F h ≡ true) (er : r ≡ G) where
+    narrow_is : {b : Bool} → (h && leb width (lookup_count lookups)) ≡ b → H (has_lookups lookups) ≡ not b
+    narrow_is e = ap H (sym eh) ∙ with_some h _ _ (beyond width (lookup_count lookups)) ∙ ap not e
+
+    misplaced_is : {b : Bool} → (not (beq h present)) ≡ b → J (has_lookups lookups) ≡ not b
+    misplaced_is e = ap J (sym eh) ∙ placed_is h present ∙ ap not e
+
+    pub trace_8 : (h && ltb (k / 4) (2 * lookup_count lookups)) ≡ true → some ChallengesMissing ≡ trace_tests s lookups k width present
+    unfolding trace_tests
+    trace_8 x = stops (F (has_lookups lookups)) ChallengesMissing after8 (few_is x)
+
+    module _ {r : Bool} (y8 : (h && ltb (k / 4) (2 * lookup_count lookups)) ≡ false) (er : r ≡ G) where
       eighth_passed : {o : Option Refusal} → o ≡ after8 → o ≡ trace_tests s lookups k width present
       unfolding trace_tests
-      eighth_passed q = passes (F (has_lookups lookups)) ChallengesMissing after8 (ap F (sym eh) ∙ y8) q
+      eighth_passed q = passes (F (has_lookups lookups)) ChallengesMissing after8 (few_is y8) q
 
       pub trace_9 : r ≡ false → some RowsMissing ≡ trace_tests s lookups k width present
       trace_9 x = eighth_passed (stops G RowsMissing after9 (sym er ∙ x))
@@ -83,19 +122,22 @@ module _ (s : Shape) (lookups : List ℕ) (k width : ℕ) (present : Bool) where
         ninth_passed : {o : Option Refusal} → o ≡ after9 → o ≡ trace_tests s lookups k width present
         ninth_passed q = eighth_passed (passes G RowsMissing after9 (sym er ∙ y9) q)
 
-        pub trace_10 : H h ≡ false → some TraceTooSmall ≡ trace_tests s lookups k width present
-        trace_10 x = ninth_passed (stops (H (has_lookups lookups)) TraceTooSmall after10 (ap H (sym eh) ∙ x))
+        pub trace_10 : (h && leb width (lookup_count lookups)) ≡ true → some TraceTooSmall ≡ trace_tests s lookups k width present
+        trace_10 x = ninth_passed (stops (H (has_lookups lookups)) TraceTooSmall after10 (narrow_is x))
 
-        module _ (y10 : H h ≡ true) where
+        module _ (y10 : (h && leb width (lookup_count lookups)) ≡ false) where
           tenth_passed : {o : Option Refusal} → o ≡ after10 → o ≡ trace_tests s lookups k width present
-          tenth_passed q = ninth_passed (passes (H (has_lookups lookups)) TraceTooSmall after10 (ap H (sym eh) ∙ y10) q)
+          tenth_passed q = ninth_passed (passes (H (has_lookups lookups)) TraceTooSmall after10 (narrow_is y10) q)
 
-          pub trace_11 : ((h && present) || (not h && not present)) ≡ false → some TerminalMisplaced ≡ trace_tests s lookups k width present
-          trace_11 x = tenth_passed (stops (J (has_lookups lookups)) TerminalMisplaced none (ap J (sym eh) ∙ sym (placed_is h present) ∙ x))
+          pub trace_11 : (not (beq h present)) ≡ true → some TerminalMisplaced ≡ trace_tests s lookups k width present
+          trace_11 x = tenth_passed (stops (J (has_lookups lookups)) TerminalMisplaced none (misplaced_is x))
 
-          pub trace_passed : ((h && present) || (not h && not present)) ≡ true → none ≡ trace_tests s lookups k width present
-          trace_passed x =
-              tenth_passed (passes (J (has_lookups lookups)) TerminalMisplaced none (ap J (sym eh) ∙ sym (placed_is h present) ∙ x) refl)
+          pub trace_passed : (not (beq h present)) ≡ false → none ≡ trace_tests s lookups k width present
+          trace_passed x = tenth_passed (passes (J (has_lookups lookups)) TerminalMisplaced none (misplaced_is x) refl)
+
+pub present_is : (t : Std.Option LookupTerminal) → is_some t ≡ is_present (terminal_of t)
+present_is None = refl
+present_is (Some t) = refl
 
 -- what 8 to 11 leave where there is a terminal
 pub record TraceReady (s : Shape) (lookups : List ℕ) (challenges width : ℕ) : Type 0 where

@@ -9,7 +9,7 @@ ghost use Rattle.expression.specs.Requires.{Below, Evaluable};
 ghost use Rattle.lookup.specs.Lookups.{lent_lookups, lookup_count};
 ghost use Rattle.lookup.specs.Table.{Table, lent_table};
 ghost use Rattle.logup.specs.Rule.{lookups_under, table_under};
-ghost use Rattle.logup.specs.Constraints.{is_present, present_below, rows_verdict, verdict, verdict_at};
+ghost use Rattle.logup.specs.Constraints.{present_below, rows_verdict, verdict, verdict_at};
 ghost use Rattle.logup_column.specs.inner.Requires.{Listed, Field};
 ghost use Rattle.logup_column.specs.inner.Source.{Source, lent_source, node_values, named};
 ghost use Rattle.logup_terms.specs.inner.ConstraintRow.{TraceInputs};
@@ -17,7 +17,7 @@ ghost use Rattle.logup_constraints.specs.Refusals.{terminal_of};
 ghost use Rattle.logup_constraints.specs.inner.Refusals.{trace_tests, entry_tests, EntryPassed};
 
 use expression::choices::{Choices, known, known_rule, limits_of};
-use expression::refusal::{Refusal, Verdict};
+use expression::refusal::Refusal;
 use expression::sizes::{Limits, Shape};
 use expression::words::all_below;
 use field::modulus::{prime_of, w_of};
@@ -27,31 +27,12 @@ use logup_terms::eval_row;
 use lookup::tests;
 use lookup::types::{LOOKUP_WORDS, LookupTerminal};
 
-// The terminal that comes with a trace.
-#[derive(Clone, Copy)]
-pub enum Terminal {
-    Absent,
-    Given(LookupTerminal),
-}
-
-fn is_present(terminal: Terminal) -> bool
-    ensures { result ≡ is_present (terminal_of terminal) }
-{
-    match terminal {
-        Terminal::Absent => false,
-        Terminal::Given(_) => true,
-    }
-}
-
-fn terminal_below(p: u32, terminal: Terminal) -> bool
+fn terminal_below(p: u32, terminal: Option<LookupTerminal>) -> bool
     ensures { result ≡ present_below p (terminal_of terminal) }
 {
     match terminal {
-        Terminal::Absent => true,
-        Terminal::Given(t) => {
-            let element = t.0;
-            (element.c0 < p) & (element.c1 < p) & (element.c2 < p) & (element.c3 < p)
-        }
+        None => true,
+        Some(LookupTerminal(e)) => (e.c0 < p) & (e.c1 < p) & (e.c2 < p) & (e.c3 < p),
     }
 }
 
@@ -72,25 +53,25 @@ fn trace_refusal(
     challenges: usize,
     width: usize,
     present: bool,
-) -> Verdict
+) -> Result<(), Refusal>
     requires { lookup_count lookups.now ≤ 64 }
     ensures { refusal result ≡ trace_tests shape lookups.now challenges width present }
 {
     let some = tests::has_lookups(lookups);
     let n = lookups.len() / LOOKUP_WORDS;
-    if !(!some | (2 * n <= challenges / 4)) {
-        return Verdict::Refused(Refusal::ChallengesMissing);
+    if some & (challenges / 4 < 2 * n) {
+        return Err(Refusal::ChallengesMissing);
     }
     if !tests::rows_enough(shape, lookups) {
-        return Verdict::Refused(Refusal::RowsMissing);
+        return Err(Refusal::RowsMissing);
     }
-    if !(!some | (n + 1 <= width)) {
-        return Verdict::Refused(Refusal::TraceTooSmall);
+    if some & (width <= n) {
+        return Err(Refusal::TraceTooSmall);
     }
-    if !((some & present) | (!some & !present)) {
-        return Verdict::Refused(Refusal::TerminalMisplaced);
+    if some != present {
+        return Err(Refusal::TerminalMisplaced);
     }
-    Verdict::Accepted
+    Ok(())
 }
 
 // The first of refusals 1 to 5 and 8 to 11.
@@ -111,15 +92,15 @@ fn entry_refusal(
     challenges: &[u32],
     width: usize,
     words: &[u32],
-    terminal: Terminal,
-) -> Verdict
+    terminal: Option<LookupTerminal>,
+) -> Result<(), Refusal>
     requires { Sane limits }
     ensures { let t : Table = lent_table shape main.now preprocessed.now public_values.now nodes.now (lent_lookups lookups.now names.now tuples.now multiplicities.now flags.now elements.now) in (refusal result ≡ entry_tests limits p t challenges.now width words.now (terminal_of terminal))
         × (refusal result ≡ none → EntryPassed limits p t challenges.now width words.now (terminal_of terminal)) }
 {
     let fit = (challenges.len() % 4 == 0) & trace_fits(shape.height, width, words.len());
     let low = all_below(p, challenges) & (all_below(p, words) & terminal_below(p, terminal));
-    let verdict = refusals::table_refusal(
+    refusals::table_refusal(
         limits,
         p,
         shape,
@@ -135,17 +116,8 @@ fn entry_refusal(
         elements,
         fit,
         low,
-    );
-    match verdict {
-        Verdict::Refused(f) => Verdict::Refused(f),
-        Verdict::Accepted => trace_refusal(
-            shape,
-            lookups,
-            challenges.len(),
-            width,
-            is_present(terminal),
-        ),
-    }
+    )?;
+    trace_refusal(shape, lookups, challenges.len(), width, terminal.is_some())
 }
 
 // The rows of a trace that passed the tests, with beta's powers computed and the elements put in order once.
@@ -167,7 +139,7 @@ fn rows_verdict(
     width: usize,
     words: &[u32],
     terminal: LookupTerminal,
-) -> Verdict
+) -> Result<(), Refusal>
     requires { let s : Source = lent_source shape main.now preprocessed.now public_values.now nodes.now lookups.now tuples.now multiplicities.now flags.now elements.now challenges.now in Field p w × Listed s.lookups
         × Evaluable p s.traces s.nodes × Below p s.challenges × (8 * lookup_count s.lookups.lookups ≤ length s.challenges) × (lookup_count s.lookups.lookups ≤ 64)
         × (length s.lookups.tuples ≤ 64) × TraceInputs p shape.height width (lookup_count s.lookups.lookups) words.now × Word4 p (ext_words terminal.0) }
@@ -221,12 +193,12 @@ pub fn eval_trace(
     challenges: &[u32],
     width: usize,
     words: &[u32],
-    terminal: Terminal,
-) -> Verdict
+    terminal: Option<LookupTerminal>,
+) -> Result<(), Refusal>
     requires { Sane limits × Field p w }
     ensures { let t : Table = lent_table shape main.now preprocessed.now public_values.now nodes.now (lent_lookups lookups.now names.now tuples.now multiplicities.now flags.now elements.now) in refusal result ≡ verdict limits p w (table_under rule t) challenges.now width words.now (terminal_of terminal) }
 {
-    let verdict = entry_refusal(
+    entry_refusal(
         limits,
         p,
         shape,
@@ -244,32 +216,29 @@ pub fn eval_trace(
         width,
         words,
         terminal,
-    );
-    match verdict {
-        Verdict::Refused(f) => Verdict::Refused(f),
-        Verdict::Accepted => match terminal {
-            Terminal::Absent => Verdict::Accepted,
-            Terminal::Given(t) => rows_verdict(
-                p,
-                w,
-                rule,
-                shape,
-                main,
-                preprocessed,
-                public_values,
-                nodes,
-                lookups,
-                tuples,
-                multiplicities,
-                flags,
-                elements,
-                challenges,
-                width,
-                words,
-                t,
-            ),
-        },
-    }
+    )?;
+    let Some(t) = terminal else {
+        return Ok(());
+    };
+    rows_verdict(
+        p,
+        w,
+        rule,
+        shape,
+        main,
+        preprocessed,
+        public_values,
+        nodes,
+        lookups,
+        tuples,
+        multiplicities,
+        flags,
+        elements,
+        challenges,
+        width,
+        words,
+        t,
+    )
 }
 
 // `eval_all` over a whole trace, at the choices of the call.
@@ -290,15 +259,15 @@ pub fn eval_all(
     challenges: &[u32],
     width: usize,
     words: &[u32],
-    terminal: Terminal,
-) -> Verdict
+    terminal: Option<LookupTerminal>,
+) -> Result<(), Refusal>
     ensures { numbers (refusal result) ≡ numbers (verdict_at choices rule
         (lent_table shape main.now preprocessed.now public_values.now nodes.now
         (lent_lookups lookups.now names.now tuples.now multiplicities.now flags.now
         elements.now)) challenges.now width words.now (terminal_of terminal)) }
 {
     if !(known(choices) & known_rule(rule)) {
-        return Verdict::Refused(Refusal::SizeAtOdds);
+        return Err(Refusal::SizeAtOdds);
     }
     eval_trace(
         limits_of(choices.profile),

@@ -1,13 +1,13 @@
 -- The tests of the entry point: what they answer, and what they leave of a table that passed them.
 use mathlib.Core.Path.{◌≡◌, refl, sym, ap, ap₂, ◌∙◌, subst}
-use mathlib.Core.Bool.{Bool, true, false, ◌||◌, not}
+use mathlib.Core.Bool.{Bool, true, false, ◌&&◌, ◌||◌, not}
 use mathlib.Core.Option.{Option, none, some}
 use mathlib.Core.List.{List}
 use Prim.Native.Nat.{ℕ, ◌*◌, ◌/◌, ◌%◌, ◌≤◌}
 use native.Mathlib.Omega.{arith}
-use lib.Dec.{eqb, leb}
+use lib.Dec.{eqb, leb, ltb}
 use lib.ListN.{length}
-use borrow.Author.Tests.{eqb-true, leb-true}
+use borrow.Author.Tests.{eqb-true, leb-true, ltb-true, ltb-false, le-leb, lt-leb}
 use Rattle.expression.specs.Words.{all_below}
 use Rattle.expression.specs.Refusal.{unless}
 use Rattle.expression.specs.Limits.{Sane}
@@ -35,6 +35,17 @@ pub entry_is : (m : Limits) (p w : ℕ) (t : Table) (cs buffer : List ℕ)
 unfolding table_tests trace_tests entry_refusal
 entry_is m p w t cs buffer = refl
 
+not-not : (b : Bool) → not (not b) ≡ b
+not-not true = refl
+not-not false = refl
+
+not-ltb : (a b : ℕ) → not (ltb a b) ≡ leb b a
+not-ltb a b = go (ltb a b) refl
+  where
+    go : (t : Bool) → ltb a b ≡ t → not t ≡ leb b a
+    go true e = sym (lt-leb b a (ltb-true a b e))
+    go false e = sym (le-leb b a (ltb-false a b e))
+
 -- what 8 to 10 leave where there are lookups
 pub record TraceReady (s : Shape) (lookups : List ℕ) (challenges room : ℕ) : Type 0 where
   pub enough : 8 * lookup_count lookups ≤ challenges
@@ -58,11 +69,20 @@ module _ (s : Shape) (lookups : List ℕ) (n room : ℕ) where
   abbrev F : Bool → Bool
   F h = not h || eqb (n / 4) (2 * lookup_count lookups)
 
+  -- the code's tests say the opposite
+  not-F : (h : Bool) → not (h && not (eqb (n / 4) (2 * lookup_count lookups))) ≡ F h
+  not-F true = not-not (eqb (n / 4) (2 * lookup_count lookups))
+  not-F false = refl
+
   abbrev G : Bool
   G = rows_enough s lookups
 
   abbrev H : Bool → ℕ → Bool
   H h u = not h || leb u room
+
+  not-H : (h : Bool) (u : ℕ) → not (h && ltb room u) ≡ H h u
+  not-H true u = not-ltb room u
+  not-H false u = refl
 
   abbrev after9 : Option Refusal
   after9 = unless (H (has_lookups lookups) (used lookups s.height)) TraceTooSmall none
@@ -71,14 +91,14 @@ module _ (s : Shape) (lookups : List ℕ) (n room : ℕ) where
   after8 = unless G RowsMissing after9
 
   module _ {h : Bool} (eh : h ≡ has_lookups lookups) where
-    pub trace_8 : F h ≡ false → some ChallengesMissing ≡ trace_tests s lookups n room
+    pub trace_8 : (h && not (eqb (n / 4) (2 * lookup_count lookups))) ≡ true → some ChallengesMissing ≡ trace_tests s lookups n room
     unfolding trace_tests
-    trace_8 x = stops (F (has_lookups lookups)) ChallengesMissing after8 (ap F (sym eh) ∙ x)
+    trace_8 x = stops (F (has_lookups lookups)) ChallengesMissing after8 (ap F (sym eh) ∙ sym (not-F h) ∙ ap not x)
 
-    module _ {r : Bool} (y8 : F h ≡ true) (er : r ≡ G) where
+    module _ {r : Bool} (y8 : (h && not (eqb (n / 4) (2 * lookup_count lookups))) ≡ false) (er : r ≡ G) where
       eighth_passed : {o : Option Refusal} → o ≡ after8 → o ≡ trace_tests s lookups n room
       unfolding trace_tests
-      eighth_passed k = passes (F (has_lookups lookups)) ChallengesMissing after8 (ap F (sym eh) ∙ y8) k
+      eighth_passed k = passes (F (has_lookups lookups)) ChallengesMissing after8 (ap F (sym eh) ∙ sym (not-F h) ∙ ap not y8) k
 
       pub trace_9 : r ≡ false → some RowsMissing ≡ trace_tests s lookups n room
       trace_9 x = eighth_passed (stops G RowsMissing after9 (sym er ∙ x))
@@ -87,11 +107,11 @@ module _ (s : Shape) (lookups : List ℕ) (n room : ℕ) where
         ninth_passed : {o : Option Refusal} → o ≡ after9 → o ≡ trace_tests s lookups n room
         ninth_passed k = eighth_passed (passes G RowsMissing after9 (sym er ∙ y9) k)
 
-        pub trace_10 : H h u ≡ false → some TraceTooSmall ≡ trace_tests s lookups n room
-        trace_10 x = ninth_passed (stops (H (has_lookups lookups) (used lookups s.height)) TraceTooSmall none (ap₂ H (sym eh) (sym eu) ∙ x))
+        pub trace_10 : (h && ltb room u) ≡ true → some TraceTooSmall ≡ trace_tests s lookups n room
+        trace_10 x = ninth_passed (stops (H (has_lookups lookups) (used lookups s.height)) TraceTooSmall none (ap₂ H (sym eh) (sym eu) ∙ sym (not-H h u) ∙ ap not x))
 
-        pub trace_passed : H h u ≡ true → none ≡ trace_tests s lookups n room
-        trace_passed x = ninth_passed (passes (H (has_lookups lookups) (used lookups s.height)) TraceTooSmall none (ap₂ H (sym eh) (sym eu) ∙ x) refl)
+        pub trace_passed : (h && ltb room u) ≡ false → none ≡ trace_tests s lookups n room
+        trace_passed x = ninth_passed (passes (H (has_lookups lookups) (used lookups s.height)) TraceTooSmall none (ap₂ H (sym eh) (sym eu) ∙ sym (not-H h u) ∙ ap not x) refl)
 
 -- what the rows require
 pub rows-ready : {m : Limits} {p w : ℕ} {t : Table} {cs : List ℕ} (room : ℕ) → Sane m → Field p w → Tested m p t (eqb (length cs % 4) 0) (all_below p cs) → has_lookups t.lookups.lookups ≡ true

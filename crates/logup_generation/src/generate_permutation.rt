@@ -18,11 +18,10 @@ ghost use Rattle.logup_generation.specs.inner.Refusals.{trace_tests, entry_tests
 ghost use Rattle.logup_generation.specs.inner.Outcome.{rows_answer, cleared, rows_result};
 
 use expression::choices::{Choices, known, known_rule, limits_of};
-use expression::refusal::{Refusal, Verdict};
+use expression::refusal::Refusal;
 use expression::sizes::{Limits, Shape};
 use expression::words::{all_below, clear};
 use field::modulus::{prime_of, w_of};
-use logup::logup::Generated;
 use logup_column::rule::write_elements;
 use logup_column::{powers, refusals};
 use logup_rows::block::Progress;
@@ -39,35 +38,42 @@ fn used_words(shape: Shape, lookups: &[u32]) -> usize
 }
 
 // The first of refusals 8 to 10.
-fn trace_refusal(shape: Shape, lookups: &[u32], challenges: &[u32], trace_len: usize) -> Verdict
+fn trace_refusal(
+    shape: Shape,
+    lookups: &[u32],
+    challenges: &[u32],
+    trace_len: usize,
+) -> Result<(), Refusal>
     requires { (shape.height ≤ 1048576) × (lookup_count lookups.now ≤ 64) }
     ensures { refusal result ≡ trace_tests shape lookups.now (length challenges.now) trace_len }
 {
-    let none = !tests::has_lookups(lookups);
-    if !(none | (challenges.len() / 4 == 2 * (lookups.len() / LOOKUP_WORDS))) {
-        return Verdict::Refused(Refusal::ChallengesMissing);
+    let some = tests::has_lookups(lookups);
+    if some & (challenges.len() / 4 != 2 * (lookups.len() / LOOKUP_WORDS)) {
+        return Err(Refusal::ChallengesMissing);
     }
     if !tests::rows_enough(shape, lookups) {
-        return Verdict::Refused(Refusal::RowsMissing);
+        return Err(Refusal::RowsMissing);
     }
-    if !(none | (used_words(shape, lookups) <= trace_len)) {
-        return Verdict::Refused(Refusal::TraceTooSmall);
+    if some & (trace_len < used_words(shape, lookups)) {
+        return Err(Refusal::TraceTooSmall);
     }
-    Verdict::Accepted
+    Ok(())
 }
 
 // The answer after the rows; after a fault the used part becomes zero.
-fn finish(progress: Progress, used: usize, trace: &mut [u32]) -> Generated
+fn finish(
+    progress: Progress,
+    used: usize,
+    trace: &mut [u32],
+) -> Result<Option<LookupTerminal>, Refusal>
     requires { used ≤ length trace.old }
     ensures { (answer_of result ≡ rows_answer (refusal progress.verdict) (ext_words progress.accumulator)) × (trace.new ≡ cleared (refusal progress.verdict) used trace.old) }
 {
-    let verdict = progress.verdict;
-    let accumulator = progress.accumulator;
-    match verdict {
-        Verdict::Accepted => Generated::Terminal(LookupTerminal(accumulator)),
-        Verdict::Refused(f) => {
+    match progress.verdict {
+        Ok(()) => Ok(Some(LookupTerminal(progress.accumulator))),
+        Err(f) => {
             clear(&mut trace[0..used]);
-            Generated::Refused(f)
+            Err(f)
         }
     }
 }
@@ -89,7 +95,7 @@ fn generate_rows(
     elements: &[u32],
     challenges: &[u32],
     trace: &mut [u32],
-) -> Generated
+) -> Result<Option<LookupTerminal>, Refusal>
     requires { let s : Source = lent_source shape main.now preprocessed.now public_values.now nodes.now lookups.now tuples.now multiplicities.now flags.now elements.now challenges.now in Field p w × Listed s.lookups
         × Evaluable p s.traces s.nodes × Below p s.challenges × (8 * lookup_count s.lookups.lookups ≤ length s.challenges)
         × (shape.height ≤ 1048576) × (lookup_count s.lookups.lookups ≤ 64) × (length s.lookups.tuples ≤ 64) × (used s.lookups.lookups shape.height ≤ length trace.old) }
@@ -140,11 +146,11 @@ fn entry_refusal(
     elements: &[u32],
     challenges: &[u32],
     trace_len: usize,
-) -> Verdict
+) -> Result<(), Refusal>
     requires { Sane limits }
     ensures { let t : Table = lent_table shape main.now preprocessed.now public_values.now nodes.now (lent_lookups lookups.now names.now tuples.now multiplicities.now flags.now elements.now) in (refusal result ≡ entry_tests limits p t challenges.now trace_len) × (refusal result ≡ none → EntryPassed limits p t challenges.now trace_len) }
 {
-    let verdict = refusals::table_refusal(
+    refusals::table_refusal(
         limits,
         p,
         shape,
@@ -160,11 +166,8 @@ fn entry_refusal(
         elements,
         challenges.len() % 4 == 0,
         all_below(p, challenges),
-    );
-    match verdict {
-        Verdict::Refused(f) => Verdict::Refused(f),
-        Verdict::Accepted => trace_refusal(shape, lookups, challenges, trace_len),
-    }
+    )?;
+    trace_refusal(shape, lookups, challenges, trace_len)
 }
 
 // Generation for any limits and field that the code takes, and any rule number: all but 2 are taken as 1.
@@ -186,13 +189,12 @@ pub fn generate_permutation(
     elements: &[u32],
     challenges: &[u32],
     trace: &mut [u32],
-) -> Generated
+) -> Result<Option<LookupTerminal>, Refusal>
     requires { Sane limits × Field p w }
     ensures { let t : Table = lent_table shape main.now preprocessed.now public_values.now nodes.now (lent_lookups lookups.now names.now tuples.now multiplicities.now flags.now elements.now) in (answer_of result ≡ (generation limits p w (table_under rule t) challenges.now trace.old).answer)
         × (trace.new ≡ (generation limits p w (table_under rule t) challenges.now trace.old).buffer) }
 {
-    let trace_len = trace.len();
-    let verdict = entry_refusal(
+    entry_refusal(
         limits,
         p,
         shape,
@@ -207,34 +209,28 @@ pub fn generate_permutation(
         flags,
         elements,
         challenges,
-        trace_len,
-    );
-    match verdict {
-        Verdict::Refused(f) => Generated::Refused(f),
-        Verdict::Accepted => {
-            if tests::has_lookups(lookups) {
-                generate_rows(
-                    p,
-                    w,
-                    rule,
-                    shape,
-                    main,
-                    preprocessed,
-                    public_values,
-                    nodes,
-                    lookups,
-                    tuples,
-                    multiplicities,
-                    flags,
-                    elements,
-                    challenges,
-                    trace,
-                )
-            } else {
-                Generated::Absent
-            }
-        }
+        trace.len(),
+    )?;
+    if !tests::has_lookups(lookups) {
+        return Ok(None);
     }
+    generate_rows(
+        p,
+        w,
+        rule,
+        shape,
+        main,
+        preprocessed,
+        public_values,
+        nodes,
+        lookups,
+        tuples,
+        multiplicities,
+        flags,
+        elements,
+        challenges,
+        trace,
+    )
 }
 
 // `LogUpGadget::generate_permutation`, at the choices of the call.
@@ -254,7 +250,7 @@ pub fn generate(
     elements: &[u32],
     challenges: &[u32],
     trace: &mut [u32],
-) -> Generated
+) -> Result<Option<LookupTerminal>, Refusal>
     ensures { record { answer = answer_of result; buffer = trace.new }
         ≡ generation_at choices rule
         (lent_table shape main.now preprocessed.now public_values.now nodes.now
@@ -262,7 +258,7 @@ pub fn generate(
         elements.now)) challenges.now trace.old }
 {
     if !(known(choices) & known_rule(rule)) {
-        return Generated::Refused(Refusal::SizeAtOdds);
+        return Err(Refusal::SizeAtOdds);
     }
     generate_permutation(
         limits_of(choices.profile),

@@ -14,7 +14,7 @@ use Rattle.field.specs.declared.extension.Ext.{Ext}
 use Rattle.field_batch.specs.inner.Quotients.{quotient_at, Divisible}
 use Rattle.expression.specs.Requires.{Below}
 use Rattle.expression.specs.Refusal.{refusal}
-use Rattle.expression.specs.declared.refusal.Verdict.{Verdict}
+use Rattle.expression.specs.Refusal.{Verdict}
 use Rattle.lookup.specs.Lookups.{Lookups, lookup_count, tuple_start}
 use Rattle.logup.specs.Rows.{accumulator, row_words, row_fault}
 use Rattle.logup_column.specs.inner.Requires.{Field}

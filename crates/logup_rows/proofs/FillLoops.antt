@@ -13,7 +13,7 @@ use Rattle.lists.specs.laws.Filled.{Filled, filled_none, filled-part, filled-who
 use Rattle.lists.specs.laws.Parts.{part_length}
 use Rattle.expression.specs.Refusal.{refusal}
 use Rattle.expression.specs.declared.refusal.Refusal.{Refusal}
-use Rattle.expression.specs.declared.refusal.Verdict.{Verdict}
+use Rattle.expression.specs.Refusal.{Verdict}
 use Rattle.lookup.specs.Lookups.{Lookups, lookup_count, tuple_start}
 use Rattle.logup.specs.Rows.{row_fault}
 use Rattle.logup_rows.specs.inner.Terms.{row_multiplicities, row_denominators, RunTerms}

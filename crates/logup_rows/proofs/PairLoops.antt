@@ -12,7 +12,7 @@ use Rattle.lists.specs.laws.Count.{joined-one, first_one}
 use Rattle.lists.specs.laws.Filled.{Filled, filled_none, filled-part, filled-whole}
 use Rattle.expression.specs.Refusal.{refusal}
 use Rattle.expression.specs.declared.refusal.Refusal.{Refusal}
-use Rattle.expression.specs.declared.refusal.Verdict.{Verdict}
+use Rattle.expression.specs.Refusal.{Verdict}
 use Rattle.lookup.specs.Lookups.{Lookups, lookup_count, tuple_start}
 use Rattle.logup.specs.Rows.{place, fault_at, row_fault}
 use Rattle.logup_rows.specs.inner.Terms.{lookup_multiplicities, lookup_denominators, row_multiplicities, row_denominators, RowTerms, RunTerms}

@@ -1,4 +1,5 @@
 -- The turns of the loop over the lookups of a row.
+use Rattle.std.specs.Prelude.{Result, Ok, Err}
 use mathlib.Core.Path.{◌≡◌, refl, sym, ap, ap₂, ◌∙◌}
 use mathlib.Core.List.{List, [], ◌++◌}
 use mathlib.Core.Option.{Option, none, some}
@@ -14,14 +15,15 @@ use Rattle.lists.specs.laws.Filled.{Filled, filled_none, filled-part, filled-who
 use Rattle.lists.specs.laws.Parts.{part_length}
 use Rattle.expression.specs.Refusal.{refusal}
 use Rattle.expression.specs.declared.refusal.Refusal.{Refusal}
-use Rattle.expression.specs.declared.refusal.Verdict.{Verdict}
-use Rattle.expression.specs.declared.refusal.Verdict.TheVariants.{Accepted}
+use Rattle.expression.specs.Refusal.{Verdict}
 use Rattle.lookup.specs.Lookups.{Lookups, lent_lookups, lookup_count, tuple_count, tuple_start}
 use Rattle.logup.specs.Column.{branches}
 use Rattle.logup.specs.Rows.{fault_refusal, place, fault_at, row_fault}
+use Rattle.logup_column.specs.inner.Kinds.{fault_number}
 use Rattle.logup_column.specs.inner.Requires.{LookupLists, StartsOf, StartsWithin}
 use Rattle.logup_column.specs.inner.Results.{LookupTerms}
 use Rattle.logup_column.specs.laws.Lookup.{stands-zero}
+use Rattle.logup_column.specs.declared.column.Fault.{Fault}
 use Rattle.logup_column.specs.declared.starts.Starts.{Starts}
 use Rattle.logup_rows.specs.inner.Terms.{lookup_multiplicities, lookup_denominators, row_multiplicities, row_denominators, RowTerms}
 use Rattle.logup_rows.specs.laws.Lengths.{multiplicities-length, denominators_length}
@@ -43,7 +45,7 @@ pub record LookupsLoop (p w : ℕ) (lookups tuples mults flags elements cs vals 
 
 pub lookups_loop_begins : {p w : ℕ} {lookups tuples mults flags elements cs vals : List ℕ} {r n : ℕ} {dm dd : List ℕ} → LookupLists lookups tuples mults flags elements → 4 * length dd < 18446744073709551616
     → 4 * length lookups < 18446744073709551616 → n ≡ lookup_count lookups → length dm ≡ length tuples → length dd ≡ 4 * length tuples
-    → LookupsLoop p w lookups tuples mults flags elements cs vals r dm dd n dm dd Accepted (record { tuple = 0; multiplicity = 0; flag = 0; element = 0 }) 0
+    → LookupsLoop p w lookups tuples mults flags elements cs vals r dm dd n dm dd (Ok tt) (record { tuple = 0; multiplicity = 0; flag = 0; element = 0 }) 0
 unfolding joined first
 lookups_loop_begins {lookups = lookups} {tuples} s c b e em ed =
     record { lists = s; cap = c; few = omega arith; count = e; within = zero-le; stands = stands-zero lookups tuples; ms_size = em; ds_size = ed; ms_len = em; ds_len = ed; ms≡ = filled_none; ds≡ = filled_none; verdict≡ = refl }
@@ -101,14 +103,18 @@ module _ {p w : ℕ} {lookups tuples mults flags elements cs vals : List ℕ} {r
           filled-part zs s.ds≡ (omega (arith, next)) (omega (arith, st.1.tuple_in, s.ds_size)) (ap length t.denominators≡ ∙ denominators_length p w l cs (λ _. vals) 0 i ∙ omega (arith, next))
           (joined-one fd 0 i ∙ ap (λ (y : List ℕ). joined fd 0 i ++ y) (ap fd (zero-add i) ∙ sym t.denominators≡))
 
--- a verdict after a lookup without a fault
-pub no_fault : (v : Option Refusal) (f r i : ℕ) → f ≡ 0 → v ≡ or_else v (fault_refusal f r i)
+-- a verdict after a lookup without a fault, and after one with a fault
+pub no_fault : {x : Result (Unit {0}) Fault} (v : Option Refusal) (r i : ℕ) → x ≡ Ok tt → v ≡ or_else v (fault_refusal (fault_number x) r i)
 unfolding fault_refusal
-no_fault v f r i e = rw e (nothing-more v)
+no_fault v r i e = rw e (nothing-more v)
   where
     nothing-more : (a : Option Refusal) → a ≡ or_else a none
     nothing-more none = refl
     nothing-more (some a) = refl
+
+pub with_fault : {x : Result (Unit {0}) Fault} {f : Fault} {e : Refusal} (v : Option Refusal) (r i : ℕ) → x ≡ Err f → some e ≡ fault_refusal (fault_number (Err f)) r i
+    → or_else v (some e) ≡ or_else v (fault_refusal (fault_number x) r i)
+with_fault v r i ex ee = ap (or_else v) (ee ∙ ap (λ (x : Result (Unit {0}) Fault). fault_refusal (fault_number x) r i) (sym ex))
 
 pub lookups_loop_ends : {p w : ℕ} {lookups tuples mults flags elements cs vals : List ℕ} {r n : ℕ} {dm dd ms ds : List ℕ} {verdict : Verdict} {at : Starts} {i : ℕ}
     → LookupsLoop p w lookups tuples mults flags elements cs vals r dm dd n ms ds verdict at i → n ≤ i

@@ -89,7 +89,7 @@ module _ {p : ℕ} {lookups qs : List ℕ} {start : ℕ} {d : List ℕ} {n : ℕ
   fractions_loop_room e = omega (arith, s.at≡, s.room, total_in (tuple_count lookups) i n h)
 
   pub fractions_loop_turn : {c : ℕ} {f sum' : Ext} (ys : List ℕ) → c ≡ tuple_count lookups i → ext_words f ≡ sum_from p qs at c → ys ≡ ext_words f
-      → Word4 p (ext_words sum') × (ext_words sum' ≡ add4 p (ext_words sum) (ext_words f)) → FractionsLoop p lookups qs start d n (put_mid (4 * i + 4) (4 * i + 4 + 4 - (4 * i + 4)) out ys) sum' (at + c) (i + 1)
+      → Word4 p (ext_words sum') × (ext_words sum' ≡ add4 p (ext_words sum) (ext_words f)) → FractionsLoop p lookups qs start d n (put_mid (4 * i + 4) (4 * i + 8 - (4 * i + 4)) out ys) sum' (at + c) (i + 1)
   unfolding sum4 fraction_in tuple_start
   fractions_loop_turn {c} {f} {sum'} ys ec ef ey (w, es) =
       record {
@@ -102,7 +102,7 @@ module _ {p : ℕ} {lookups qs : List ℕ} {start : ℕ} {d : List ℕ} {n : ℕ
         at≡ = next;
         size = s.size;
         len = grown.len ∙ s.size;
-        out≡ = subst (λ (x : ℕ). Filled d (take 4 d ++ joined fs 0 (i + 1)) x (put_mid (4 * i + 4) (4 * i + 4 + 4 - (4 * i + 4)) out ys)) more grown;
+        out≡ = subst (λ (x : ℕ). Filled d (take 4 d ++ joined fs 0 (i + 1)) x (put_mid (4 * i + 4) (4 * i + 8 - (4 * i + 4)) out ys)) more grown;
         word4 = w;
         sum≡ = rw (add-one i) (es ∙ ap₂ (add4 p) s.sum≡ is);
       }
@@ -116,10 +116,10 @@ module _ {p : ℕ} {lookups qs : List ℕ} {start : ℕ} {d : List ℕ} {n : ℕ
       next : at + c ≡ start + tuple_start lookups (i + 1)
       next = omega (arith, s.at≡, total-one (tuple_count lookups) i)
 
-      more : 4 * i + 4 + 4 ≡ 4 * (i + 1) + 4
+      more : 4 * i + 8 ≡ 4 * (i + 1) + 4
       more = omega arith
 
-      grown : Filled d (take 4 d ++ joined fs 0 (i + 1)) (4 * i + 4 + 4) (put_mid (4 * i + 4) (4 * i + 4 + 4 - (4 * i + 4)) out ys)
+      grown : Filled d (take 4 d ++ joined fs 0 (i + 1)) (4 * i + 8) (put_mid (4 * i + 4) (4 * i + 8 - (4 * i + 4)) out ys)
       grown =
           filled-part ys s.out≡ (omega arith) (omega (arith, s.size)) (ap length ey ∙ omega arith)
           (ap (λ (y : List ℕ). take 4 d ++ y) (joined-one fs 0 i ∙ ap (λ (y : List ℕ). joined fs 0 i ++ y) (ap fs (zero-add i) ∙ sym is ∙ sym ey)) ∙ sym (append_assoc (take 4 d) (joined fs 0 i) ys))

@@ -1,4 +1,5 @@
 -- The turns of the loops over blocks and over parts.
+use Rattle.std.specs.Prelude.{Ok}
 use mathlib.Core.Path.{◌≡◌, refl, sym, ap, ap₂, ◌∙◌, subst}
 use mathlib.Core.List.{List, ◌++◌}
 use Prim.Native.Nat.{ℕ, ◌+◌, ◌*◌, ◌-◌, ◌<◌, ◌≤◌, zero-le}
@@ -11,7 +12,6 @@ use Rattle.lists.specs.laws.Count.{joined-add}
 use Rattle.lists.specs.laws.Filled.{Filled, filled_none, filled-part, filled-whole}
 use Rattle.lists.specs.laws.Parts.{part_length}
 use Rattle.field.specs.Element.{sum4}
-use Rattle.expression.specs.declared.refusal.Verdict.TheVariants.{Accepted}
 use Rattle.lookup.specs.Lookups.{Lookups, lookup_count}
 use Rattle.logup.specs.Rows.{accumulator, row_words, trace, used}
 use Rattle.logup_column.specs.laws.Powers.{word-zero}
@@ -57,7 +57,7 @@ rows_loop_begins {p} {w} {l} {cs} {values} {wd} {from} {height} {d} {progress} c
 -- before all rows: the accumulator is 0, and there is no fault
 pub starts_at_zero : {p w : ℕ} {l : Lookups} {cs : List ℕ} {values : ℕ → List ℕ} {wd height : ℕ} {d : List ℕ}
     → 4 * length d < 18446744073709551616 → height ≤ 1048576 → wd ≡ 4 * lookup_count l.lookups + 4 → used l.lookups height ≤ length d → 1 < p
-    → RowsLoop p w l cs values wd 0 height d d (record { accumulator = record { c0 = 0; c1 = 0; c2 = 0; c3 = 0 }; verdict = Accepted }) 0 0
+    → RowsLoop p w l cs values wd 0 height d d (record { accumulator = record { c0 = 0; c1 = 0; c2 = 0; c3 = 0 }; verdict = Ok tt }) 0 0
 unfolding first sum4 accumulator
 starts_at_zero {p} {l = l} {height = height} {d = d} c lo ew er big =
     rows_loop_begins c (omega arith) ew (subst (λ (x : ℕ). x ≤ length d) (sym (used_is l.lookups height)) er) (record { below = word-zero p big; accumulator≡ = refl; verdict≡ = refl })
@@ -67,47 +67,44 @@ run_length p w l cs values from n wd e =
     ap length (shifted (row_words p w l cs values) from n) ∙ joined_length (λ j. row_words p w l cs values (from + j)) wd n (λ j. row-length p w l cs values (from + j) ∙ sym e) ∙ mul_comm wd n
 
 module _ {p w : ℕ} {l : Lookups} {cs : List ℕ} {values : ℕ → List ℕ} {wd from height : ℕ} {d out : List ℕ} {progress : Progress} {at r : ℕ}
-    (e : ℕ) (s : RowsLoop p w l cs values wd from height d out progress at r) (less : r < e) (le : e ≤ height) where
-  sum : e ≡ r + (e - r)
-  sum = omega arith
+    (n : ℕ) (s : RowsLoop p w l cs values wd from height d out progress at r) (le : r + n ≤ height) where
+  words_in : at + n * wd ≤ length d
+  words_in = omega (arith, mul-le-mul_right wd le, s.at≡, s.room)
 
-  words_in : at + (e - r) * wd ≤ length d
-  words_in = omega (arith, mul-le-mul_right wd le, ap (λ (x : ℕ). x * wd) sum, s.at≡, s.room)
-
-  pub rows_loop_in : at + (e - r) * wd ≤ length out
+  pub rows_loop_in : at + n * wd ≤ length out
   rows_loop_in = omega (arith, words_in, s.len)
 
-  pub rows_loop_part : length (take (at + (e - r) * wd - at) (drop at out)) ≡ (e - r) * (4 * lookup_count l.lookups + 4)
-  rows_loop_part = part_length out at (at + (e - r) * wd) (omega arith) rows_loop_in ∙ less_at ∙ ap (λ (x : ℕ). (e - r) * x) s.wide
+  pub rows_loop_part : length (take (at + n * wd - at) (drop at out)) ≡ n * (4 * lookup_count l.lookups + 4)
+  rows_loop_part = part_length out at (at + n * wd) (omega arith) rows_loop_in ∙ less_at ∙ ap (λ (x : ℕ). n * x) s.wide
     where
-      less_at : at + (e - r) * wd - at ≡ (e - r) * wd
+      less_at : at + n * wd - at ≡ n * wd
       less_at = omega arith
 
   -- `a` is where the run starts
   pub rows_loop_turn : (a : ℕ) (next : Progress) (ys : List ℕ) → a ≡ from + r
-      → Reached p w l cs values (a + (e - r)) next × (ys ≡ joined (row_words p w l cs values) a (e - r))
-      → RowsLoop p w l cs values wd from height d (put_mid at (at + (e - r) * wd - at) out ys) next (at + (e - r) * wd) e
+      → Reached p w l cs values (a + n) next × (ys ≡ joined (row_words p w l cs values) a n)
+      → RowsLoop p w l cs values wd from height d (put_mid at (at + n * wd - at) out ys) next (at + n * wd) (r + n)
   rows_loop_turn a next ys ea (q, ey) =
       record {
         cap = s.cap;
         low = s.low;
         wide = s.wide;
         within = le;
-        at≡ = omega (arith, ap (λ (x : ℕ). x * wd) sum, s.at≡);
+        at≡ = omega (arith, s.at≡);
         room = s.room;
         len = grown.len;
         out≡ = grown;
         reached = subst (λ (x : ℕ). Reached p w l cs values x next) after q;
       }
     where
-      after : a + (e - r) ≡ from + e
+      after : a + n ≡ from + (r + n)
       after = omega arith
 
-      grown : Filled d (joined (row_words p w l cs values) from e) (at + (e - r) * wd) (put_mid at (at + (e - r) * wd - at) out ys)
+      grown : Filled d (joined (row_words p w l cs values) from (r + n)) (at + n * wd) (put_mid at (at + n * wd - at) out ys)
       grown =
-          filled-part ys s.out≡ (omega arith) words_in (ap length ey ∙ run_length p w l cs values a (e - r) wd s.wide ∙ omega arith)
-          (ap (joined (row_words p w l cs values) from) sum ∙ joined-add (row_words p w l cs values) from r (e - r)
-          ∙ ap (λ (x : List ℕ). joined (row_words p w l cs values) from r ++ x) (ap (λ (a : ℕ). joined (row_words p w l cs values) a (e - r)) (sym ea) ∙ sym ey))
+          filled-part ys s.out≡ (omega arith) words_in (ap length ey ∙ run_length p w l cs values a n wd s.wide ∙ omega arith)
+          (joined-add (row_words p w l cs values) from r n
+          ∙ ap (λ (x : List ℕ). joined (row_words p w l cs values) from r ++ x) (ap (λ (a : ℕ). joined (row_words p w l cs values) a n) (sym ea) ∙ sym ey))
 
 -- after r of all rows
 pub rows_loop_now : {p w : ℕ} {l : Lookups} {cs : List ℕ} {values : ℕ → List ℕ} {wd height : ℕ} {d out : List ℕ} {progress : Progress} {at r : ℕ} → RowsLoop p w l cs values wd 0 height d out progress at r

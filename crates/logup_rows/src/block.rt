@@ -10,11 +10,10 @@ ghost use Rattle.logup_column.specs.inner.Source.{Source, lent_source, node_valu
 ghost use Rattle.logup_rows.specs.inner.Terms.{RunTerms};
 ghost use Rattle.logup_rows.specs.inner.Progress.{Reached};
 
-use crate::pair::{pair_rows, write_pair};
+use crate::pair::write_pair;
 use crate::writing::write_rows;
 use expression::node::NODE_WORDS;
-use expression::refusal;
-use expression::refusal::Verdict;
+use expression::refusal::Refusal;
 use expression::sizes::Shape;
 use expression::words::clear;
 use expression_eval::traits::pair_values;
@@ -25,7 +24,7 @@ use field_batch::division::divide_all;
 #[derive(Clone, Copy)]
 pub struct Progress {
     pub accumulator: Ext,
-    pub verdict: Verdict,
+    pub verdict: Result<(), Refusal>,
 }
 
 // The terms of k rows from row `from` on, two rows at a time, and the first fault so far.
@@ -46,10 +45,10 @@ fn fill(
     table: &[u32],
     from: usize,
     k: usize,
-    before: Verdict,
+    before: Result<(), Refusal>,
     term_multiplicities: &mut [u32],
     term_denominators: &mut [u32],
-) -> Verdict
+) -> Result<(), Refusal>
     requires { let s : Source = lent_source shape main.now preprocessed.now public_values.now nodes.now lookups.now tuples.now multiplicities.now flags.now elements.now challenges.now in ColumnInputs p w s.lookups s.challenges table.now × Evaluable p s.traces s.nodes × (from + k ≤ shape.height) × (shape.height ≤ 1048576)
         × (refusal before ≡ first (row_fault p w s.lookups s.challenges (node_values p s)) from)
         × (length term_multiplicities.old ≡ k * length s.lookups.tuples) × (length term_denominators.old ≡ 4 * (k * length s.lookups.tuples)) }
@@ -63,8 +62,9 @@ fn fill(
     let mut verdict = before;
     let mut at = 0;
     let mut j = 0;
+    // The step is two rows, and one at the last where k is odd.
     while j < k {
-        let n = pair_rows(j, k);
+        let n = (k - j).min(2);
         let end = at + n * size;
         let r = from + j;
         pair_values(
@@ -98,14 +98,12 @@ fn fill(
         // Zero at the start of every row: only the values that the nodes filled need it.
         clear(&mut vals[0..count]);
         clear(&mut next_vals[0..count]);
-        match fault {
-            Verdict::Accepted => {}
-            Verdict::Refused(_) => {
-                verdict = refusal::first(verdict, fault);
-            }
+        // Most rows have no fault, and then the verdict is left where it is.
+        if fault.is_err() {
+            verdict = verdict.and(fault);
         }
         at = end;
-        j = j + n;
+        j += n;
     }
     verdict
 }
@@ -137,8 +135,6 @@ pub fn block(
     ensures { let s : Source = lent_source shape main.now preprocessed.now public_values.now nodes.now lookups.now tuples.now multiplicities.now flags.now elements.now challenges.now in Reached p w s.lookups s.challenges (node_values p s) (from + k) result
         × (out.new ≡ joined (row_words p w s.lookups s.challenges (node_values p s)) from k) }
 {
-    let fault = before.verdict;
-    let start = before.accumulator;
     let size = tuples.len();
     let count = k * size;
     let mut term_multiplicities = [0u32; 256];
@@ -160,7 +156,7 @@ pub fn block(
         table,
         from,
         k,
-        fault,
+        before.verdict,
         &mut term_multiplicities[0..count],
         &mut term_denominators[0..4 * count],
     );
@@ -177,7 +173,7 @@ pub fn block(
         &term_denominators[0..4 * count],
         size,
         k,
-        start,
+        before.accumulator,
         out,
     );
     Progress {

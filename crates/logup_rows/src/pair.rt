@@ -9,16 +9,7 @@ ghost use Rattle.logup_column.specs.inner.Source.{RowSource, lent_row};
 ghost use Rattle.logup_rows.specs.inner.Terms.{RunTerms};
 
 use crate::row::write_row_terms;
-use expression::refusal;
-use expression::refusal::Verdict;
-
-// How many of two rows, from row j of k on: one where row j is the last.
-pub fn pair_rows(j: usize, k: usize) -> usize
-    requires { (j < k) × (k ≤ 1048576) }
-    ensures { (0 < result) × (result ≤ 2) × (j + result ≤ k) }
-{
-    if j + 1 < k { 2 } else { 1 }
-}
+use expression::refusal::Refusal;
 
 // The terms of n rows from row r on, one or two, and their first fault; `vals` and `next_vals` are their node values. A function of its own
 // for the compiler's sake: it puts a function with one call into its caller, and all loops in one have too few registers; with a call for
@@ -39,7 +30,7 @@ pub fn write_pair(
     n: usize,
     term_multiplicities: &mut [u32],
     term_denominators: &mut [u32],
-) -> Verdict
+) -> Result<(), Refusal>
     requires { let s : RowSource = lent_row lookups.now tuples.now multiplicities.now flags.now elements.now challenges.now vals.now in ColumnInputs p w s.lookups s.challenges table.now × Below p s.vals × Below p next_vals.now × (r < 1048576) × (0 < n) × (n ≤ 2)
         × (length term_multiplicities.old ≡ n * length s.lookups.tuples) × (length term_denominators.old ≡ 4 * (n * length s.lookups.tuples)) }
     ensures { let s : RowSource = lent_row lookups.now tuples.now multiplicities.now flags.now elements.now challenges.now vals.now in (values : ℕ → List ℕ) → values r ≡ s.vals → (1 < n → values (r + 1) ≡ next_vals.now)
@@ -81,5 +72,5 @@ pub fn write_pair(
         &mut term_multiplicities[size..end],
         &mut term_denominators[4 * size..4 * end],
     );
-    refusal::first(fault, other)
+    fault.and(other)
 }

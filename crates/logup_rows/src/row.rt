@@ -1,30 +1,30 @@
 // One row of a table: the terms of its lookups' tuples and the first fault.
-ghost use Rattle.std.specs.Prelude.{◌≡◌, ◌<◌, ◌+◌, ◌*◌, length};
+ghost use Rattle.std.specs.Prelude.{◌≡◌, ◌<◌, ◌+◌, ◌*◌, length, Err};
+ghost use Rattle.std.proofs.Math.Option.{some};
 ghost use Rattle.expression.specs.Requires.{Below};
-ghost use Rattle.expression.specs.Refusal.{refusal};
 ghost use Rattle.lookup.specs.Lookups.{tuple_count};
 ghost use Rattle.logup.specs.Rows.{fault_refusal, place};
 ghost use Rattle.logup_column.specs.inner.Requires.{ColumnInputs, PartsOf};
 ghost use Rattle.logup_column.specs.inner.Source.{RowSource, lent_row};
+ghost use Rattle.logup_column.specs.inner.Kinds.{fault_number};
 ghost use Rattle.logup_column.specs.inner.Results.{LookupTerms};
 ghost use Rattle.logup_rows.specs.inner.Terms.{RowTerms};
 
-use expression::refusal;
-use expression::refusal::{Refusal, Verdict};
+use expression::refusal::Refusal;
 use field::extension;
+use logup_column::column::Fault;
 use logup_column::starts::{Starts, next_starts};
 use logup_column::{column, tuple};
 use lookup::types::LOOKUP_WORDS;
 
-// The refusal of a fault's number on a row, at a lookup.
-fn verdict_of(fault: u32, row: usize, lookup: usize) -> Verdict
-    ensures { refusal result ≡ fault_refusal fault row lookup }
+// The refusal of a fault on a row, at a lookup.
+fn refusal_of(fault: Fault, row: usize, lookup: usize) -> Refusal
+    ensures { some result ≡ fault_refusal (fault_number (Err fault)) row lookup }
 {
     match fault {
-        13 => Verdict::Refused(Refusal::FlagNotBinary(row as u64, lookup as u64)),
-        14 => Verdict::Refused(Refusal::TwoFlags(row as u64, lookup as u64)),
-        15 => Verdict::Refused(Refusal::DenominatorZero(row as u64, lookup as u64)),
-        _ => Verdict::Accepted,
+        Fault::FlagNotBinary => Refusal::FlagNotBinary(row as u64, lookup as u64),
+        Fault::TwoFlags => Refusal::TwoFlags(row as u64, lookup as u64),
+        Fault::DenominatorZero => Refusal::DenominatorZero(row as u64, lookup as u64),
     }
 }
 
@@ -46,32 +46,24 @@ fn lookup_terms(
     end: Starts,
     term_multiplicities: &mut [u32],
     term_denominators: &mut [u32],
-) -> u32
+) -> Result<(), Fault>
     requires { let s : RowSource = lent_row lookups.now tuples.now multiplicities.now flags.now elements.now challenges.now vals.now in ColumnInputs p w s.lookups s.challenges table.now × Below p s.vals × PartsOf s.lookups i at end
         × (length term_multiplicities.old ≡ tuple_count s.lookups.lookups i) × (length term_denominators.old ≡ 4 * tuple_count s.lookups.lookups i) }
-    ensures { let s : RowSource = lent_row lookups.now tuples.now multiplicities.now flags.now elements.now challenges.now vals.now in LookupTerms p w (place p w s.lookups s.challenges (λ _. s.vals) 0 i) result term_multiplicities.new term_denominators.new }
+    ensures { let s : RowSource = lent_row lookups.now tuples.now multiplicities.now flags.now elements.now challenges.now vals.now in LookupTerms p w (place p w s.lookups s.challenges (λ _. s.vals) 0 i) (fault_number result) term_multiplicities.new term_denominators.new }
 {
     let powers = tuple::load_powers(table, i);
     let alpha = extension::load(challenges, 2 * i);
     let own = LOOKUP_WORDS * i;
-    let tuple_start = at.tuple;
-    let tuple_end = end.tuple;
-    let multiplicity_start = at.multiplicity;
-    let multiplicity_end = end.multiplicity;
-    let flag_start = at.flag;
-    let flag_end = end.flag;
-    let element_start = at.element;
-    let element_end = end.element;
     column::lookup(
         p,
         w,
         powers,
         alpha,
         &lookups[own..own + LOOKUP_WORDS],
-        &tuples[tuple_start..tuple_end],
-        &multiplicities[multiplicity_start..multiplicity_end],
-        &flags[flag_start..flag_end],
-        &elements[element_start..element_end],
+        &tuples[at.tuple..end.tuple],
+        &multiplicities[at.multiplicity..end.multiplicity],
+        &flags[at.flag..end.flag],
+        &elements[at.element..end.element],
         vals,
         term_multiplicities,
         term_denominators,
@@ -93,25 +85,22 @@ pub fn write_row_terms(
     r: usize,
     term_multiplicities: &mut [u32],
     term_denominators: &mut [u32],
-) -> Verdict
+) -> Result<(), Refusal>
     requires { let s : RowSource = lent_row lookups.now tuples.now multiplicities.now flags.now elements.now challenges.now vals.now in ColumnInputs p w s.lookups s.challenges table.now × Below p s.vals
         × (length term_multiplicities.old ≡ length s.lookups.tuples) × (length term_denominators.old ≡ 4 * length s.lookups.tuples) }
     ensures { let s : RowSource = lent_row lookups.now tuples.now multiplicities.now flags.now elements.now challenges.now vals.now in RowTerms p w s.lookups s.challenges (λ _. s.vals) r result term_multiplicities.new term_denominators.new }
 {
     let n = lookups.len() / LOOKUP_WORDS;
-    let mut verdict = Verdict::Accepted;
+    let mut verdict = Ok(());
     let mut at = Starts {
         tuple: 0,
         multiplicity: 0,
         flag: 0,
         element: 0,
     };
-    let mut i = 0;
-    while i < n {
+    for i in 0..n {
         let end = next_starts(lookups, tuples, multiplicities, flags, elements, i, at);
-        let from = at.tuple;
-        let to = end.tuple;
-        let fault = lookup_terms(
+        let found = lookup_terms(
             p,
             w,
             lookups,
@@ -125,15 +114,14 @@ pub fn write_row_terms(
             i,
             at,
             end,
-            &mut term_multiplicities[from..to],
-            &mut term_denominators[4 * from..4 * to],
+            &mut term_multiplicities[at.tuple..end.tuple],
+            &mut term_denominators[4 * at.tuple..4 * end.tuple],
         );
         // Most rows have no fault, and then the verdict is left where it is.
-        if fault != 0 {
-            verdict = refusal::first(verdict, verdict_of(fault, r, i));
+        if let Err(fault) = found {
+            verdict = verdict.and(Err(refusal_of(fault, r, i)));
         }
         at = end;
-        i += 1;
     }
     verdict
 }

@@ -1,5 +1,5 @@
 // The rows of the trace in parts of at most 1,024, each lent from its own start; a part goes block by block.
-ghost use Rattle.std.specs.Prelude.{◌≡◌, ◌++◌, ◌<◌, ◌≤◌, ◌+◌, ◌*◌, ◌-◌, length, drop};
+ghost use Rattle.std.specs.Prelude.{◌≡◌, ◌++◌, ◌<◌, ◌≤◌, ◌+◌, ◌*◌, length, drop};
 ghost use Rattle.lists.specs.Count.{joined};
 ghost use Rattle.expression.specs.Requires.{Evaluable};
 ghost use Rattle.lookup.specs.Lookups.{lookup_count};
@@ -9,7 +9,6 @@ ghost use Rattle.logup_column.specs.inner.Source.{Source, lent_source, node_valu
 ghost use Rattle.logup_rows.specs.inner.Progress.{Reached};
 
 use crate::block::{Progress, block};
-use expression::refusal::Verdict;
 use expression::sizes::Shape;
 use field::extension::Ext;
 use lookup::types::LOOKUP_WORDS;
@@ -20,14 +19,6 @@ fn block_rows(tuples: usize) -> usize
     ensures { (0 < result) × (result * tuples ≤ 256) }
 {
     if tuples == 0 { 256 } else { 256 / tuples }
-}
-
-// Where the run that starts at row r ends: `most` rows on, or at the last row.
-fn run_end(r: usize, most: usize, height: usize) -> usize
-    requires { (r < height) × (0 < most) }
-    ensures { (r < result) × (result ≤ height) × (result - r ≤ most) }
-{
-    if most < height - r { r + most } else { height }
 }
 
 // k rows from row `from` on, with the accumulator before them.
@@ -62,9 +53,9 @@ pub fn rows(
     let mut progress = before;
     let mut at = 0;
     let mut j = 0;
+    // The step is not one row: a block goes as far as it can.
     while j < k {
-        let next = run_end(j, most, k);
-        let n = next - j;
+        let n = (k - j).min(most);
         let end = at + n * width;
         progress = block(
             p,
@@ -87,7 +78,7 @@ pub fn rows(
             &mut out[at..end],
         );
         at = end;
-        j = next;
+        j += n;
     }
     progress
 }
@@ -116,21 +107,15 @@ pub fn all_rows(
         × (out.new ≡ trace p w s.lookups s.challenges (node_values p s) shape.height ++ drop (used s.lookups.lookups shape.height) out.old) }
 {
     let width = 4 * (lookups.len() / LOOKUP_WORDS) + 4;
-    let height = shape.height;
     let mut progress = Progress {
-        accumulator: Ext {
-            c0: 0,
-            c1: 0,
-            c2: 0,
-            c3: 0,
-        },
-        verdict: Verdict::Accepted,
+        accumulator: Ext::ZERO,
+        verdict: Ok(()),
     };
     let mut at = 0;
     let mut r = 0;
-    while r < height {
-        let next = run_end(r, 1024, height);
-        let k = next - r;
+    // The step is not one row: a part has up to 1,024.
+    while r < shape.height {
+        let k = (shape.height - r).min(1024);
         let end = at + k * width;
         progress = rows(
             p,
@@ -153,7 +138,7 @@ pub fn all_rows(
             &mut out[at..end],
         );
         at = end;
-        r = next;
+        r += k;
     }
     progress
 }

@@ -5,7 +5,6 @@ ghost use Rattle.field.specs.Ext.{ext_words};
 ghost use Rattle.lookup.specs.Lookups.{lookup_words, lookup_count, tuple_start};
 ghost use Rattle.logup_rows.specs.inner.Sums.{sum_from, Quotients, RowWritten, RowsWritten};
 
-use expression::words::to_usize;
 use field::extension;
 use field::extension::Ext;
 use lookup::types;
@@ -16,16 +15,9 @@ fn sum_of(p: u32, quotients: &[u32], at: usize, n: usize) -> Ext
     requires { Quotients p quotients.now × (4 * (at + n) ≤ length quotients.now) }
     ensures { Word4 p (ext_words result) × (ext_words result ≡ sum_from p quotients.now at n) }
 {
-    let mut sum = Ext {
-        c0: 0,
-        c1: 0,
-        c2: 0,
-        c3: 0,
-    };
-    let mut k = 0;
-    while k < n {
+    let mut sum = Ext::ZERO;
+    for k in 0..n {
         sum = extension::add(p, sum, extension::load(quotients, at + k));
-        k += 1;
     }
     sum
 }
@@ -45,22 +37,14 @@ fn write_row(
 {
     let n = lookups.len() / LOOKUP_WORDS;
     extension::store(&mut out[0..4], accumulator);
-    let mut sum = Ext {
-        c0: 0,
-        c1: 0,
-        c2: 0,
-        c3: 0,
-    };
+    let mut sum = Ext::ZERO;
     let mut at = start;
-    let mut i = 0;
-    while i < n {
-        let count = to_usize(types::tuple_count(lookups, i));
+    for i in 0..n {
+        let count = types::tuple_count(lookups, i) as usize;
         let fraction = sum_of(p, quotients, at, count);
-        let word = 4 * i + 4;
-        extension::store(&mut out[word..word + 4], fraction);
+        extension::store(&mut out[4 * i + 4..4 * i + 8], fraction);
         sum = extension::add(p, sum, fraction);
-        at = at + count;
-        i += 1;
+        at += count;
     }
     sum
 }
@@ -83,14 +67,12 @@ pub fn write_rows(
     let mut accumulator = before;
     let mut start = 0;
     let mut at = 0;
-    let mut j = 0;
-    while j < k {
+    for j in 0..k {
         let end = at + width;
         let sum = write_row(p, lookups, quotients, start, accumulator, &mut out[at..end]);
         accumulator = extension::add(p, accumulator, sum);
-        start = start + size;
+        start += size;
         at = end;
-        j += 1;
     }
     accumulator
 }

@@ -1,6 +1,6 @@
 -- One row of the trace, and the turns of the loop over the rows.
 use mathlib.Core.Path.{◌≡◌, refl, sym, ap, ap₂, ◌∙◌}
-use mathlib.Core.Bool.{Bool, true, false, cond, true≢false}
+use mathlib.Core.Bool.{Bool, true, false, cond}
 use mathlib.Core.Option.{Option, none, some}
 use mathlib.Core.List.{List}
 use Prim.Native.Nat.{ℕ, ◌+◌, ◌*◌, ◌<◌, ◌≤◌, zero-le}
@@ -18,7 +18,7 @@ use Rattle.lookup.specs.Lookups.{Lookups, lookup_count}
 use Rattle.logup.specs.Rows.{place}
 use Rattle.logup.specs.Constraints.{must_vanish, cell, cell_sum, lookup_constraint, step, binding, row_verdict}
 use Rattle.logup_terms.specs.inner.Constraint.{vanishing}
-use Rattle.logup_terms.specs.inner.ConstraintRow.{fractions_sum, fractions_verdict, next_accumulator, accumulator_verdict, is_refused, TraceInputs}
+use Rattle.logup_terms.specs.inner.ConstraintRow.{fractions_sum, fractions_verdict, next_accumulator, accumulator_verdict, TraceInputs}
 
 -- where a row lies
 module _ {p height width n : ℕ} {words : List ℕ} {base : ℕ} (r : ℕ) (s : TraceInputs p height width n words) (e : base ≡ r * width) where
@@ -86,28 +86,20 @@ pub rows_loop_begins : {f : ℕ → Option Refusal} {p height width n : ℕ} {wo
 unfolding first
 rows_loop_begins {width = width} c s = record { cap = c; traced = s; within = zero-le; base≡ = sym (zero-mul width); none≡ = refl }
 
-accepted : (o : Option Refusal) → is_refused o ≡ false → o ≡ none
-accepted none e = refl
-accepted (some f) e = absurd (true≢false e)
-
 module _ {f : ℕ → Option Refusal} {p height width n : ℕ} {words : List ℕ} {base r : ℕ} (s : RowsLoop f p height width n words base r) where
-  pub rows_loop_turn : {b : Bool} (o : Option Refusal) → r < height → o ≡ f r → b ≡ is_refused o → b ≡ false → RowsLoop f p height width n words (base + width) (r + 1)
+  pub rows_loop_turn : r < height → none ≡ f r → RowsLoop f p height width n words (base + width) (r + 1)
   unfolding first
-  rows_loop_turn o h e eb q =
+  rows_loop_turn h e =
       record {
         cap = s.cap;
         traced = s.traced;
         within = omega arith;
         base≡ = rw (add-one r, suc-mul r width, s.base≡);
-        none≡ = rw (add-one r) (ap₂ or_else s.none≡ (sym e ∙ accepted o (sym eb ∙ q)));
+        none≡ = rw (add-one r) (ap₂ or_else s.none≡ (sym e));
       }
 
-  pub rows_loop_stops : {b : Bool} (o : Option Refusal) → r < height → o ≡ f r → b ≡ is_refused o → b ≡ true → o ≡ first f height
-  rows_loop_stops o h e eb q = go o e (sym eb ∙ q)
-    where
-      go : (o : Option Refusal) → o ≡ f r → is_refused o ≡ true → o ≡ first f height
-      go none e t = absurd (true≢false (sym t))
-      go (some x) e t = sym (first_stop f height r x h s.none≡ (sym e))
+  pub rows_loop_stops : (x : Refusal) → r < height → some x ≡ f r → some x ≡ first f height
+  rows_loop_stops x h e = sym (first_stop f height r x h s.none≡ (sym e))
 
   pub rows_loop_ends : height ≤ r → none ≡ first f height
   rows_loop_ends h = let e : r ≡ height = omega (arith, s.within) in sym s.none≡ ∙ ap (first f) e

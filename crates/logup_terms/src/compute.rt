@@ -42,24 +42,17 @@ fn add_term(p: u32, w: u32, t: Fraction, k: usize, m: u32, d: Ext) -> Fraction
 {
     if k == 0 {
         return Fraction {
-            numerator: Ext {
-                c0: m,
-                c1: 0,
-                c2: 0,
-                c3: 0,
-            },
+            numerator: Ext { c0: m, ..Ext::ZERO },
             denominator: d,
         };
     }
-    let numerator = t.numerator;
-    let denominator = t.denominator;
     Fraction {
         numerator: extension::add(
             p,
-            extension::mul(p, w, numerator, d),
-            extension::scale(p, m, denominator),
+            extension::mul(p, w, t.numerator, d),
+            extension::scale(p, m, t.denominator),
         ),
-        denominator: extension::mul(p, w, denominator, d),
+        denominator: extension::mul(p, w, t.denominator, d),
     }
 }
 
@@ -80,28 +73,16 @@ pub fn compute_combined_sum_terms(
 {
     let n = to_usize(types::tuple_count(own, 0));
     let mut t = Fraction {
-        numerator: Ext {
-            c0: 0,
-            c1: 0,
-            c2: 0,
-            c3: 0,
-        },
-        denominator: Ext {
-            c0: 1,
-            c1: 0,
-            c2: 0,
-            c3: 0,
-        },
+        numerator: Ext::ZERO,
+        denominator: Ext::ONE,
     };
     let mut at = 0;
-    let mut k = 0;
-    while k < n {
+    for k in 0..n {
         let m = tuple::value(vals, multiplicities[k]);
         let end = at + to_usize(widths[k]);
         let d = tuple::denominator(p, w, powers, alpha, vals, &nodes[at..end]);
         t = add_term(p, w, t, k, m, d);
         at = end;
-        k += 1;
     }
     t
 }
@@ -111,13 +92,10 @@ fn add_branch(p: u32, t: Branches, f: u32, m: u32, d: Ext) -> Branches
     requires { KnownPrime p × (t.numerator < p) × Word4 p (ext_words t.denominator) × (t.flags < p) × (f < p) × (m < p) × Word4 p (ext_words d) }
     ensures { BranchAdded p t f m (ext_words d) result }
 {
-    let numerator = t.numerator;
-    let denominator = t.denominator;
-    let flags = t.flags;
     Branches {
-        numerator: word::add(p, numerator, word::mul(p, f, m)),
-        denominator: extension::add(p, denominator, extension::scale(p, f, d)),
-        flags: word::add(p, flags, f),
+        numerator: word::add(p, t.numerator, word::mul(p, f, m)),
+        denominator: extension::add(p, t.denominator, extension::scale(p, f, d)),
+        flags: word::add(p, t.flags, f),
     }
 }
 
@@ -140,24 +118,17 @@ fn sum_branches(
     let n = to_usize(types::tuple_count(own, 0));
     let mut t = Branches {
         numerator: 0,
-        denominator: Ext {
-            c0: 0,
-            c1: 0,
-            c2: 0,
-            c3: 0,
-        },
+        denominator: Ext::ZERO,
         flags: 0,
     };
     let mut at = 0;
-    let mut k = 0;
-    while k < n {
+    for k in 0..n {
         let f = tuple::value(vals, flags[k]);
         let m = tuple::value(vals, multiplicities[k]);
         let end = at + to_usize(widths[k]);
         let d = tuple::denominator(p, w, powers, alpha, vals, &nodes[at..end]);
         t = add_branch(p, t, f, m, d);
         at = end;
-        k += 1;
     }
     t
 }
@@ -190,27 +161,16 @@ pub fn compute_exclusive_terms(
         nodes,
         vals,
     );
-    let denominator = t.denominator;
-    let one = Ext {
-        c0: 1,
-        c1: 0,
-        c2: 0,
-        c3: 0,
-    };
     let flags_sum = Ext {
         c0: t.flags,
-        c1: 0,
-        c2: 0,
-        c3: 0,
+        ..Ext::ZERO
     };
     Fraction {
         numerator: Ext {
             c0: t.numerator,
-            c1: 0,
-            c2: 0,
-            c3: 0,
+            ..Ext::ZERO
         },
-        denominator: extension::add(p, denominator, extension::sub(p, one, flags_sum)),
+        denominator: extension::add(p, t.denominator, extension::sub(p, Ext::ONE, flags_sum)),
     }
 }
 
@@ -288,7 +248,5 @@ pub fn lookup_constraint(
         nodes,
         vals,
     );
-    let numerator = t.numerator;
-    let denominator = t.denominator;
-    extension::sub(p, extension::mul(p, w, denominator, cell), numerator)
+    extension::sub(p, extension::mul(p, w, t.denominator, cell), t.numerator)
 }

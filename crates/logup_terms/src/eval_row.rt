@@ -12,12 +12,11 @@ ghost use Rattle.logup.specs.Constraints.{must_vanish, row_verdict, rows_verdict
 ghost use Rattle.logup_column.specs.inner.Requires.{ColumnInputs, PartsOf};
 ghost use Rattle.logup_column.specs.inner.Source.{Source, lent_source, node_values, RowSource, lent_row};
 ghost use Rattle.logup_terms.specs.inner.Constraint.{vanishing};
-ghost use Rattle.logup_terms.specs.inner.ConstraintRow.{next_accumulator, accumulator_verdict, is_refused, TraceInputs, FractionsEvaluated};
+ghost use Rattle.logup_terms.specs.inner.ConstraintRow.{next_accumulator, accumulator_verdict, TraceInputs, FractionsEvaluated};
 
 use crate::compute;
 use expression::node::NODE_WORDS;
-use expression::refusal;
-use expression::refusal::{Refusal, Verdict};
+use expression::refusal::Refusal;
 use expression::sizes::Shape;
 use expression::words::clear;
 use expression_eval::traits;
@@ -27,21 +26,14 @@ use logup_column::starts::{Starts, next_starts};
 use logup_column::tuple;
 use lookup::types::{LOOKUP_WORDS, LookupTerminal};
 
-// The sum of a row's fractions, and the first refusal of its lookups.
-#[derive(Clone, Copy)]
-pub struct RowFractions {
-    pub sum: Ext,
-    pub verdict: Verdict,
-}
-
 // Refusal 17 with row and place, unless the value is zero.
-fn must_vanish(x: Ext, row: usize, place: usize) -> Verdict
+fn must_vanish(x: Ext, row: usize, place: usize) -> Result<(), Refusal>
     ensures { refusal result ≡ must_vanish (ext_words x) row place }
 {
     if extension::is_zero(x) {
-        Verdict::Accepted
+        Ok(())
     } else {
-        Verdict::Refused(Refusal::ConstraintNotZero(row as u64, place as u64))
+        Err(Refusal::ConstraintNotZero(row as u64, place as u64))
     }
 }
 
@@ -69,30 +61,22 @@ fn eval_fraction(
     let powers = tuple::load_powers(table, i);
     let alpha = extension::load(challenges, 2 * i);
     let own = LOOKUP_WORDS * i;
-    let tuple_start = at.tuple;
-    let tuple_end = end.tuple;
-    let multiplicity_start = at.multiplicity;
-    let multiplicity_end = end.multiplicity;
-    let flag_start = at.flag;
-    let flag_end = end.flag;
-    let element_start = at.element;
-    let element_end = end.element;
     compute::lookup_constraint(
         p,
         w,
         powers,
         alpha,
         &lookups[own..own + LOOKUP_WORDS],
-        &tuples[tuple_start..tuple_end],
-        &multiplicities[multiplicity_start..multiplicity_end],
-        &flags[flag_start..flag_end],
-        &elements[element_start..element_end],
+        &tuples[at.tuple..end.tuple],
+        &multiplicities[at.multiplicity..end.multiplicity],
+        &flags[at.flag..end.flag],
+        &elements[at.element..end.element],
         vals,
         cell,
     )
 }
 
-// The constraints of all lookups on row r.
+// The constraints of all lookups on row r: the sum of the row's fractions, or the first refusal.
 fn eval_fractions(
     p: u32,
     w: u32,
@@ -107,27 +91,20 @@ fn eval_fractions(
     words: &[u32],
     base: usize,
     r: usize,
-) -> RowFractions
+) -> Result<Ext, Refusal>
     requires { let s : RowSource = lent_row lookups.now tuples.now multiplicities.now flags.now elements.now challenges.now vals.now in ColumnInputs p w s.lookups s.challenges table.now × Below p s.vals × Below p words.now
         × (4 * (base + (lookup_count s.lookups.lookups + 1)) ≤ length words.now) }
     ensures { let s : RowSource = lent_row lookups.now tuples.now multiplicities.now flags.now elements.now challenges.now vals.now in FractionsEvaluated p w s words.now base r result }
 {
     let n = lookups.len() / LOOKUP_WORDS;
-    let mut sum = Ext {
-        c0: 0,
-        c1: 0,
-        c2: 0,
-        c3: 0,
-    };
-    let mut verdict = Verdict::Accepted;
+    let mut sum = Ext::ZERO;
     let mut at = Starts {
         tuple: 0,
         multiplicity: 0,
         flag: 0,
         element: 0,
     };
-    let mut i = 0;
-    while i < n {
+    for i in 0..n {
         let end = next_starts(lookups, tuples, multiplicities, flags, elements, i, at);
         let cell = extension::load(words, base + (i + 1));
         let value = eval_fraction(
@@ -146,12 +123,11 @@ fn eval_fractions(
             end,
             cell,
         );
-        verdict = refusal::first(verdict, must_vanish(value, r, i));
+        must_vanish(value, r, i)?;
         sum = extension::add(p, sum, cell);
         at = end;
-        i += 1;
     }
-    RowFractions { sum, verdict }
+    Ok(sum)
 }
 
 // What the accumulator must become after row r: the next row's, which is element `next`, and on the last row the terminal.
@@ -173,13 +149,13 @@ fn next_accumulator(
 }
 
 // The accumulator is tested on row 0 alone.
-fn first_row(accumulator: Ext, r: usize, n: usize) -> Verdict
+fn first_row(accumulator: Ext, r: usize, n: usize) -> Result<(), Refusal>
     ensures { refusal result ≡ cond (eqb r 0) (must_vanish (ext_words accumulator) r n) none }
 {
     if r == 0 {
         must_vanish(accumulator, r, n)
     } else {
-        Verdict::Accepted
+        Ok(())
     }
 }
 
@@ -202,17 +178,15 @@ fn eval_accumulator(
     n: usize,
     r: usize,
     height: usize,
-) -> Verdict
+) -> Result<(), Refusal>
     requires { KnownPrime p × Word4 p (ext_words accumulator) × Below p words.now × (r + 1 < height → 4 * next + 4 ≤ length words.now)
         × Word4 p (ext_words terminal.0) × Word4 p (ext_words sum) × (r < height) × (n ≤ 64) }
     ensures { refusal result ≡ accumulator_verdict p (ext_words accumulator) (next_accumulator words.now next r height (ext_words terminal.0)) (ext_words sum) n r height }
 {
     let due = next_accumulator(p, words, next, r, height, terminal);
     let rest = extension::sub(p, extension::sub(p, due, accumulator), sum);
-    refusal::first(
-        first_row(accumulator, r, n),
-        must_vanish(rest, r, last_place(n, r, height)),
-    )
+    first_row(accumulator, r, n)?;
+    must_vanish(rest, r, last_place(n, r, height))
 }
 
 // The constraints of row r, whose first element is number `base`; `vals` are its node values.
@@ -233,14 +207,14 @@ fn eval_row(
     base: usize,
     r: usize,
     height: usize,
-) -> Verdict
+) -> Result<(), Refusal>
     requires { let s : RowSource = lent_row lookups.now tuples.now multiplicities.now flags.now elements.now challenges.now vals.now in ColumnInputs p w s.lookups s.challenges table.now × Below p s.vals
         × TraceInputs p height width (lookup_count s.lookups.lookups) words.now × Word4 p (ext_words terminal.0)
         × (r < height) × (base ≡ r * width) × (lookup_count s.lookups.lookups ≤ 64) }
     ensures { let s : RowSource = lent_row lookups.now tuples.now multiplicities.now flags.now elements.now challenges.now vals.now in (values : ℕ → List ℕ) → values r ≡ s.vals
         → refusal result ≡ row_verdict p w s.lookups s.challenges values width words.now (ext_words terminal.0) height r }
 {
-    let fractions = eval_fractions(
+    let sum = eval_fractions(
         p,
         w,
         lookups,
@@ -254,34 +228,20 @@ fn eval_row(
         words,
         base,
         r,
-    );
-    let sum = fractions.sum;
-    let verdict = fractions.verdict;
+    )?;
     let accumulator = extension::load(words, base);
     let n = lookups.len() / LOOKUP_WORDS;
-    refusal::first(
-        verdict,
-        eval_accumulator(
-            p,
-            accumulator,
-            words,
-            base + width,
-            terminal,
-            sum,
-            n,
-            r,
-            height,
-        ),
+    eval_accumulator(
+        p,
+        accumulator,
+        words,
+        base + width,
+        terminal,
+        sum,
+        n,
+        r,
+        height,
     )
-}
-
-fn is_refused(v: Verdict) -> bool
-    ensures { result ≡ is_refused (refusal v) }
-{
-    match v {
-        Verdict::Accepted => false,
-        Verdict::Refused(_) => true,
-    }
 }
 
 // All rows; the first that refuses ends the run.
@@ -303,7 +263,7 @@ pub fn eval_rows(
     width: usize,
     words: &[u32],
     terminal: LookupTerminal,
-) -> Verdict
+) -> Result<(), Refusal>
     requires { let s : Source = lent_source shape main.now preprocessed.now public_values.now nodes.now lookups.now tuples.now multiplicities.now flags.now elements.now challenges.now in ColumnInputs p w s.lookups s.challenges table.now × Evaluable p s.traces s.nodes
         × TraceInputs p shape.height width (lookup_count s.lookups.lookups) words.now × Word4 p (ext_words terminal.0)
         × (lookup_count s.lookups.lookups ≤ 64) }
@@ -313,8 +273,7 @@ pub fn eval_rows(
     let count = nodes.len() / NODE_WORDS;
     let mut vals = [0u32; 1024];
     let mut base = 0;
-    let mut r = 0;
-    while r < height {
+    for r in 0..height {
         traits::row_values(
             p,
             shape,
@@ -325,7 +284,7 @@ pub fn eval_rows(
             r,
             &mut vals,
         );
-        let verdict = eval_row(
+        eval_row(
             p,
             w,
             lookups,
@@ -342,14 +301,10 @@ pub fn eval_rows(
             base,
             r,
             height,
-        );
-        if is_refused(verdict) {
-            return verdict;
-        }
+        )?;
         // Zero at the start of every row: only the values that the nodes filled need it.
         clear(&mut vals[0..count]);
-        base = base + width;
-        r += 1;
+        base += width;
     }
-    Verdict::Accepted
+    Ok(())
 }

@@ -7,23 +7,12 @@ ghost use Rattle.lookup.specs.Requires.{BusNames};
 
 use crate::starts::name_start;
 use crate::types::{exclusive, name_length, on_bus};
-use expression::words::to_usize;
 
 // Whether two names are equal.
 pub fn same_bytes(x: &[u8], y: &[u8]) -> bool
     ensures { result ≡ same_list x.now y.now }
 {
-    if x.len() != y.len() {
-        return false;
-    }
-    let mut i = 0;
-    while i < x.len() {
-        if x[i] != y[i] {
-            return false;
-        }
-        i += 1;
-    }
-    true
+    x == y
 }
 
 // A lookup that shares its column with none: a local, and in packing an exclusive one too.
@@ -31,10 +20,7 @@ pub fn alone(lookups: &[u32], packing: bool, i: usize) -> bool
     requires { lookup_words * i + lookup_words ≤ length lookups.now }
     ensures { result ≡ alone_at packing lookups.now i }
 {
-    if packing {
-        return !on_bus(lookups, i) | exclusive(lookups, i);
-    }
-    !on_bus(lookups, i)
+    !on_bus(lookups, i) | (packing & exclusive(lookups, i))
 }
 
 // Whether lookups i and j are on one bus, neither alone.
@@ -42,15 +28,12 @@ pub fn same_bus(lookups: &[u32], names: &[u8], packing: bool, i: usize, j: usize
     requires { let l : Lookups = bus_lookups lookups.now names.now [] in BusNames l.lookups l.names × (i < lookup_count l.lookups) × (j < lookup_count l.lookups) }
     ensures { let l : Lookups = bus_lookups lookups.now names.now [] in result ≡ same_bus (alone_at packing l.lookups) (name_at l.lookups l.names) i j }
 {
-    if alone(lookups, packing, i) {
-        return false;
-    }
-    if alone(lookups, packing, j) {
+    if alone(lookups, packing, i) || alone(lookups, packing, j) {
         return false;
     }
     let first = name_start(lookups, i);
     let second = name_start(lookups, j);
-    let first_end = first + to_usize(name_length(lookups, i));
-    let second_end = second + to_usize(name_length(lookups, j));
+    let first_end = first + name_length(lookups, i) as usize;
+    let second_end = second + name_length(lookups, j) as usize;
     same_bytes(&names[first..first_end], &names[second..second_end])
 }

@@ -14,7 +14,7 @@ ghost use Rattle.lookup.specs.Refusals.{shape_of, columns_within, form_sizes, no
 
 use crate::tests::{lists_agree, lookups_fit, lookups_within};
 use expression::node::NODE_WORDS;
-use expression::refusal::{Refusal, Verdict, first};
+use expression::refusal::Refusal;
 use expression::sizes::{Limits, Shape};
 use expression_checks::degrees::degrees_low;
 use expression_checks::fits::{nodes_fit, nodes_within, traces_fit, traces_within};
@@ -28,7 +28,7 @@ pub struct Columns {
     pub public_values: usize,
 }
 
-// Refusal 1 of a table.
+// Refusal 1 of a table. What follows `&&` may be asked only of sizes within the limits.
 pub fn sizes(
     limits: Limits,
     shape: Shape,
@@ -46,16 +46,12 @@ pub fn sizes(
     requires { Sane limits }
     ensures { result ≡ sizes limits (lent_table shape main.now preprocessed.now public_values.now nodes.now (lent_lookups lookups.now names.now tuples.now multiplicities.now flags.now elements.now)) }
 {
-    if traces_within(limits, shape, public_values)
+    (traces_within(limits, shape, public_values)
         & nodes_within(limits, nodes)
-        & lookups_within(limits, lookups, tuples)
-    {
-        traces_fit(shape, main, preprocessed)
+        & lookups_within(limits, lookups, tuples))
+        && (traces_fit(shape, main, preprocessed)
             & nodes_fit(nodes)
-            & lookups_fit(lookups, names, tuples, multiplicities, flags, elements)
-    } else {
-        false
-    }
+            & lookups_fit(lookups, names, tuples, multiplicities, flags, elements))
 }
 
 // Refusal 2 of a table, whatever its sizes and its lookups.
@@ -107,28 +103,29 @@ pub fn form_sizes(
     requires { Sane limits }
     ensures { result ≡ form_sizes limits columns nodes.now (lent_lookups lookups.now names.now tuples.now multiplicities.now flags.now elements.now) }
 {
-    if columns_within(limits, columns)
+    (columns_within(limits, columns)
         & nodes_within(limits, nodes)
-        & lookups_within(limits, lookups, tuples)
-    {
-        nodes_fit(nodes) & lookups_fit(lookups, names, tuples, multiplicities, flags, elements)
-    } else {
-        false
-    }
+        & lookups_within(limits, lookups, tuples))
+        && (nodes_fit(nodes) & lookups_fit(lookups, names, tuples, multiplicities, flags, elements))
 }
 
 // Refusals 3 and 4 of the nodes, where there are so many public values.
-pub fn nodes_refusal(limits: Limits, shape: Shape, publics: usize, nodes: &[u32]) -> Verdict
+pub fn nodes_refusal(
+    limits: Limits,
+    shape: Shape,
+    publics: usize,
+    nodes: &[u32],
+) -> Result<(), Refusal>
     requires { (limits.degree ≤ 65535) × (node_count nodes.now ≤ 1024) }
     ensures { (later : Option Refusals.Refusal) → or_else (refusal result) later ≡ nodes_refusal limits shape publics nodes.now later }
 {
     if !nodes_known(shape, publics, nodes) {
-        return Verdict::Refused(Refusal::NodeInvalid);
+        return Err(Refusal::NodeInvalid);
     }
     if !degrees_low(limits, nodes) {
-        return Verdict::Refused(Refusal::DegreeTooHigh);
+        return Err(Refusal::DegreeTooHigh);
     }
-    Verdict::Accepted
+    Ok(())
 }
 
 // Refusal 5 of every entry point.
@@ -138,7 +135,7 @@ fn lists_refusal(
     multiplicities: &[u32],
     flags: &[u32],
     elements: &[u32],
-) -> Verdict
+) -> Result<(), Refusal>
     requires { node_count nodes.now ≤ 1024 }
     ensures { (names tuples : List ℕ) → refusal result ≡ lists_refusal (node_count nodes.now) (lent_lookups lookups.now names tuples multiplicities.now flags.now elements.now) }
 {
@@ -149,9 +146,9 @@ fn lists_refusal(
         flags,
         elements,
     ) {
-        Verdict::Accepted
+        Ok(())
     } else {
-        Verdict::Refused(Refusal::LookupInvalid)
+        Err(Refusal::LookupInvalid)
     }
 }
 
@@ -169,7 +166,7 @@ pub fn table_refusal(
     multiplicities: &[u32],
     flags: &[u32],
     elements: &[u32],
-) -> Verdict
+) -> Result<(), Refusal>
     requires { Sane limits }
     ensures { refusal result ≡ table_refusal limits p (lent_table shape main.now preprocessed.now public_values.now nodes.now (lent_lookups lookups.now names.now tuples.now multiplicities.now flags.now elements.now)) }
 {
@@ -187,15 +184,13 @@ pub fn table_refusal(
         flags,
         elements,
     ) {
-        return Verdict::Refused(Refusal::SizeAtOdds);
+        return Err(Refusal::SizeAtOdds);
     }
     if !words_below(p, main, preprocessed, public_values, nodes) {
-        return Verdict::Refused(Refusal::WordTooLarge);
+        return Err(Refusal::WordTooLarge);
     }
-    first(
-        nodes_refusal(limits, shape, public_values.len(), nodes),
-        lists_refusal(nodes, lookups, multiplicities, flags, elements),
-    )
+    nodes_refusal(limits, shape, public_values.len(), nodes)?;
+    lists_refusal(nodes, lookups, multiplicities, flags, elements)
 }
 
 // The same of a table without its traces.
@@ -210,7 +205,7 @@ pub fn form_refusal(
     multiplicities: &[u32],
     flags: &[u32],
     elements: &[u32],
-) -> Verdict
+) -> Result<(), Refusal>
     requires { Sane limits }
     ensures { refusal result ≡ form_refusal limits p columns nodes.now (lent_lookups lookups.now names.now tuples.now multiplicities.now flags.now elements.now) }
 {
@@ -225,13 +220,11 @@ pub fn form_refusal(
         flags,
         elements,
     ) {
-        return Verdict::Refused(Refusal::SizeAtOdds);
+        return Err(Refusal::SizeAtOdds);
     }
     if !constants_below(p, nodes) {
-        return Verdict::Refused(Refusal::WordTooLarge);
+        return Err(Refusal::WordTooLarge);
     }
-    first(
-        nodes_refusal(limits, shape_of(columns), columns.public_values, nodes),
-        lists_refusal(nodes, lookups, multiplicities, flags, elements),
-    )
+    nodes_refusal(limits, shape_of(columns), columns.public_values, nodes)?;
+    lists_refusal(nodes, lookups, multiplicities, flags, elements)
 }

@@ -2,14 +2,14 @@
 ghost use Rattle.std.specs.Prelude.{◌≡◌, List, ℕ, ◌+◌, ◌*◌, ◌<◌, ◌≤◌};
 ghost use Rattle.lookup.specs.Sizes.{size, size_start};
 
-use expression::words::{to_usize, total_of, word_at};
+use expression::words::{total_of, word_at};
 
 // Size f of table t.
 pub fn size(sizes: &[u32], words: usize, f: usize, t: usize) -> usize
     requires { (words ≤ 16) × (f < words) × (t ≤ 4294967295) }
     ensures { (result ≡ size words sizes.now f t) × (result ≤ 4294967295) }
 {
-    to_usize(word_at(sizes, words * t + f))
+    word_at(sizes, words * t + f) as usize
 }
 
 // What the tables before table t have of size f.

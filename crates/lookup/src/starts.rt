@@ -5,18 +5,16 @@ ghost use Rattle.lookup.specs.Lookups.{lookup_count, name_start, tuple_start, mu
 use crate::types::{
     FLAG_COUNT_WORD, LOOKUP_WORDS, MULTIPLICITY_COUNT_WORD, TUPLE_COUNT_WORD, name_length,
 };
-use expression::words::{to_usize, total_of};
+use expression::words::total_of;
 
+// A loop of its own, and not `total_of`: a local has no name, whatever its word says.
 pub fn name_start(lookups: &[u32], i: usize) -> usize
     requires { (i ≤ lookup_count lookups.now) × (i ≤ 4294967295) }
     ensures { (result ≡ name_start lookups.now i) × (result ≤ i * 4294967295) }
 {
     let mut sum: usize = 0;
-    let mut j = 0;
-    while j < i {
-        let bytes = to_usize(name_length(lookups, j));
-        sum = sum + bytes;
-        j += 1;
+    for j in 0..i {
+        sum += name_length(lookups, j) as usize;
     }
     sum
 }

@@ -10,7 +10,7 @@ use crate::types::{
     tuple_count, weight,
 };
 use expression::sizes::{Limits, Shape};
-use expression::words::{all_below, all_within, to_u64};
+use expression::words::{all_below, all_within};
 
 // The most that lookup i's weight may be.
 fn weight_limit(lookups: &[u32], i: usize) -> u64
@@ -21,7 +21,7 @@ fn weight_limit(lookups: &[u32], i: usize) -> u64
     if on_bus(lookups, i) | (tuples == 0) {
         return 4294967295;
     }
-    to_u64(tuples) * 4294967295
+    u64::from(tuples) * 4294967295
 }
 
 // The name and the weight of lookup i are within the limits.
@@ -33,16 +33,14 @@ fn lookup_within(limits: Limits, lookups: &[u32], i: usize) -> bool
         & (weight(lookups, i) <= weight_limit(lookups, i))
 }
 
-// So of each lookup.
+// So of each lookup. Here and below a flag, and no early return: that would be no shorter.
 pub fn each_within(limits: Limits, lookups: &[u32]) -> bool
     ensures { let l : List ℕ = lookups.now in result ≡ every (lookup_within limits l) (lookup_count l) }
 {
     let n = lookups.len() / LOOKUP_WORDS;
     let mut ok = true;
-    let mut i = 0;
-    while i < n {
-        ok = ok & lookup_within(limits, lookups, i);
-        i += 1;
+    for i in 0..n {
+        ok &= lookup_within(limits, lookups, i);
     }
     ok
 }
@@ -105,10 +103,8 @@ pub fn all_agree(lookups: &[u32]) -> bool
 {
     let n = lookups.len() / LOOKUP_WORDS;
     let mut ok = true;
-    let mut i = 0;
-    while i < n {
-        ok = ok & lengths_agree(lookups, i);
-        i += 1;
+    for i in 0..n {
+        ok &= lengths_agree(lookups, i);
     }
     ok
 }
@@ -139,10 +135,8 @@ pub fn in_position(lookups: &[u32]) -> bool
 {
     let n = lookups.len() / LOOKUP_WORDS;
     let mut ok = true;
-    let mut i = 0;
-    while i < n {
-        ok = ok & (to_u64(column(lookups, i)) == i as u64);
-        i += 1;
+    for i in 0..n {
+        ok &= (column(lookups, i) as usize == i);
     }
     ok
 }

@@ -2,7 +2,6 @@
 ghost use Rattle.std.specs.Prelude.{◌≡◌, ◌+◌, ◌*◌, ◌<◌, ◌≤◌, length};
 ghost use Rattle.lookup.specs.Lookups.{lookup_words, lookup_word, on_bus, name_length, weight, column, exclusive, tuple_count, multiplicity_count, flag_count};
 
-use expression::words::to_u64;
 use field::extension::Ext;
 
 // The words of a lookup's record, and the place of each.
@@ -43,7 +42,7 @@ pub fn on_bus(lookups: &[u32], i: usize) -> bool
     requires { lookup_words * i + lookup_words ≤ length lookups.now }
     ensures { result ≡ on_bus lookups.now i }
 {
-    !(lookup_word(lookups, i, SCOPE_WORD) == 0)
+    lookup_word(lookups, i, SCOPE_WORD) != 0
 }
 
 // How many bytes of the names are lookup i's: none of a local.
@@ -62,8 +61,8 @@ pub fn weight(lookups: &[u32], i: usize) -> u64
     requires { lookup_words * i + lookup_words ≤ length lookups.now }
     ensures { result ≡ weight lookups.now i }
 {
-    let low = to_u64(lookup_word(lookups, i, WEIGHT_WORD));
-    let high = to_u64(lookup_word(lookups, i, WEIGHT_HIGH_WORD));
+    let low = u64::from(lookup_word(lookups, i, WEIGHT_WORD));
+    let high = u64::from(lookup_word(lookups, i, WEIGHT_HIGH_WORD));
     low + 4294967296 * high
 }
 
@@ -78,7 +77,7 @@ pub fn exclusive(lookups: &[u32], i: usize) -> bool
     requires { lookup_words * i + lookup_words ≤ length lookups.now }
     ensures { result ≡ exclusive lookups.now i }
 {
-    !(lookup_word(lookups, i, EXCLUSIVE_WORD) == 0)
+    lookup_word(lookups, i, EXCLUSIVE_WORD) != 0
 }
 
 pub fn tuple_count(lookups: &[u32], i: usize) -> u32

@@ -1,4 +1,5 @@
 -- The answers.
+use Rattle.std.specs.Prelude.{Err, Ok, Result}
 use mathlib.Core.Path.{◌≡◌, refl, sym, ap, ap₂, ◌∙◌}
 use mathlib.Core.Bool.{Bool, true, false}
 use mathlib.Core.Option.{Option, some}
@@ -16,8 +17,7 @@ use Rattle.expression.specs.declared.choices.Choices.{Choices}
 use Rattle.expression.specs.declared.sizes.Limits.{Limits}
 use Rattle.expression.specs.declared.refusal.Refusal.{Refusal}
 use Rattle.expression.specs.declared.refusal.Refusal.TheVariants.{SizeAtOdds}
-use Rattle.expression.specs.declared.refusal.Verdict.{Verdict}
-use Rattle.expression.specs.declared.refusal.Verdict.TheVariants as verdict
+use Rattle.expression.specs.Refusal.{Verdict}
 use Rattle.lookup.specs.Lookups.{Lookups, lent_lookups, lookup_words, lookup_count, tuple_start}
 use Rattle.lookup.specs.Refusals.{form_refusal}
 use Rattle.lookup.specs.declared.refusals.Columns.{Columns}
@@ -26,25 +26,23 @@ use Rattle.lookup_degree.specs.laws.Formed.{formed}
 use Rattle.lookup_builder.specs.Building.{interaction_count, built_words, built, locals_refusal}
 use Rattle.lookup_builder.specs.FromInteractions.{Interactions, Outcome, building_fits, lookups_built, built_refusal, building_refusal, building, building_at}
 use Rattle.lookup_builder.specs.declared.answer.Kinds.{Kinds}
-use Rattle.lookup_builder.specs.declared.answer.BuildingAnswer.{BuildingAnswer}
-use Rattle.lookup_builder.specs.declared.answer.BuildingAnswer.TheVariants.{Built, Refused}
 use Rattle.lookup_builder.specs.inner.Requires.{InteractionsSized}
 use Rattle.lookup_builder.proofs.Built.{words-nine}
 use Rattle.lookup_builder.proofs.Sizes.{sized}
 
 -- `words_verdict`
 module _ (m : Limits) (p : ℕ) (c : Columns) (nodes : List ℕ) (locals : ℕ) (l : Lookups) {v : Verdict} (g : refusal v ≡ form_refusal m p c nodes l) where
-  pub locals_asks : Sane m → locals ≤ lookup_count l.lookups → v ≡ verdict.Accepted
+  pub locals_asks : Sane m → locals ≤ lookup_count l.lookups → v ≡ Ok tt
       → (lookup_count l.lookups ≤ 64) × (locals ≤ lookup_count l.lookups) × (tuple_start l.lookups (lookup_count l.lookups) ≤ length l.tuples)
   locals_asks s h q =
       let f : Formed m nodes l = formed m p c nodes l s (sym g ∙ ap refusal q) in
       (f.few_lookups, h, omega (arith, f.fitting.tuples))
 
-  pub form_refused : {f : Refusal} → v ≡ verdict.Refused f → some f ≡ built_refusal m p c nodes locals l
+  pub form_refused : {f : Refusal} → v ≡ Err f → some f ≡ built_refusal m p c nodes locals l
   unfolding built_refusal
   form_refused q = rw (sym g ∙ ap refusal q) refl
 
-  pub locals-tested : {r : Option Refusal} → v ≡ verdict.Accepted → r ≡ locals_refusal locals l.lookups l.tuples → r ≡ built_refusal m p c nodes locals l
+  pub locals-tested : {r : Option Refusal} → v ≡ Ok tt → r ≡ locals_refusal locals l.lookups l.tuples → r ≡ built_refusal m p c nodes locals l
   unfolding built_refusal
   locals-tested q h = rw (sym g ∙ ap refusal q) h
 
@@ -67,34 +65,34 @@ built-tested {n} {b} {r} m p c nodes k g q e h =
 
 -- `build_within`
 module _ (m : Limits) (p : ℕ) (c : Columns) (nodes : List ℕ) (k : Kinds) (g : Interactions) (lent : List ℕ) {b : Bool} (e : b ≡ building_fits m k g.interactions g.weights g.tuples (length lent)) where
-  pub size-refused : b ≡ false → (Refused SizeAtOdds ≡ (building m p c nodes k g lent).answer) × (lent ≡ (building m p c nodes k g lent).lookups)
+  pub size-refused : b ≡ false → (Err SizeAtOdds ≡ (building m p c nodes k g lent).answer) × (lent ≡ (building m p c nodes k g lent).lookups)
   unfolding building building_refusal
   size-refused z = rw (sym e ∙ z) (refl, refl)
 
   pub fits_asks : Sane m → b ≡ true → InteractionsSized k g.interactions g.weights × (lookup_words * interaction_count k ≤ length lent)
   fits_asks s z = sized m k g.interactions g.weights g.tuples (length lent) s (sym e ∙ z)
 
-  pub answer-refused : {v : Verdict} {f : Refusal} → b ≡ true → refusal v ≡ built_refusal m p c nodes k.locals (lookups_built k g) → v ≡ verdict.Refused f
-      → (Refused f ≡ (building m p c nodes k g lent).answer) × (lent ≡ (building m p c nodes k g lent).lookups)
+  pub answer-refused : {v : Verdict} {f : Refusal} → b ≡ true → refusal v ≡ built_refusal m p c nodes k.locals (lookups_built k g) → v ≡ Err f
+      → (Err f ≡ (building m p c nodes k g lent).answer) × (lent ≡ (building m p c nodes k g lent).lookups)
   unfolding building building_refusal
   answer-refused z h q = rw (sym e ∙ z, sym h ∙ ap refusal q) (refl, refl)
 
-  pub answer-built : {v : Verdict} {n : ℕ} {out : List ℕ} → b ≡ true → refusal v ≡ built_refusal m p c nodes k.locals (lookups_built k g) → v ≡ verdict.Accepted → n ≡ interaction_count k
+  pub answer-built : {v : Verdict} {n : ℕ} {out : List ℕ} → b ≡ true → refusal v ≡ built_refusal m p c nodes k.locals (lookups_built k g) → v ≡ Ok tt → n ≡ interaction_count k
       → out ≡ built k g.interactions g.weights ++ drop (lookup_words * interaction_count k) lent
-      → (Built (lookup_words * n) ≡ (building m p c nodes k g lent).answer) × (out ≡ (building m p c nodes k g lent).lookups)
+      → (Ok (lookup_words * n) ≡ (building m p c nodes k g lent).answer) × (out ≡ (building m p c nodes k g lent).lookups)
   unfolding building building_refusal
   answer-built {v} {n} {out} z h q t o =
       let words : List ℕ = built k g.interactions g.weights in
       let w : lookup_words * interaction_count k ≡ length words = sym (built-length k g.interactions g.weights) in
-      rw (sym e ∙ z, sym h ∙ ap refusal q) (ap Built (ap (λ (x : ℕ). lookup_words * x) t ∙ w), o ∙ ap (λ (x : ℕ). words ++ drop x lent) w)
+      rw (sym e ∙ z, sym h ∙ ap refusal q) (ap Ok (ap (λ (x : ℕ). lookup_words * x) t ∙ w), o ∙ ap (λ (x : ℕ). words ++ drop x lent) w)
 
 -- `from_interactions`
 module _ (c : Choices) (columns : Columns) (nodes : List ℕ) (k : Kinds) (g : Interactions) (lent : List ℕ) {b : Bool} (e : b ≡ known c) where
-  pub choice_unknown : b ≡ false → ◌≡◌ {A = Outcome} (record { answer = Refused SizeAtOdds; lookups = lent }) (building_at c columns nodes k g lent)
+  pub choice_unknown : b ≡ false → ◌≡◌ {A = Outcome} (record { answer = Err SizeAtOdds; lookups = lent }) (building_at c columns nodes k g lent)
   unfolding building_at
   choice_unknown z = rw (sym e ∙ z) refl
 
-  pub choices_known : {m : Limits} {p : ℕ} {a : BuildingAnswer} {out : List ℕ} → b ≡ true → m ≡ limits_of c.profile → p ≡ prime_of c.field
+  pub choices_known : {m : Limits} {p : ℕ} {a : Result ℕ Refusal} {out : List ℕ} → b ≡ true → m ≡ limits_of c.profile → p ≡ prime_of c.field
       → (a ≡ (building m p columns nodes k g lent).answer) × (out ≡ (building m p columns nodes k g lent).lookups)
       → ◌≡◌ {A = Outcome} (record { answer = a; lookups = out }) (building_at c columns nodes k g lent)
   unfolding building_at

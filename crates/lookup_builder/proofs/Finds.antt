@@ -23,11 +23,9 @@ pub first_in : {n s : ℕ} (l t : List ℕ) (i : ℕ) → i < lookup_count l →
 first_in {n} {s} l t i h e f g q = omega (arith, tuples_in l t i h e)
 
 -- `local_verdict`: no tuples, or the first is expected
-pub local_none : {n : ℕ} (l t : List ℕ) (i : ℕ) → n ≡ tuple_count l i → n ≤ 0 → none ≡ local_refusal l t i
+pub local_none : {n : ℕ} (l t : List ℕ) (i : ℕ) → n ≡ tuple_count l i → n ≡ 0 → none ≡ local_refusal l t i
 unfolding local_refusal first
-local_none {n} l t i e g =
-    let z : n ≡ 0 = omega arith in
-    rw (sym e ∙ z) refl
+local_none {n} l t i e z = rw (sym e ∙ z) refl
 
 pub local-some : {s : ℕ} {r : Option Refusal} (l t : List ℕ) (i : ℕ) → s ≡ tuple_start l i → r ≡ first (λ k. tuple_refusal i (some (word t s)) (tuple_width l t i k)) (tuple_count l i) → r ≡ local_refusal l t i
 unfolding local_refusal tuple_width

@@ -2,11 +2,12 @@
 use mathlib.Core.Path.{◌≡◌, sym, ◌∙◌}
 use mathlib.Core.Bool.{Bool, true, false, ◌&&◌}
 use mathlib.Core.List.{List, [], ◌∷◌}
-use Prim.Native.Nat.{ℕ, ◌+◌, ◌*◌, ◌≤◌}
+use Prim.Native.Nat.{ℕ, ◌+◌, ◌*◌, ◌<◌, ◌≤◌, min}
+use native.Mathlib.Decide.{dec_le}
 use native.Mathlib.Omega.{arith}
 use lib.Dec.{eqb, leb}
 use lib.ListN.{length}
-use borrow.Author.Tests.{eqb-true, eq-eqb, ne_eqb, leb-true}
+use borrow.Author.Tests.{eqb-true, eq-eqb, ne_eqb, leb-true, le-leb, lt-leb}
 use Rattle.lists.specs.Count.{every}
 use Rattle.lists.specs.laws.Tests.{passed}
 use Rattle.expression.specs.Limits.{Sane}
@@ -16,6 +17,14 @@ use Rattle.lookup_builder.specs.Building.{interaction_count, tuple_number, first
 use Rattle.lookup_builder.specs.FromInteractions.{building_fits}
 use Rattle.lookup_builder.specs.declared.answer.Kinds.{Kinds}
 use Rattle.lookup_builder.specs.inner.Requires.{InteractionsSized}
+
+-- a sum that is held at a number over the most: it is over the most where the sum is
+pub held_sum : (a b c m h : ℕ) → m < h → leb (min (min (a + b) h + c) h) m ≡ leb (a + b + c) m
+held_sum a b c m h l = go (dec_le (a + b + c) m)
+  where
+    go : Dec (a + b + c ≤ m) → leb (min (min (a + b) h + c) h) m ≡ leb (a + b + c) m
+    go (yes y) = rw (le-leb (a + b + c) m y) (le-leb (min (min (a + b) h + c) h) m (omega arith))
+    go (no n) = rw (lt-leb (a + b + c) m (omega arith)) (lt-leb (min (min (a + b) h + c) h) m (omega arith))
 
 -- `building_fits`, return by return
 module _ (m : Limits) (k : Kinds) (interactions weights tuples : List ℕ) (room : ℕ) {b : Bool} (e : b ≡ leb (interaction_count k) m.lookups) where

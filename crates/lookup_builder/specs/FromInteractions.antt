@@ -1,5 +1,5 @@
 -- Building of one table's lookups: the answer, and the lent list afterwards, for every input.
-use Rattle.std.specs.Prelude.{Bool, cond, ◌&&◌, List, ◌++◌, ℕ, ◌+◌, ◌*◌, eqb, leb, length, drop}
+use Rattle.std.specs.Prelude.{Bool, cond, ◌&&◌, List, ◌++◌, ℕ, ◌+◌, ◌*◌, eqb, leb, length, drop, Err, Ok, Result}
 use Rattle.std.proofs.Math.Option.{Option, none, some}
 use Rattle.lists.specs.Count.{every, or_else}
 use Rattle.field.specs.Known.{prime_of}
@@ -14,8 +14,6 @@ use Rattle.lookup.specs.Refusals.{form_refusal}
 use Rattle.lookup.specs.declared.refusals.Columns.{Columns}
 use Rattle.lookup_builder.specs.Building.{interaction_words, interaction_count, tuple_number, first_tuple, built, locals_refusal}
 use Rattle.lookup_builder.specs.declared.answer.Kinds.{Kinds}
-use Rattle.lookup_builder.specs.declared.answer.BuildingAnswer.{BuildingAnswer}
-use Rattle.lookup_builder.specs.declared.answer.BuildingAnswer.TheVariants.{Built, Refused}
 
 -- the words that are lent: the interactions, a weight for each tuple, and the lists that the lookups will have
 pub record Interactions : Type 0 where
@@ -56,13 +54,13 @@ building_refusal m p c nodes k g room =
     unless (building_fits m k g.interactions g.weights g.tuples room) SizeAtOdds (built_refusal m p c nodes k.locals (lookups_built k g))
 
 pub record Outcome : Type 0 where
-  pub answer : BuildingAnswer
+  pub answer : Result ℕ Refusal
   pub lookups : List ℕ
 
 -- refusals 1 to 12 leave lent outputs as they were (SPECIFICATION, section 10.5)
 abbrev pub outcome : Option Refusal → List ℕ → List ℕ → Outcome
-outcome none words lent = record { answer = Built (length words); lookups = words ++ drop (length words) lent }
-outcome (some f) words lent = record { answer = Refused f; lookups = lent }
+outcome none words lent = record { answer = Ok (length words); lookups = words ++ drop (length words) lent }
+outcome (some f) words lent = record { answer = Err f; lookups = lent }
 
 -- the table's columns and nodes, the interactions, and the lent list
 unfoldable pub building : Limits → ℕ → Columns → List ℕ → Kinds → Interactions → List ℕ → Outcome
@@ -72,7 +70,7 @@ building m p c nodes k g lent = outcome (building_refusal m p c nodes k g (lengt
 unfoldable pub building_at : Choices → Columns → List ℕ → Kinds → Interactions → List ℕ → Outcome
 building_at c columns nodes k g lent =
     cond (known c) (building (limits_of c.profile) (prime_of c.field) columns nodes k g lent)
-    (record { answer = Refused SizeAtOdds; lookups = lent })
+    (record { answer = Err SizeAtOdds; lookups = lent })
 
 -- SPECIFICATION, sections 1.4 and 14.1: "An answer is a number and three 64-bit details", how many words were written beside it, 0 where it is
 -- refused, and the lent list afterwards
@@ -82,13 +80,13 @@ pub record BuildingNumbers : Type 0 where
   pub lookups : List ℕ
 
 -- for each case of the code's enum
-abbrev pub refusal_of : BuildingAnswer → Option Refusal
-refusal_of (Built n) = none
-refusal_of (Refused f) = some f
+abbrev pub refusal_of : Result ℕ Refusal → Option Refusal
+refusal_of (Ok n) = none
+refusal_of (Err f) = some f
 
-abbrev pub used_of : BuildingAnswer → ℕ
-used_of (Built n) = n
-used_of (Refused f) = 0
+abbrev pub used_of : Result ℕ Refusal → ℕ
+used_of (Ok n) = n
+used_of (Err f) = 0
 
 unfoldable pub in_numbers : Outcome → BuildingNumbers
 in_numbers o = record { answer = numbers (refusal_of o.answer); used = used_of o.answer; lookups = o.lookups }

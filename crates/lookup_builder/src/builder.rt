@@ -6,12 +6,12 @@ ghost use Rattle.lookup.specs.Lookups.{Lookups, lent_lookups, lookup_count};
 ghost use Rattle.lookup_builder.specs.FromInteractions.{Interactions, lent_interactions, lookups_built, built_refusal, building, building_at, in_numbers};
 ghost use Rattle.lookup_builder.specs.inner.Requires.{BuildSource, build_source, InteractionsSized};
 
-use crate::answer::{BuildingAnswer, Kinds};
+use crate::answer::Kinds;
 use crate::fits::building_fits;
 use crate::locals::locals_verdict;
 use crate::words::{interaction_count, write_lookups};
 use expression::choices::{Choices, known, limits_of};
-use expression::refusal::{Refusal, Verdict};
+use expression::refusal::Refusal;
 use expression::sizes::Limits;
 use field::modulus::prime_of;
 use lookup::refusals::{Columns, form_refusal};
@@ -30,11 +30,11 @@ fn words_verdict(
     multiplicities: &[u32],
     flags: &[u32],
     elements: &[u32],
-) -> Verdict
+) -> Result<(), Refusal>
     requires { let l : Lookups = lent_lookups lookups.now names.now tuples.now multiplicities.now flags.now elements.now in Sane limits × (locals ≤ lookup_count l.lookups) }
     ensures { let l : Lookups = lent_lookups lookups.now names.now tuples.now multiplicities.now flags.now elements.now in refusal result ≡ built_refusal limits p columns nodes.now locals l }
 {
-    let verdict = form_refusal(
+    form_refusal(
         limits,
         p,
         columns,
@@ -45,14 +45,12 @@ fn words_verdict(
         multiplicities,
         flags,
         elements,
-    );
-    match verdict {
-        Verdict::Refused(f) => Verdict::Refused(f),
-        Verdict::Accepted => locals_verdict(locals, lookups, tuples),
-    }
+    )?;
+    locals_verdict(locals, lookups, tuples)
 }
 
-// Refusals 1 to 6 of the lookups that are built. Their words stand in an array: a refusal leaves the lent list as it is.
+// Refusals 1 to 6 of the lookups that are built. Their words stand in an array, 64 lookups of 9 words, since there is no heap and a refusal
+// leaves the lent list as it is.
 fn built_verdict(
     limits: Limits,
     p: u32,
@@ -66,20 +64,19 @@ fn built_verdict(
     multiplicities: &[u32],
     flags: &[u32],
     elements: &[u32],
-) -> Verdict
+) -> Result<(), Refusal>
     requires { let g : Interactions = lent_interactions interactions.now weights.now names.now tuples.now multiplicities.now flags.now elements.now in Sane limits × InteractionsSized kinds g.interactions g.weights }
     ensures { let g : Interactions = lent_interactions interactions.now weights.now names.now tuples.now multiplicities.now flags.now elements.now in refusal result ≡ built_refusal limits p columns nodes.now kinds.locals (lookups_built kinds g) }
 {
     let mut words = [0u32; 576];
     write_lookups(kinds, interactions, weights, &mut words);
-    let used = LOOKUP_WORDS * interaction_count(kinds);
     words_verdict(
         limits,
         p,
         columns,
         nodes,
         kinds.locals,
-        &words[0..used],
+        &words[0..LOOKUP_WORDS * interaction_count(kinds)],
         names,
         tuples,
         multiplicities,
@@ -103,15 +100,15 @@ pub fn build_within(
     flags: &[u32],
     elements: &[u32],
     lookups: &mut [u32],
-) -> BuildingAnswer
+) -> Result<usize, Refusal>
     requires { Sane limits }
     ensures { let s : BuildSource = build_source nodes.now (lent_interactions interactions.now weights.now names.now tuples.now multiplicities.now flags.now elements.now) lookups.old in (result ≡ (building limits p columns s.nodes kinds s.given s.lent).answer)
         × (lookups.new ≡ (building limits p columns s.nodes kinds s.given s.lent).lookups) }
 {
     if !building_fits(limits, kinds, interactions, weights, tuples, lookups.len()) {
-        return BuildingAnswer::Refused(Refusal::SizeAtOdds);
+        return Err(Refusal::SizeAtOdds);
     }
-    let verdict = built_verdict(
+    built_verdict(
         limits,
         p,
         columns,
@@ -124,14 +121,9 @@ pub fn build_within(
         multiplicities,
         flags,
         elements,
-    );
-    match verdict {
-        Verdict::Refused(f) => BuildingAnswer::Refused(f),
-        Verdict::Accepted => {
-            write_lookups(kinds, interactions, weights, lookups);
-            BuildingAnswer::Built(LOOKUP_WORDS * interaction_count(kinds))
-        }
-    }
+    )?;
+    write_lookups(kinds, interactions, weights, lookups);
+    Ok(LOOKUP_WORDS * interaction_count(kinds))
 }
 
 // The lookups of locals, globals and exclusives, in this order (`from_interactions`), at the choices of the call.
@@ -148,14 +140,14 @@ pub fn from_interactions(
     flags: &[u32],
     elements: &[u32],
     lookups: &mut [u32],
-) -> BuildingAnswer
+) -> Result<usize, Refusal>
     ensures { in_numbers (record { answer = result; lookups = lookups.new })
         ≡ in_numbers (building_at choices columns nodes.now kinds
         (lent_interactions interactions.now weights.now names.now tuples.now multiplicities.now
         flags.now elements.now) lookups.old) }
 {
     if !known(choices) {
-        return BuildingAnswer::Refused(Refusal::SizeAtOdds);
+        return Err(Refusal::SizeAtOdds);
     }
     build_within(
         limits_of(choices.profile),

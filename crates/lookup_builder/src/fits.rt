@@ -5,22 +5,22 @@ ghost use Rattle.expression.specs.Limits.{Sane};
 ghost use Rattle.lookup_builder.specs.Building.{interaction_words, interaction_count, tuple_number};
 ghost use Rattle.lookup_builder.specs.FromInteractions.{building_fits};
 
-use crate::answer::{INTERACTION_WORDS, Kinds, TUPLE_NUMBER_WORD};
+use crate::answer::{INTERACTION_WORDS, Kinds, tuple_number};
 use crate::weights::first_tuple;
 use crate::words::interaction_count;
 use expression::sizes::Limits;
 use lookup::types::LOOKUP_WORDS;
 
-// There are at most so many interactions. Each number is looked at alone first, so that the sum stays within 64 bits.
+// There are at most so many interactions. A sum over 64 bits is held at the largest: that is too many as well.
 fn few_kinds(most: usize, kinds: Kinds) -> bool
     requires { most ≤ 64 }
     ensures { result ≡ leb (interaction_count kinds) most }
 {
-    if (kinds.locals <= most) & (kinds.globals <= most) & (kinds.exclusives <= most) {
-        kinds.locals + kinds.globals + kinds.exclusives <= most
-    } else {
-        false
-    }
+    kinds
+        .locals
+        .saturating_add(kinds.globals)
+        .saturating_add(kinds.exclusives)
+        <= most
 }
 
 // Each global has one tuple.
@@ -29,11 +29,8 @@ fn globals_single(kinds: Kinds, interactions: &[u32]) -> bool
     ensures { result ≡ every (λ j. eqb (tuple_number interactions.now (kinds.locals + j)) 1) kinds.globals }
 {
     let mut ok = true;
-    let mut j = 0;
-    while j < kinds.globals {
-        let i = kinds.locals + j;
-        ok = ok & (interactions[INTERACTION_WORDS * i + TUPLE_NUMBER_WORD] == 1);
-        j += 1;
+    for j in 0..kinds.globals {
+        ok &= (tuple_number(interactions, kinds.locals + j) == 1);
     }
     ok
 }
@@ -54,7 +51,7 @@ pub fn building_fits(
         return false;
     }
     let n = interaction_count(kinds);
-    if !(interactions.len() == INTERACTION_WORDS * n) {
+    if interactions.len() != INTERACTION_WORDS * n {
         return false;
     }
     (tuples.len() <= limits.tuples)

@@ -1,14 +1,13 @@
 // The weight of a lookup from those of its tuples.
-ghost use Rattle.std.specs.Prelude.{◌≡◌, ◌+◌, ◌*◌, ◌<◌, ◌≤◌, length};
+ghost use Rattle.std.specs.Prelude.{◌≡◌, ◌*◌, ◌<◌, ◌≤◌, length};
 ghost use Rattle.lists.specs.Count.{total};
 ghost use Rattle.expression.specs.Words.{word};
 ghost use Rattle.lookup_degree.specs.Sums.{greatest};
 ghost use Rattle.lookup_builder.specs.Building.{interaction_count, first_tuple, built_weight};
 ghost use Rattle.lookup_builder.specs.inner.Requires.{InteractionsSized};
 
-use crate::answer::{INTERACTION_WORDS, Kinds, TUPLE_NUMBER_WORD};
-use expression::words::{to_u64, to_usize, total_of};
-use lookup_degree::tuples::larger;
+use crate::answer::{INTERACTION_WORDS, Kinds, TUPLE_NUMBER_WORD, tuple_number};
+use expression::words::total_of;
 
 // The number of interaction i's first tuple among all tuples.
 pub fn first_tuple(interactions: &[u32], i: usize) -> usize
@@ -18,31 +17,25 @@ pub fn first_tuple(interactions: &[u32], i: usize) -> usize
     total_of(interactions, INTERACTION_WORDS, TUPLE_NUMBER_WORD, i)
 }
 
-// The sum of n weights from `start` on, exact in 64 bits.
-fn sum_of(weights: &[u32], start: usize, n: usize) -> u64
-    requires { (start + n ≤ length weights.now) × (length weights.now ≤ 64) }
-    ensures { result ≡ total (λ k. word weights.now (start + k)) n }
+// The sum of weights, exact in 64 bits.
+fn sum_of(weights: &[u32]) -> u64
+    requires { length weights.now ≤ 64 }
+    ensures { result ≡ total (word weights.now) (length weights.now) }
 {
-    let mut sum: u64 = 0;
-    let mut k = 0;
-    while k < n {
-        let weight = to_u64(weights[start + k]);
-        sum = sum + weight;
-        k += 1;
+    let mut sum = 0;
+    for weight in weights {
+        sum += u64::from(*weight);
     }
     sum
 }
 
-// The largest of n weights from `start` on, or 0.
-fn largest_of(weights: &[u32], start: usize, n: usize) -> u32
-    requires { (start + n ≤ length weights.now) × (length weights.now ≤ 64) }
-    ensures { result ≡ greatest (λ k. word weights.now (start + k)) n }
+// The largest of weights, or 0.
+fn largest_of(weights: &[u32]) -> u32
+    ensures { result ≡ greatest (word weights.now) (length weights.now) }
 {
-    let mut top = 0;
-    let mut k = 0;
-    while k < n {
-        top = larger(top, weights[start + k]);
-        k += 1;
+    let mut top: u32 = 0;
+    for weight in weights {
+        top = top.max(*weight);
     }
     top
 }
@@ -53,10 +46,10 @@ pub fn built_weight(kinds: Kinds, interactions: &[u32], weights: &[u32], i: usiz
     ensures { result ≡ built_weight kinds interactions.now weights.now i }
 {
     let start = first_tuple(interactions, i);
-    let n = to_usize(interactions[INTERACTION_WORDS * i + TUPLE_NUMBER_WORD]);
+    let end = start + tuple_number(interactions, i) as usize;
     if i < kinds.locals {
-        sum_of(weights, start, n)
+        sum_of(&weights[start..end])
     } else {
-        to_u64(largest_of(weights, start, n))
+        u64::from(largest_of(&weights[start..end]))
     }
 }

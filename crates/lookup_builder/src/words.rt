@@ -1,23 +1,16 @@
 // The words of the lookups that are built.
-ghost use Rattle.std.specs.Prelude.{◌≡◌, cond, ◌++◌, ◌*◌, ◌<◌, ◌≤◌, length, drop};
+ghost use Rattle.std.specs.Prelude.{◌≡◌, ◌++◌, ◌*◌, ◌<◌, ◌≤◌, length, drop};
 ghost use Rattle.lookup.specs.Lookups.{lookup_words};
 ghost use Rattle.lookup_builder.specs.Building.{interaction_count, built_words, built};
 ghost use Rattle.lookup_builder.specs.inner.Requires.{InteractionsSized};
 
-use crate::answer::{INTERACTION_WORDS, Kinds, TUPLE_NUMBER_WORD};
+use crate::answer::{Kinds, name_bytes, tuple_number};
 use crate::weights::built_weight;
 use expression::words::{high_half, low_half};
 use lookup::types::{
     COLUMN_WORD, EXCLUSIVE_WORD, FLAG_COUNT_WORD, LOOKUP_WORDS, MULTIPLICITY_COUNT_WORD,
     NAME_LENGTH_WORD, SCOPE_WORD, TUPLE_COUNT_WORD, WEIGHT_HIGH_WORD, WEIGHT_WORD,
 };
-
-// The first of two words where the mark holds, else the second. A function, so that `write_lookup` has no branches to prove.
-fn either(mark: bool, a: u32, b: u32) -> u32
-    ensures { result ≡ cond mark a b }
-{
-    if mark { a } else { b }
-}
 
 // How many interactions there are.
 pub fn interaction_count(kinds: Kinds) -> usize
@@ -34,23 +27,23 @@ fn write_lookup(kinds: Kinds, interactions: &[u32], weights: &[u32], i: usize, o
 {
     let local = i < kinds.locals;
     let exclusive = kinds.locals + kinds.globals <= i;
-    let tuples = interactions[INTERACTION_WORDS * i + TUPLE_NUMBER_WORD];
-    let scope = either(!local, 1, 0);
-    let name = either(local, 0, interactions[INTERACTION_WORDS * i]);
+    let tuples = tuple_number(interactions, i);
     let weight = built_weight(kinds, interactions, weights, i);
-    let low = low_half(weight);
-    let high = high_half(weight);
-    let mark = either(exclusive, 1, 0);
-    let flags = either(exclusive, tuples, 0);
-    out[SCOPE_WORD] = scope;
+    let name = if local {
+        0
+    } else {
+        name_bytes(interactions, i)
+    };
+    let flags = if exclusive { tuples } else { 0 };
+    out[SCOPE_WORD] = u32::from(!local);
     out[NAME_LENGTH_WORD] = name;
-    out[WEIGHT_WORD] = low;
+    out[WEIGHT_WORD] = low_half(weight);
     out[COLUMN_WORD] = i as u32;
-    out[EXCLUSIVE_WORD] = mark;
+    out[EXCLUSIVE_WORD] = u32::from(exclusive);
     out[TUPLE_COUNT_WORD] = tuples;
     out[MULTIPLICITY_COUNT_WORD] = tuples;
     out[FLAG_COUNT_WORD] = flags;
-    out[WEIGHT_HIGH_WORD] = high;
+    out[WEIGHT_HIGH_WORD] = high_half(weight);
 }
 
 // The words of all lookups, at the front of a lent list.
@@ -58,12 +51,14 @@ pub fn write_lookups(kinds: Kinds, interactions: &[u32], weights: &[u32], out: &
     requires { InteractionsSized kinds interactions.now weights.now × (lookup_words * interaction_count kinds ≤ length out.old) }
     ensures { out.new ≡ built kinds interactions.now weights.now ++ drop (lookup_words * interaction_count kinds) out.old }
 {
-    let n = interaction_count(kinds);
-    let mut i = 0;
-    while i < n {
+    for i in 0..interaction_count(kinds) {
         let at = LOOKUP_WORDS * i;
-        let end = at + LOOKUP_WORDS;
-        write_lookup(kinds, interactions, weights, i, &mut out[at..end]);
-        i += 1;
+        write_lookup(
+            kinds,
+            interactions,
+            weights,
+            i,
+            &mut out[at..at + LOOKUP_WORDS],
+        );
     }
 }

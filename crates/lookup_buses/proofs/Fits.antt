@@ -1,12 +1,13 @@
 -- What the tests say, and the answer.
+use Rattle.std.specs.Prelude.{Err, Ok, Result}
 use mathlib.Core.Path.{◌≡◌, refl, sym, ap, ◌∙◌}
 use mathlib.Core.Bool.{Bool, true, false, ◌&&◌}
 use mathlib.Core.List.{[], ◌∷◌}
-use Prim.Native.Nat.{ℕ, ◌*◌, ◌%◌}
+use Prim.Native.Nat.{ℕ, ◌*◌, ◌%◌, ◌<◌, ◌≤◌}
 use native.Mathlib.Omega.{arith}
 use lib.Dec.{eqb, leb}
 use lib.ListN.{length}
-use borrow.Author.Tests.{eqb-true, leb-true}
+use borrow.Author.Tests.{eqb-true, eq-eqb, ne_eqb, leb-true, le-leb, lt-leb}
 use Rattle.lists.specs.Count.{every}
 use Rattle.lists.specs.laws.Tests.{passed, every_true}
 use Rattle.expression.specs.Limits.{Sane}
@@ -16,8 +17,7 @@ use Rattle.expression.specs.declared.choices.Choices.{Choices}
 use Rattle.expression.specs.declared.sizes.Limits.{Limits}
 use Rattle.expression.specs.declared.refusal.Refusal.{Refusal}
 use Rattle.expression.specs.declared.refusal.Refusal.TheVariants.{SizeAtOdds, LookupInvalid}
-use Rattle.expression.specs.declared.refusal.Verdict.{Verdict}
-use Rattle.expression.specs.declared.refusal.Verdict.TheVariants as verdict
+use Rattle.expression.specs.Refusal.{Verdict}
 use Rattle.lookup.specs.Lookups.{Lookups, lookup_words, lookup_count, name_start, tuple_start}
 use Rattle.lookup.specs.Sizes.{table_count, size_start, covers}
 use Rattle.lookup.specs.Tests.{lookups_within, lengths_agree}
@@ -25,20 +25,22 @@ use Rattle.lookup.specs.laws.Tested.{lookups-few}
 use Rattle.lookup_buses.specs.Widths.{widths_refusal, widest}
 use Rattle.lookup_buses.specs.CheckBusWidths.{BusTables, bus_sizes, lookup_count_size, name_bytes_size, tuple_count_size, table_at, tables_of, lists_fit, table_fits, all_fit, widths_answer, widths_at}
 use Rattle.lookup_buses.specs.inner.Requires.{BusLists, BusListsCover, BusTablesFit}
-use Rattle.lookup_buses.specs.declared.check_bus_widths.WidthsAnswer.{WidthsAnswer}
-use Rattle.lookup_buses.specs.declared.check_bus_widths.WidthsAnswer.TheVariants.{Widest, Refused}
 
 -- `lists_fit`
 module _ (m : Limits) (l : BusTables) where
-  pub lists_yes : {a b c : ℕ} → (eqb (length l.sizes % bus_sizes) 0 && leb (table_count bus_sizes l.sizes) m.tables) ≡ true
+  pub lists_yes : {a b c : ℕ} → length l.sizes % bus_sizes ≡ 0 → table_count bus_sizes l.sizes ≤ m.tables
       → a ≡ lookup_words * size_start bus_sizes l.sizes lookup_count_size (table_count bus_sizes l.sizes) → b ≡ 1 * size_start bus_sizes l.sizes name_bytes_size (table_count bus_sizes l.sizes) → c ≡ 1 * size_start bus_sizes l.sizes tuple_count_size (table_count bus_sizes l.sizes)
       → (eqb (length l.lookups) a && eqb (length l.names) b && eqb (length l.tuples) c) ≡ lists_fit m l
   unfolding lists_fit
-  lists_yes h ea eb ec = rw (h, ea, eb, ec)
+  lists_yes h k ea eb ec = rw (eq-eqb (length l.sizes % bus_sizes) 0 h, le-leb (table_count bus_sizes l.sizes) m.tables k, ea, eb, ec)
 
-  pub lists_no : (eqb (length l.sizes % bus_sizes) 0 && leb (table_count bus_sizes l.sizes) m.tables) ≡ false → false ≡ lists_fit m l
+  pub lists-uneven : (length l.sizes % bus_sizes ≡ 0 → ⊥) → false ≡ lists_fit m l
   unfolding lists_fit
-  lists_no h = rw h
+  lists-uneven h = rw (ne_eqb (length l.sizes % bus_sizes) 0 h)
+
+  pub lists_many : length l.sizes % bus_sizes ≡ 0 → m.tables < table_count bus_sizes l.sizes → false ≡ lists_fit m l
+  unfolding lists_fit
+  lists_many h k = rw (eq-eqb (length l.sizes % bus_sizes) 0 h, lt-leb (table_count bus_sizes l.sizes) m.tables k)
 
   pub spanned : Sane m → lists_fit m l ≡ true → BusListsCover l
   unfolding lists_fit
@@ -103,31 +105,31 @@ module _ (m : Limits) (l : BusTables) where
         each = λ t h. listed m (table_at l t) g (every_true (λ t. table_fits m (table_at l t)) (table_count bus_sizes l.sizes) t k.1.0 h);
       }
 
-  pub answer-size : {a : Bool} → a ≡ all_fit m l → a ≡ false → Refused SizeAtOdds ≡ widths_answer m l
+  pub answer-size : {a : Bool} → a ≡ all_fit m l → a ≡ false → Err SizeAtOdds ≡ widths_answer m l
   unfolding widths_answer
   answer-size {a} e z = rw (sym e ∙ z)
 
   pub answer_lengths : {a b : Bool} → a ≡ all_fit m l → a ≡ true → b ≡ every (lengths_agree l.lookups) (lookup_count l.lookups) → b ≡ false
-      → Refused LookupInvalid ≡ widths_answer m l
+      → Err LookupInvalid ≡ widths_answer m l
   unfolding widths_answer
   answer_lengths {a} {b} e z eb zb = rw (sym e ∙ z, sym eb ∙ zb)
 
-  pub answer-widest : {a b : Bool} {v : Verdict} {w w' : ℕ} → a ≡ all_fit m l → a ≡ true → b ≡ every (lengths_agree l.lookups) (lookup_count l.lookups) → b ≡ true
-      → refusal v ≡ widths_refusal (tables_of l) → v ≡ verdict.Accepted → w ≡ widest (tables_of l) → w' ≡ w → Widest w' ≡ widths_answer m l
+  pub answer-widest : {a b : Bool} {v : Verdict} {w : ℕ} → a ≡ all_fit m l → a ≡ true → b ≡ every (lengths_agree l.lookups) (lookup_count l.lookups) → b ≡ true
+      → refusal v ≡ widths_refusal (tables_of l) → v ≡ Ok tt → w ≡ widest (tables_of l) → Ok w ≡ widths_answer m l
   unfolding widths_answer
-  answer-widest {a} {b} {v} {w} {w'} e z eb zb f k ew ek = rw (sym e ∙ z, sym eb ∙ zb, sym f ∙ ap refusal k, ek ∙ ew)
+  answer-widest {a} {b} {v} {w} e z eb zb f k ew = rw (sym e ∙ z, sym eb ∙ zb, sym f ∙ ap refusal k, ew)
 
   pub answer-refused : {a b : Bool} {v : Verdict} {f : Refusal} → a ≡ all_fit m l → a ≡ true → b ≡ every (lengths_agree l.lookups) (lookup_count l.lookups) → b ≡ true
-      → refusal v ≡ widths_refusal (tables_of l) → v ≡ verdict.Refused f → Refused f ≡ widths_answer m l
+      → refusal v ≡ widths_refusal (tables_of l) → v ≡ Err f → Err f ≡ widths_answer m l
   unfolding widths_answer
   answer-refused {a} {b} {v} {f} e z eb zb g k = rw (sym e ∙ z, sym eb ∙ zb, sym g ∙ ap refusal k)
 
 -- `check_bus_widths`
 module _ (c : Choices) (l : BusTables) {b : Bool} (e : b ≡ known c) where
-  pub choice_unknown : b ≡ false → Refused SizeAtOdds ≡ widths_at c l
+  pub choice_unknown : b ≡ false → Err SizeAtOdds ≡ widths_at c l
   unfolding widths_at
   choice_unknown z = rw (sym e ∙ z) refl
 
-  pub choices_known : {m : Limits} {a : WidthsAnswer} → b ≡ true → m ≡ limits_of c.profile → a ≡ widths_answer m l → a ≡ widths_at c l
+  pub choices_known : {m : Limits} {a : Result ℕ Refusal} → b ≡ true → m ≡ limits_of c.profile → a ≡ widths_answer m l → a ≡ widths_at c l
   unfolding widths_at
   choices_known z em h = rw (sym e ∙ z, ← em) h

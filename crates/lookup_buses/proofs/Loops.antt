@@ -173,12 +173,12 @@ arranging_turn {places} {d} {b} {b'} {n} {k} {end} {e} s h g (ee, eb) =
     }
 
 -- the order from the list of places
-pub order_is : {r : ℕ} {ps b : List ℕ} (alone : ℕ → Bool) (name : ℕ → List ℕ) (n : ℕ) → ps ≡ tab (place alone name n) 0 n ++ drop n (replicate 64 0)
-    → (r ≡ length (order_of ps (n + 1) n)) × (b ≡ order_of ps (n + 1) n ++ drop r (replicate 64 0)) → b ≡ arranged alone name n ++ drop n (replicate 64 0)
+pub order_is : {ps b : List ℕ} (alone : ℕ → Bool) (name : ℕ → List ℕ) (n : ℕ) → ps ≡ tab (place alone name n) 0 n ++ drop n (replicate 64 0)
+    → b ≡ order_of ps (n + 1) n ++ drop (length (order_of ps (n + 1) n)) (replicate 64 0) → b ≡ arranged alone name n ++ drop n (replicate 64 0)
 unfolding order_of arranged
-order_is {r} {ps} {b} alone name n e (er, eb) =
+order_is {ps} {b} alone name n e eb =
     let q : by_place (λ (i : ℕ). get_or ps i 0) (n + 1) (numbers n) ≡ by_place (place alone name n) (suc n) (numbers n) =
     ap (λ (k : ℕ). by_place (λ (i : ℕ). get_or ps i 0) k (numbers n)) (add-one n)
     ∙ by_place_cong (λ (i : ℕ). get_or ps i 0) (place alone name n) (suc n) (numbers n)
     (λ i m. ap (λ (l : List ℕ). get_or l i 0) e ∙ get_or_pad (tab (place alone name n) 0 n) 64 n i ∙ tab_get (place alone name n) 0 n i (numbers-below n i m) ∙ ap (place alone name n) (let k : 0 + i ≡ i = omega arith in k)) in
-    eb ∙ ap₂ (λ (x : List ℕ) (k : ℕ). x ++ drop k (replicate 64 0)) q (er ∙ ap length q ∙ arranged-length alone name n)
+    eb ∙ ap₂ (λ (x : List ℕ) (k : ℕ). x ++ drop k (replicate 64 0)) q (ap length q ∙ arranged-length alone name n)

@@ -1,5 +1,5 @@
 -- The widths of several tables: the words that are lent, and the answer for every input.
-use Rattle.std.specs.Prelude.{Bool, cond, ◌&&◌, List, ℕ, ◌%◌, eqb, leb, length}
+use Rattle.std.specs.Prelude.{Bool, cond, ◌&&◌, List, ℕ, ◌%◌, eqb, leb, length, Err, Ok, Result}
 use Rattle.std.proofs.Math.Option.{Option, none, some}
 use Rattle.lists.specs.Count.{every}
 use Rattle.expression.specs.Choices.{known, limits_of}
@@ -12,8 +12,6 @@ use Rattle.lookup.specs.Lookups.{Lookups, bus_lookups, lookup_words, lookup_coun
 use Rattle.lookup.specs.Sizes.{table_count, table_part, covers}
 use Rattle.lookup.specs.Tests.{lookups_within, lengths_agree}
 use Rattle.lookup_buses.specs.Widths.{Tables, widths_refusal, widest}
-use Rattle.lookup_buses.specs.declared.check_bus_widths.WidthsAnswer.{WidthsAnswer}
-use Rattle.lookup_buses.specs.declared.check_bus_widths.WidthsAnswer.TheVariants.{Widest, Refused}
 
 -- the lists of all tables, one table after the other, and for each table three sizes: how many lookups, bytes of names and tuples it has
 pub record BusTables : Type 0 where
@@ -63,12 +61,12 @@ table_fits m l =
 unfoldable pub all_fit : Limits → BusTables → Bool
 all_fit m l = lists_fit m l && every (λ t. table_fits m (table_at l t)) (table_count bus_sizes l.sizes)
 
-abbrev pub answered : Option Refusal → ℕ → WidthsAnswer
-answered none d = Widest d
-answered (some f) d = Refused f
+abbrev pub answered : Option Refusal → ℕ → Result ℕ Refusal
+answered none d = Ok d
+answered (some f) d = Err f
 
 -- 1; then 5, as far as the lookups' words show it, in every lookup of every table; then 6
-unfoldable pub widths_answer : Limits → BusTables → WidthsAnswer
+unfoldable pub widths_answer : Limits → BusTables → Result ℕ Refusal
 widths_answer m l =
     answered
     (unless (all_fit m l) SizeAtOdds
@@ -76,8 +74,8 @@ widths_answer m l =
     (widest (tables_of l))
 
 -- at the choices of a call: refusal 1 where one of them is unknown; no prime is read
-unfoldable pub widths_at : Choices → BusTables → WidthsAnswer
-widths_at c l = cond (known c) (widths_answer (limits_of c.profile) l) (Refused SizeAtOdds)
+unfoldable pub widths_at : Choices → BusTables → Result ℕ Refusal
+widths_at c l = cond (known c) (widths_answer (limits_of c.profile) l) (Err SizeAtOdds)
 
 -- the tables from the lists that are lent
 abbrev pub lent_bus_tables : List ℕ → List ℕ → List ℕ → List ℕ → BusTables
@@ -90,6 +88,6 @@ pub record WidthsNumbers : Type 0 where
   pub width : ℕ
 
 -- for each case of the code's enum
-unfoldable pub in_numbers : WidthsAnswer → WidthsNumbers
-in_numbers (Widest n) = record { answer = numbers none; width = n }
-in_numbers (Refused f) = record { answer = numbers (some f); width = 0 }
+unfoldable pub in_numbers : Result ℕ Refusal → WidthsNumbers
+in_numbers (Ok n) = record { answer = numbers none; width = n }
+in_numbers (Err f) = record { answer = numbers (some f); width = 0 }

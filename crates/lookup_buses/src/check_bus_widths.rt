@@ -7,22 +7,15 @@ ghost use Rattle.lookup_buses.specs.CheckBusWidths.{BusTables, bus_sizes, table_
 ghost use Rattle.lookup_buses.specs.inner.Requires.{BusListsCover};
 ghost use Rattle.lookup.specs.Lookups.{bus_lookups};
 
-use crate::spans::{BUS_SIZES, LOOKUP_COUNT_SIZE, NAME_BYTES_SIZE, TUPLE_COUNT_SIZE, spans_of};
+use crate::bus_table::{BUS_SIZES, LOOKUP_COUNT_SIZE, NAME_BYTES_SIZE, TUPLE_COUNT_SIZE, table_at};
 use crate::tables::{bus_widths, widest};
 use expression::choices::{Choices, known, limits_of};
-use expression::refusal::{Refusal, Verdict};
+use expression::refusal::Refusal;
 use expression::sizes::Limits;
-use expression::words::to_u64;
 use lookup::sizes::part_start;
 use lookup::starts::{name_start, tuple_start};
 use lookup::tests::{all_agree, lookups_within};
 use lookup::types::LOOKUP_WORDS;
-
-#[derive(Clone, Copy)]
-pub enum WidthsAnswer {
-    Widest(u64),
-    Refused(Refusal),
-}
 
 // The sizes say how long the lists are.
 fn lists_fit(limits: Limits, lookups: &[u32], names: &[u8], tuples: &[u32], sizes: &[u32]) -> bool
@@ -30,13 +23,12 @@ fn lists_fit(limits: Limits, lookups: &[u32], names: &[u8], tuples: &[u32], size
     ensures { result ≡ lists_fit limits (lent_bus_tables lookups.now names.now tuples.now sizes.now) }
 {
     let n = sizes.len() / BUS_SIZES;
-    if (sizes.len() % BUS_SIZES == 0) & (n <= limits.tables) {
-        (lookups.len() == part_start(sizes, BUS_SIZES, LOOKUP_COUNT_SIZE, LOOKUP_WORDS, n))
-            & (names.len() == part_start(sizes, BUS_SIZES, NAME_BYTES_SIZE, 1, n))
-            & (tuples.len() == part_start(sizes, BUS_SIZES, TUPLE_COUNT_SIZE, 1, n))
-    } else {
-        false
+    if sizes.len() % BUS_SIZES != 0 || limits.tables < n {
+        return false;
     }
+    (lookups.len() == part_start(sizes, BUS_SIZES, LOOKUP_COUNT_SIZE, LOOKUP_WORDS, n))
+        & (names.len() == part_start(sizes, BUS_SIZES, NAME_BYTES_SIZE, 1, n))
+        & (tuples.len() == part_start(sizes, BUS_SIZES, TUPLE_COUNT_SIZE, 1, n))
 }
 
 // One table is within the limits, and its lists are as long as its lookups say.
@@ -44,12 +36,11 @@ fn table_fits(limits: Limits, lookups: &[u32], names: &[u8], tuples: &[u32]) -> 
     requires { Sane limits }
     ensures { result ≡ table_fits limits (bus_lookups lookups.now names.now tuples.now) }
 {
-    if lookups_within(limits, lookups, tuples) {
-        let n = lookups.len() / LOOKUP_WORDS;
-        (names.len() == name_start(lookups, n)) & (tuples.len() == tuple_start(lookups, n))
-    } else {
-        false
+    if !lookups_within(limits, lookups, tuples) {
+        return false;
     }
+    let n = lookups.len() / LOOKUP_WORDS;
+    (names.len() == name_start(lookups, n)) & (tuples.len() == tuple_start(lookups, n))
 }
 
 // Every table fits, where the lists do.
@@ -57,27 +48,13 @@ fn tables_fit(limits: Limits, lookups: &[u32], names: &[u8], tuples: &[u32], siz
     requires { let l : BusTables = lent_bus_tables lookups.now names.now tuples.now sizes.now in Sane limits × BusListsCover l }
     ensures { let l : BusTables = lent_bus_tables lookups.now names.now tuples.now sizes.now in result ≡ every (λ t. table_fits limits (table_at l t)) (table_count bus_sizes l.sizes) }
 {
-    let n = sizes.len() / BUS_SIZES;
-    let mut ok = true;
-    let mut t = 0;
-    while t < n {
-        let s = spans_of(sizes, t);
-        let lookups_start = s.lookups_start;
-        let lookups_end = s.lookups_end;
-        let names_start = s.names_start;
-        let names_end = s.names_end;
-        let tuples_start = s.tuples_start;
-        let tuples_end = s.tuples_end;
-        ok = ok
-            & table_fits(
-                limits,
-                &lookups[lookups_start..lookups_end],
-                &names[names_start..names_end],
-                &tuples[tuples_start..tuples_end],
-            );
-        t += 1;
+    for t in 0..sizes.len() / BUS_SIZES {
+        let own = table_at(lookups, names, tuples, sizes, t);
+        if !table_fits(limits, own.lookups, own.names, own.tuples) {
+            return false;
+        }
     }
-    ok
+    true
 }
 
 // Refusal 1.
@@ -85,10 +62,8 @@ fn all_fit(limits: Limits, lookups: &[u32], names: &[u8], tuples: &[u32], sizes:
     requires { Sane limits }
     ensures { result ≡ all_fit limits (lent_bus_tables lookups.now names.now tuples.now sizes.now) }
 {
-    if lists_fit(limits, lookups, names, tuples, sizes) {
-        return tables_fit(limits, lookups, names, tuples, sizes);
-    }
-    false
+    lists_fit(limits, lookups, names, tuples, sizes)
+        && tables_fit(limits, lookups, names, tuples, sizes)
 }
 
 // The answer within these limits.
@@ -98,21 +73,18 @@ pub fn widths_within(
     names: &[u8],
     tuples: &[u32],
     sizes: &[u32],
-) -> WidthsAnswer
+) -> Result<u64, Refusal>
     requires { Sane limits }
     ensures { result ≡ widths_answer limits (lent_bus_tables lookups.now names.now tuples.now sizes.now) }
 {
     if !all_fit(limits, lookups, names, tuples, sizes) {
-        return WidthsAnswer::Refused(Refusal::SizeAtOdds);
+        return Err(Refusal::SizeAtOdds);
     }
     if !all_agree(lookups) {
-        return WidthsAnswer::Refused(Refusal::LookupInvalid);
+        return Err(Refusal::LookupInvalid);
     }
-    let verdict = bus_widths(lookups, names, tuples, sizes);
-    match verdict {
-        Verdict::Accepted => WidthsAnswer::Widest(to_u64(widest(lookups, names, tuples, sizes))),
-        Verdict::Refused(f) => WidthsAnswer::Refused(f),
-    }
+    bus_widths(lookups, names, tuples, sizes)?;
+    Ok(u64::from(widest(lookups, names, tuples, sizes)))
 }
 
 // The widest bus tuple of several tables, or 0 (`check_bus_widths`), at the choices of the call. `sizes` has for each table how many
@@ -123,12 +95,12 @@ pub fn check_bus_widths(
     names: &[u8],
     tuples: &[u32],
     sizes: &[u32],
-) -> WidthsAnswer
+) -> Result<u64, Refusal>
     ensures { in_numbers result
         ≡ in_numbers (widths_at choices (lent_bus_tables lookups.now names.now tuples.now sizes.now)) }
 {
     if !known(choices) {
-        return WidthsAnswer::Refused(Refusal::SizeAtOdds);
+        return Err(Refusal::SizeAtOdds);
     }
     widths_within(limits_of(choices.profile), lookups, names, tuples, sizes)
 }

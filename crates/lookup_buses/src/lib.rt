@@ -2,8 +2,8 @@
 
 #![tactic(auto)]
 
+pub mod bus_table;
 pub mod check_bus_widths;
 pub mod lookup_widths;
 pub mod order;
-pub mod spans;
 pub mod tables;

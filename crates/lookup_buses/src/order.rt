@@ -10,7 +10,7 @@ ghost use Rattle.lookup_buses.specs.inner.Requires.{of_place, order_of};
 use lookup::buses::{alone, same_bus};
 use lookup::types::LOOKUP_WORDS;
 
-// The place of lookup i: 0, or 1 + the first lookup of its bus.
+// The place of lookup i: 0, or 1 + the first lookup of its bus. A number and not an `Option`: the definition sorts by it.
 fn place_of(lookups: &[u32], names: &[u8], packing: bool, i: usize) -> u32
     requires { let l : Lookups = bus_lookups lookups.now names.now [] in BusNames l.lookups l.names × (i < lookup_count l.lookups) }
     ensures { let l : Lookups = bus_lookups lookups.now names.now [] in result ≡ place (alone_at packing l.lookups) (name_at l.lookups l.names) (lookup_count l.lookups) i }
@@ -19,12 +19,10 @@ fn place_of(lookups: &[u32], names: &[u8], packing: bool, i: usize) -> u32
         return 0;
     }
     let n = lookups.len() / LOOKUP_WORDS;
-    let mut j = 0;
-    while j < n {
+    for j in 0..n {
         if same_bus(lookups, names, packing, i, j) {
             return (j + 1) as u32;
         }
-        j += 1;
     }
     (n + 1) as u32
 }
@@ -36,47 +34,39 @@ fn places(lookups: &[u32], names: &[u8], packing: bool) -> [u32; 64]
 {
     let n = lookups.len() / LOOKUP_WORDS;
     let mut out = [0u32; 64];
-    let mut i = 0;
-    while i < n {
-        let place = place_of(lookups, names, packing, i);
-        out[i] = place;
-        i += 1;
+    for i in 0..n {
+        out[i] = place_of(lookups, names, packing, i);
     }
     out
 }
 
-// The lookups of place k go to order from `start` on; answers where they end.
+// The lookups of place k go to order from `start` on; answers where they end, since the array has no length of its own.
 fn push_place(places: &[u32], k: u32, n: usize, order: &mut [u32], start: usize) -> usize
     requires { let found : List ℕ = of_place places.now k n in (n ≤ 64) × (n ≤ length places.now) × (start + length found ≤ length order.old) }
     ensures { let found : List ℕ = of_place places.now k n in (result ≡ start + length found) × (order.new ≡ (take start order.old ++ found) ++ drop result order.old) }
 {
     let mut end = start;
-    let mut i = 0;
-    while i < n {
+    for i in 0..n {
         if places[i] == k {
             order[end] = i as u32;
             end += 1;
         }
-        i += 1;
     }
     end
 }
 
-// The lookups by place, by number; answers how many they are.
-fn arrange(places: &[u32], n: usize, order: &mut [u32]) -> usize
+// The lookups by place, by number.
+fn arrange(places: &[u32], n: usize, order: &mut [u32])
     requires { (n ≤ 64) × (n ≤ length places.now) × (n ≤ length order.old) }
-    ensures { let found : List ℕ = order_of places.now (n + 1) n in (result ≡ length found) × (order.new ≡ found ++ drop result order.old) }
+    ensures { let found : List ℕ = order_of places.now (n + 1) n in order.new ≡ found ++ drop (length found) order.old }
 {
     let mut end = 0;
-    let mut k = 0;
-    while k < n + 1 {
+    for k in 0..n + 1 {
         end = push_place(places, k as u32, n, order, end);
-        k += 1;
     }
-    end
 }
 
-// The order of a table's lookups, by number.
+// The order of a table's lookups, by number; zeros after them. An array of the most there may be, since there is no heap.
 pub fn order(lookups: &[u32], names: &[u8], packing: bool) -> [u32; 64]
     requires { let l : Lookups = bus_lookups lookups.now names.now [] in BusNames l.lookups l.names }
     ensures { let l : Lookups = bus_lookups lookups.now names.now [] in result ≡ arranged (alone_at packing l.lookups) (name_at l.lookups l.names) (lookup_count l.lookups) ++ drop (lookup_count l.lookups) (replicate 64 0) }
@@ -84,6 +74,6 @@ pub fn order(lookups: &[u32], names: &[u8], packing: bool) -> [u32; 64]
     let n = lookups.len() / LOOKUP_WORDS;
     let places = places(lookups, names, packing);
     let mut out = [0u32; 64];
-    let _end = arrange(&places, n, &mut out);
+    arrange(&places, n, &mut out);
     out
 }

@@ -10,9 +10,9 @@ ghost use Rattle.lookup_challenges.specs.Prefixes.{prefix_by, prefix, prefixes_f
 ghost use Rattle.lookup_challenges.specs.inner.Requires.{ChallengeLists, challenge_lists, Writable};
 
 use expression::choices::{Choices, known, limits_of};
-use expression::refusal::{Refusal, Verdict};
+use expression::refusal::Refusal;
 use expression::sizes::Limits;
-use expression::words::{all_below, to_usize};
+use expression::words::all_below;
 use field::extension::{Ext, add, load, power, scale, store};
 use field::modulus::{prime_of, w_of};
 use field::word::reduce;
@@ -30,7 +30,7 @@ fn fits(
 {
     (alpha.len() == 4)
         & (beta.len() == 4)
-        & (width <= to_usize(limits.prefix_width))
+        & (width <= limits.prefix_width as usize)
         & (count <= limits.prefixes)
         & (count <= room)
 }
@@ -47,12 +47,8 @@ fn fill(p: u32, alpha: Ext, gamma: Ext, count: usize, out: &mut [u32])
     requires { KnownPrime p × Word4 p (ext_words alpha) × Word4 p (ext_words gamma) × (count ≤ 4294967295) × (4 * count ≤ length out.old) }
     ensures { out.new ≡ joined (prefix_by p (ext_words alpha) (ext_words gamma)) 0 count ++ drop (4 * count) out.old }
 {
-    let mut i = 0;
-    while i < count {
-        let at = 4 * i;
-        let end = at + 4;
-        store(&mut out[at..end], prefix(p, alpha, gamma, i));
-        i += 1;
+    for i in 0..count {
+        store(&mut out[4 * i..4 * i + 4], prefix(p, alpha, gamma, i));
     }
 }
 
@@ -74,22 +70,22 @@ pub fn prefixes(
     width: usize,
     count: usize,
     out: &mut [u32],
-) -> Verdict
+) -> Result<(), Refusal>
     requires { Sane limits × KnownPrime p × (w < p) }
     ensures { let l : ChallengeLists = challenge_lists alpha.now beta.now out.old in (refusal result ≡ prefixes_refusal limits p l.alpha l.beta width count l.out)
         × (out.new ≡ prefixes_after (refusal result) p w l.alpha l.beta width count l.out) }
 {
     if !fits(limits, alpha, beta, width, count, out.len() / 4) {
-        return Verdict::Refused(Refusal::SizeAtOdds);
+        return Err(Refusal::SizeAtOdds);
     }
     if !(all_below(p, alpha) & all_below(p, beta)) {
-        return Verdict::Refused(Refusal::WordTooLarge);
+        return Err(Refusal::WordTooLarge);
     }
     if width == 0 {
-        return Verdict::Refused(Refusal::WidthZero);
+        return Err(Refusal::WidthZero);
     }
     write(p, w, alpha, beta, width, count, out);
-    Verdict::Accepted
+    Ok(())
 }
 
 // `Challenges::new`, at the choices of the call.
@@ -100,12 +96,12 @@ pub fn new(
     width: usize,
     count: usize,
     out: &mut [u32],
-) -> Verdict
+) -> Result<(), Refusal>
     ensures { record { answer = numbers (refusal result); out = out.new }
         ≡ prefixes_at choices alpha.now beta.now width count out.old }
 {
     if !known(choices) {
-        return Verdict::Refused(Refusal::SizeAtOdds);
+        return Err(Refusal::SizeAtOdds);
     }
     prefixes(
         limits_of(choices.profile),

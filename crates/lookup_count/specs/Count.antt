@@ -1,6 +1,6 @@
 -- Counts (`count.rs`): a node, and a bound on its magnitude. SPECIFICATION, section 6.4. The table is the first `used` nodes of a lent
 -- list; the new node is node `used`.
-use Rattle.std.specs.Prelude.{ℕ, suc, ◌+◌, ◌*◌, ◌/◌, ◌%◌, Bool, true, false, cond, ◌&&◌, List, [], ◌∷◌, ◌++◌, ltb, ℤ, pos, negsuc, length, take, drop}
+use Rattle.std.specs.Prelude.{ℕ, suc, ◌+◌, ◌*◌, ◌/◌, ◌%◌, Bool, true, false, cond, ◌&&◌, List, [], ◌∷◌, ◌++◌, ltb, ℤ, pos, negsuc, length, take, drop, Err, Ok, Result}
 use Rattle.std.proofs.Math.Option.{Option, none, some}
 use Rattle.field.specs.Word.{neg_m}
 use Rattle.field.specs.Known.{prime_of}
@@ -12,8 +12,6 @@ use Rattle.expression.specs.declared.sizes.Limits.{Limits}
 use Rattle.expression.specs.declared.refusal.Refusal.{Refusal}
 use Rattle.expression.specs.declared.refusal.Refusal.TheVariants.{SizeAtOdds, NodeInvalid}
 use Rattle.lookup_count.specs.declared.count.Count.{Count}
-use Rattle.lookup_count.specs.declared.count.Counted.{Counted}
-use Rattle.lookup_count.specs.declared.count.Counted.TheVariants.{Added, Refused}
 
 -- the kinds of the nodes that are added
 abbrev pub constant_kind : ℕ
@@ -47,9 +45,9 @@ abbrev pub count_of : ℕ → ℕ → Count
 count_of node weight = record { node = node; weight = weight }
 
 -- a count of the new node, unless refused
-abbrev pub counted : Option Refusal → ℕ → ℕ → Counted
-counted none used weight = Added (count_of used weight)
-counted (some f) used weight = Refused f
+abbrev pub counted : Option Refusal → ℕ → ℕ → Result Count Refusal
+counted none used weight = Ok (count_of used weight)
+counted (some f) used weight = Err f
 
 -- the lent list afterwards: the new node's three words are written, and no other
 abbrev pub nodes_after : Option Refusal → List ℕ → ℕ → ℕ → ℕ → List ℕ
@@ -58,7 +56,7 @@ nodes_after (some f) nodes used kind a = nodes
 
 -- the answer, and the lent list afterwards
 pub record Outcome : Type 0 where
-  pub answer : Counted
+  pub answer : Result Count Refusal
   pub nodes : List ℕ
 
 -- a new node of this kind and first operand, and its count
@@ -75,7 +73,7 @@ negated m nodes used c = outcome (negation_refusal m nodes used c.node) nodes us
 
 -- at the choices of a call: refusal 1 where one of them is unknown
 abbrev pub unless_known : Choices → List ℕ → Outcome → Outcome
-unless_known c nodes o = cond (known c) o (record { answer = Refused SizeAtOdds; nodes = nodes })
+unless_known c nodes o = cond (known c) o (record { answer = Err SizeAtOdds; nodes = nodes })
 
 unfoldable pub from_i32_at : Choices → List ℕ → ℕ → ℤ → Outcome
 from_i32_at c nodes used x = unless_known c nodes (from_i32 (limits_of c.profile) (prime_of c.field) nodes used x)
@@ -91,13 +89,13 @@ pub record CountNumbers : Type 0 where
   pub nodes : List ℕ
 
 -- for each case of the code's enum
-abbrev pub refusal_of : Counted → Option Refusal
-refusal_of (Added c) = none
-refusal_of (Refused f) = some f
+abbrev pub refusal_of : Result Count Refusal → Option Refusal
+refusal_of (Ok c) = none
+refusal_of (Err f) = some f
 
-abbrev pub added_of : Counted → Count
-added_of (Added c) = c
-added_of (Refused f) = count_of 0 0
+abbrev pub added_of : Result Count Refusal → Count
+added_of (Ok c) = c
+added_of (Err f) = count_of 0 0
 
 unfoldable pub in_numbers : Outcome → CountNumbers
 in_numbers o = record { answer = numbers (refusal_of o.answer); count = added_of o.answer; nodes = o.nodes }

@@ -1,4 +1,5 @@
 -- The calls of the functions of one lookup, over plain lists and numbers.
+use Rattle.std.specs.Prelude.{Err, Ok, Result}
 use mathlib.Core.Path.{◌≡◌, refl, sym, ap, ◌∙◌}
 use mathlib.Core.List.{List, [], ◌∷◌, ◌++◌}
 use Prim.Native.Nat.{ℕ, ◌+◌, ◌-◌, ◌<◌, ◌≤◌, max}
@@ -25,8 +26,7 @@ use Rattle.expression.specs.declared.choices.Choices.{Choices}
 use Rattle.expression.specs.declared.sizes.Limits.{Limits}
 use Rattle.expression.specs.declared.refusal.Refusal.{Refusal}
 use Rattle.expression.specs.declared.refusal.Refusal.TheVariants.{SizeAtOdds}
-use Rattle.expression.specs.declared.refusal.Verdict.{Verdict}
-use Rattle.expression.specs.declared.refusal.Verdict.TheVariants as verdict
+use Rattle.expression.specs.Refusal.{Verdict}
 use Rattle.lookup.specs.Lookups.{Lookups, lookup_count, lookup_at, tuple_count, tuple_start, multiplicity_start, flag_start}
 use Rattle.lookup.specs.Refusals.{form_refusal}
 use Rattle.lookup.specs.declared.refusals.Columns.{Columns}
@@ -36,8 +36,6 @@ use Rattle.lookup_degree.specs.inner.At.{FewUpTo, tuple_degree_at, denominator_a
 use Rattle.lookup_degree.specs.Formed.{Formed}
 use Rattle.lookup_degree.specs.ConstraintDegree.{degree_refusal, degree_answer, degree_at}
 use Rattle.lookup_degree.specs.laws.Degree.{degree_is}
-use Rattle.lookup_degree.specs.declared.constraint_degree.DegreeAnswer.{DegreeAnswer}
-use Rattle.lookup_degree.specs.declared.constraint_degree.DegreeAnswer.TheVariants.{Degree, Refused}
 
 pub numerator_asks : {a s n d : ℕ} (tuples lookups : List ℕ) (i : ℕ) → FewUpTo lookups i → a ≡ tuple_start lookups i → s ≡ multiplicity_start lookups i → n ≡ tuple_count lookups i
     → (d ≡ denominator_at tuples lookups i) × (d ≤ 274877906880) → (n ≤ 64) × (a ≤ 64) × (s ≤ 64) × (d ≤ 274877906880) × (total (λ k. word tuples (a + k)) n ≤ d)
@@ -86,7 +84,7 @@ degree_of_is {b} {d} {r} m nodes l t i f h eb ed er =
 
 -- the answers
 module _ (m : Limits) (p : ℕ) (c : Columns) (nodes : List ℕ) (l : Lookups) (i t : ℕ) where
-  pub degree-size : (leb t 1 && ltb i (lookup_count l.lookups)) ≡ false → Refused SizeAtOdds ≡ degree_answer m p c nodes l i t
+  pub degree-size : (leb t 1 && ltb i (lookup_count l.lookups)) ≡ false → Err SizeAtOdds ≡ degree_answer m p c nodes l i t
   unfolding degree_answer degree_refusal
   degree-size e = rw e
 
@@ -95,23 +93,23 @@ module _ (m : Limits) (p : ℕ) (c : Columns) (nodes : List ℕ) (l : Lookups) (
       let k = passed (leb t 1) (ltb i (lookup_count l.lookups) ∷ []) e in
       (ltb-true i (lookup_count l.lookups) k.1.0, leb-true t 1 k.0)
 
-  pub degree-given : {v : Verdict} {d : ℕ} → (leb t 1 && ltb i (lookup_count l.lookups)) ≡ true → refusal v ≡ form_refusal m p c nodes l → v ≡ verdict.Accepted
-      → d ≡ lookup_degree (node_degrees t nodes) (lookup_at l i) → Degree d ≡ degree_answer m p c nodes l i t
+  pub degree-given : {v : Verdict} {d : ℕ} → (leb t 1 && ltb i (lookup_count l.lookups)) ≡ true → refusal v ≡ form_refusal m p c nodes l → v ≡ Ok tt
+      → d ≡ lookup_degree (node_degrees t nodes) (lookup_at l i) → Ok d ≡ degree_answer m p c nodes l i t
   unfolding degree_answer degree_refusal
   degree-given {v} {d} e f g h = rw (e, sym f ∙ ap refusal g, h)
 
-  pub degree_refused : {v : Verdict} {f : Refusal} → (leb t 1 && ltb i (lookup_count l.lookups)) ≡ true → refusal v ≡ form_refusal m p c nodes l → v ≡ verdict.Refused f
-      → Refused f ≡ degree_answer m p c nodes l i t
+  pub degree_refused : {v : Verdict} {f : Refusal} → (leb t 1 && ltb i (lookup_count l.lookups)) ≡ true → refusal v ≡ form_refusal m p c nodes l → v ≡ Err f
+      → Err f ≡ degree_answer m p c nodes l i t
   unfolding degree_answer degree_refusal
   degree_refused {v} {f} e k g = rw (e, sym k ∙ ap refusal g)
 
 -- `constraint_degree`
 module _ (c : Choices) (columns : Columns) (nodes : List ℕ) (l : Lookups) (i t : ℕ) {b : Bool} (e : b ≡ known c) where
-  pub choice_unknown : b ≡ false → Refused SizeAtOdds ≡ degree_at c columns nodes l i t
+  pub choice_unknown : b ≡ false → Err SizeAtOdds ≡ degree_at c columns nodes l i t
   unfolding degree_at
   choice_unknown z = rw (sym e ∙ z) refl
 
-  pub choices_known : {m : Limits} {p : ℕ} {a : DegreeAnswer} → b ≡ true → m ≡ limits_of c.profile → p ≡ prime_of c.field
+  pub choices_known : {m : Limits} {p : ℕ} {a : Result ℕ Refusal} → b ≡ true → m ≡ limits_of c.profile → p ≡ prime_of c.field
       → a ≡ degree_answer m p columns nodes l i t → a ≡ degree_at c columns nodes l i t
   unfolding degree_at
   choices_known z em ep h = rw (sym e ∙ z, ← em, ← ep) h

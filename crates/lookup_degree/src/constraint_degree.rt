@@ -10,18 +10,12 @@ use crate::lookups::lookup_degree;
 use crate::tuples::tuple_degrees;
 use expression::choices::{Choices, known, limits_of};
 use expression::node::NODE_WORDS;
-use expression::refusal::{Refusal, Verdict};
+use expression::refusal::Refusal;
 use expression::sizes::Limits;
 use expression_checks::degrees::fill_degrees;
 use field::modulus::prime_of;
 use lookup::refusals::{Columns, form_refusal};
 use lookup::types::LOOKUP_WORDS;
-
-#[derive(Clone, Copy)]
-pub enum DegreeAnswer {
-    Degree(u64),
-    Refused(Refusal),
-}
 
 // The degree of lookup i of a table that passed the tests.
 fn degree_of(
@@ -65,14 +59,14 @@ pub fn degree_within(
     elements: &[u32],
     i: usize,
     t: u32,
-) -> DegreeAnswer
+) -> Result<u64, Refusal>
     requires { Sane limits }
     ensures { result ≡ degree_answer limits p columns nodes.now (lent_lookups lookups.now names.now tuples.now multiplicities.now flags.now elements.now) i t }
 {
     if !((t <= 1) & (i < lookups.len() / LOOKUP_WORDS)) {
-        return DegreeAnswer::Refused(Refusal::SizeAtOdds);
+        return Err(Refusal::SizeAtOdds);
     }
-    let verdict = form_refusal(
+    form_refusal(
         limits,
         p,
         columns,
@@ -83,22 +77,19 @@ pub fn degree_within(
         multiplicities,
         flags,
         elements,
-    );
-    match verdict {
-        Verdict::Accepted => DegreeAnswer::Degree(degree_of(
-            limits,
-            nodes,
-            lookups,
-            names,
-            tuples,
-            multiplicities,
-            flags,
-            elements,
-            i,
-            t,
-        )),
-        Verdict::Refused(f) => DegreeAnswer::Refused(f),
-    }
+    )?;
+    Ok(degree_of(
+        limits,
+        nodes,
+        lookups,
+        names,
+        tuples,
+        multiplicities,
+        flags,
+        elements,
+        i,
+        t,
+    ))
 }
 
 // The degree of lookup i of a table at a transition degree t (`constraint_degree_with_transition`), at the choices of the call.
@@ -114,13 +105,13 @@ pub fn constraint_degree(
     elements: &[u32],
     i: usize,
     t: u32,
-) -> DegreeAnswer
+) -> Result<u64, Refusal>
     ensures { in_numbers result ≡ in_numbers (degree_at choices columns nodes.now
         (lent_lookups lookups.now names.now tuples.now multiplicities.now flags.now
         elements.now) i t) }
 {
     if !known(choices) {
-        return DegreeAnswer::Refused(Refusal::SizeAtOdds);
+        return Err(Refusal::SizeAtOdds);
     }
     degree_within(
         limits_of(choices.profile),

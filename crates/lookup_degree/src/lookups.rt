@@ -2,8 +2,7 @@
 ghost use Rattle.std.specs.Prelude.{◌≡◌, ◌≤◌};
 ghost use Rattle.lookup_degree.specs.inner.At.{FewUpTo, denominator_at, numerator_at, additive_at, exclusive_at, lookup_degree_at};
 
-use crate::sums::{denominator, flagged_counts, flagged_tuples, largest, numerator};
-use expression::words::to_usize;
+use crate::sums::{denominator, flagged_counts, flagged_tuples, numerator};
 use lookup::starts::{flag_start, multiplicity_start, tuple_start};
 use lookup::types::{exclusive, tuple_count};
 
@@ -12,7 +11,7 @@ pub fn denominator_of(tuples: &[u32], lookups: &[u32], i: usize) -> u64
     ensures { (result ≡ denominator_at tuples.now lookups.now i) × (result ≤ 274877906880) }
 {
     let first = tuple_start(lookups, i);
-    let n = to_usize(tuple_count(lookups, i));
+    let n = tuple_count(lookups, i) as usize;
     denominator(tuples, first, n)
 }
 
@@ -28,7 +27,7 @@ pub fn numerator_of(
 {
     let first = tuple_start(lookups, i);
     let start = multiplicity_start(lookups, i);
-    let n = to_usize(tuple_count(lookups, i));
+    let n = tuple_count(lookups, i) as usize;
     let sum = denominator_of(tuples, lookups, i);
     numerator(nodes, multiplicities, start, tuples, first, n, sum)
 }
@@ -45,7 +44,7 @@ pub fn additive_degree(
 {
     let sum = denominator_of(tuples, lookups, i);
     let top = numerator_of(nodes, tuples, lookups, multiplicities, i);
-    largest(1 + sum, top)
+    (1 + sum).max(top)
 }
 
 fn exclusive_degree(
@@ -62,10 +61,10 @@ fn exclusive_degree(
     let first = tuple_start(lookups, i);
     let start = multiplicity_start(lookups, i);
     let flag = flag_start(lookups, i);
-    let n = to_usize(tuple_count(lookups, i));
+    let n = tuple_count(lookups, i) as usize;
     let below = flagged_tuples(nodes, flags, flag, tuples, first, n);
     let above = flagged_counts(nodes, flags, flag, multiplicities, start, n);
-    largest(1 + below, above)
+    (1 + below).max(above)
 }
 
 // The degree of lookup i (`constraint_degree_with_transition`).

@@ -4,25 +4,23 @@ ghost use Rattle.lists.specs.Count.{total};
 ghost use Rattle.expression.specs.Words.{word};
 ghost use Rattle.lookup_degree.specs.Sums.{greatest};
 
-use expression::words::{to_u64, to_usize, word_at};
+use expression::words::word_at;
 
 pub fn largest(a: u64, b: u64) -> u64
     ensures { result ≡ max a b }
 {
-    if a <= b { b } else { a }
+    a.max(b)
 }
 
+// The four loops below differ in their terms. One loop over a closure would be no plainer: each call would have to prove what its term is.
 // The denominators' degree: the sum over n tuples from `first` on. `degrees` has the degree of each tuple.
 pub fn denominator(degrees: &[u32], first: usize, n: usize) -> u64
     requires { (n ≤ 64) × (first ≤ 64) }
     ensures { (result ≡ total (λ k. word degrees.now (first + k)) n) × (result ≤ n * 4294967295) }
 {
     let mut sum: u64 = 0;
-    let mut k = 0;
-    while k < n {
-        let tuple = to_u64(word_at(degrees, first + k));
-        sum = sum + tuple;
-        k += 1;
+    for k in 0..n {
+        sum += u64::from(word_at(degrees, first + k));
     }
     sum
 }
@@ -41,12 +39,10 @@ pub fn numerator(
     ensures { result ≡ greatest (λ k. word nodes.now (word multiplicities.now (start + k)) + (sum - word degrees.now (first + k))) n }
 {
     let mut top: u64 = 0;
-    let mut k = 0;
-    while k < n {
-        let tuple = to_u64(word_at(degrees, first + k));
-        let multiplicity = to_u64(word_at(nodes, to_usize(word_at(multiplicities, start + k))));
-        top = largest(top, multiplicity + (sum - tuple));
-        k += 1;
+    for k in 0..n {
+        let tuple = u64::from(word_at(degrees, first + k));
+        let multiplicity = u64::from(word_at(nodes, word_at(multiplicities, start + k) as usize));
+        top = top.max(multiplicity + (sum - tuple));
     }
     top
 }
@@ -64,12 +60,10 @@ pub fn flagged_tuples(
     ensures { (result ≡ greatest (λ k. word nodes.now (word flags.now (start + k)) + word degrees.now (first + k)) n) × (result ≤ 8589934590) }
 {
     let mut top: u64 = 0;
-    let mut k = 0;
-    while k < n {
-        let tuple = to_u64(word_at(degrees, first + k));
-        let flag = to_u64(word_at(nodes, to_usize(word_at(flags, start + k))));
-        top = largest(top, flag + tuple);
-        k += 1;
+    for k in 0..n {
+        let tuple = u64::from(word_at(degrees, first + k));
+        let flag = u64::from(word_at(nodes, word_at(flags, start + k) as usize));
+        top = top.max(flag + tuple);
     }
     top
 }
@@ -87,12 +81,10 @@ pub fn flagged_counts(
     ensures { let degrees : List ℕ = nodes.now in result ≡ greatest (λ k. word degrees (word flags.now (start + k)) + word degrees (word multiplicities.now (first + k))) n }
 {
     let mut top: u64 = 0;
-    let mut k = 0;
-    while k < n {
-        let multiplicity = to_u64(word_at(nodes, to_usize(word_at(multiplicities, first + k))));
-        let flag = to_u64(word_at(nodes, to_usize(word_at(flags, start + k))));
-        top = largest(top, flag + multiplicity);
-        k += 1;
+    for k in 0..n {
+        let multiplicity = u64::from(word_at(nodes, word_at(multiplicities, first + k) as usize));
+        let flag = u64::from(word_at(nodes, word_at(flags, start + k) as usize));
+        top = top.max(flag + multiplicity);
     }
     top
 }

@@ -6,13 +6,13 @@ ghost use Rattle.lookup.specs.Lookups.{element_start};
 ghost use Rattle.lookup_degree.specs.Degree.{tuple_degree};
 ghost use Rattle.lookup_degree.specs.inner.At.{tuple_degree_at};
 
-use expression::words::{to_usize, word_at};
+use expression::words::word_at;
 
 // The larger of two words.
 pub fn larger(a: u32, b: u32) -> u32
     ensures { result ≡ max a b }
 {
-    if a <= b { b } else { a }
+    a.max(b)
 }
 
 // The largest degree of these nodes. `degrees` has the degree of each node.
@@ -20,11 +20,8 @@ fn tuple_degree(degrees: &[u32], nodes: &[u32]) -> u32
     ensures { result ≡ tuple_degree (word degrees.now) nodes.now }
 {
     let mut top = 0;
-    let mut i = 0;
-    while i < nodes.len() {
-        let degree = word_at(degrees, to_usize(nodes[i]));
-        top = larger(top, degree);
-        i += 1;
+    for node in nodes {
+        top = top.max(word_at(degrees, *node as usize));
     }
     top
 }
@@ -36,13 +33,10 @@ pub fn tuple_degrees(degrees: &[u32], tuples: &[u32], elements: &[u32]) -> [u32;
 {
     let mut out = [0u32; 64];
     let mut start: usize = 0;
-    let mut j = 0;
-    while j < tuples.len() {
-        let end = start + to_usize(tuples[j]);
-        let degree = tuple_degree(degrees, &elements[start..end]);
-        out[j] = degree;
+    for j in 0..tuples.len() {
+        let end = start + tuples[j] as usize;
+        out[j] = tuple_degree(degrees, &elements[start..end]);
         start = end;
-        j += 1;
     }
     out
 }

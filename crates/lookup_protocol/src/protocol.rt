@@ -1,5 +1,5 @@
 // The checks over several tables: the sum of their terminals, and the height bound.
-ghost use Rattle.std.specs.Prelude.{◌≡◌, true, List, [], ℕ, ◌+◌, ◌*◌, ◌<◌, ◌≤◌, length};
+ghost use Rattle.std.specs.Prelude.{◌≡◌, true, false, MatchOption, List, [], ℕ, ◌+◌, ◌*◌, ◌<◌, ◌≤◌, length};
 ghost use Rattle.lists.specs.Count.{every};
 ghost use Rattle.field.specs.inner.Requires.{KnownPrime};
 ghost use Rattle.field.specs.Element.{Word4};
@@ -13,9 +13,9 @@ ghost use Rattle.lookup_protocol.specs.inner.Requires.{LookupsCounted, FewWeight
 ghost use Rattle.lookup_protocol.specs.Terminals.{terminal_words, terminal_count, present, terminal, terminal_below, with_terminal, terminal_sum, terminals_refusal, terminals_at};
 
 use expression::choices::{Choices, known, limits_of};
-use expression::refusal::{Refusal, Verdict};
+use expression::refusal::Refusal;
 use expression::sizes::Limits;
-use expression::words::{all_within, to_u64};
+use expression::words::all_within;
 use field::extension::{Ext, add, is_zero};
 use field::modulus::prime_of;
 use lookup::sizes::{part_start, size};
@@ -31,24 +31,22 @@ const COUNT_SIZES: usize = 1;
 
 const LOOKUP_COUNT_SIZE: usize = 0;
 
-fn present(terminals: &[u32], i: usize) -> bool
+// Terminal i, if it is present.
+fn terminal(terminals: &[u32], i: usize) -> Option<LookupTerminal>
     requires { terminal_words * i + terminal_words ≤ length terminals.now }
-    ensures { result ≡ present terminals.now i }
-{
-    !(terminals[TERMINAL_WORDS * i] == 0)
-}
-
-fn terminal(terminals: &[u32], i: usize) -> LookupTerminal
-    requires { terminal_words * i + terminal_words ≤ length terminals.now }
-    ensures { ext_words result.0 ≡ terminal terminals.now i }
+    ensures { MatchOption result (present terminals.now i ≡ false) (λ t. (present terminals.now i ≡ true) × (ext_words t.0 ≡ terminal terminals.now i)) }
 {
     let at = TERMINAL_WORDS * i;
-    LookupTerminal(Ext {
+    let absent = terminals[at] == 0;
+    if absent {
+        return None;
+    }
+    Some(LookupTerminal(Ext {
         c0: terminals[at + 1],
         c1: terminals[at + 2],
         c2: terminals[at + 3],
         c3: terminals[at + 4],
-    })
+    }))
 }
 
 // The words of terminal i are below p, if it is present.
@@ -56,23 +54,20 @@ fn terminal_below(p: u32, terminals: &[u32], i: usize) -> bool
     requires { terminal_words * i + terminal_words ≤ length terminals.now }
     ensures { result ≡ terminal_below p terminals.now i }
 {
-    let at = TERMINAL_WORDS * i;
-    !present(terminals, i)
-        | ((terminals[at + 1] < p)
-            & (terminals[at + 2] < p)
-            & (terminals[at + 3] < p)
-            & (terminals[at + 4] < p))
+    match terminal(terminals, i) {
+        None => true,
+        Some(LookupTerminal(t)) => (t.c0 < p) & (t.c1 < p) & (t.c2 < p) & (t.c3 < p),
+    }
 }
 
+// A flag, and no early return: that would be no shorter.
 fn all_below(p: u32, terminals: &[u32]) -> bool
     ensures { let ts : List ℕ = terminals.now in result ≡ every (terminal_below p ts) (terminal_count ts) }
 {
     let n = terminals.len() / TERMINAL_WORDS;
     let mut ok = true;
-    let mut i = 0;
-    while i < n {
-        ok = ok & terminal_below(p, terminals, i);
-        i += 1;
+    for i in 0..n {
+        ok &= terminal_below(p, terminals, i);
     }
     ok
 }
@@ -82,10 +77,9 @@ fn with_terminal(p: u32, sum: Ext, terminals: &[u32], i: usize) -> Ext
     requires { KnownPrime p × Word4 p (ext_words sum) × (terminal_words * i + terminal_words ≤ length terminals.now) × (terminal_below p terminals.now i ≡ true) }
     ensures { Word4 p (ext_words result) × (ext_words result ≡ with_terminal p (ext_words sum) terminals.now i) }
 {
-    if present(terminals, i) {
-        add(p, sum, terminal(terminals, i).0)
-    } else {
-        sum
+    match terminal(terminals, i) {
+        None => sum,
+        Some(LookupTerminal(t)) => add(p, sum, t),
     }
 }
 
@@ -94,46 +88,38 @@ fn terminal_sum(p: u32, terminals: &[u32]) -> Ext
     ensures { let ts : List ℕ = terminals.now in ext_words result ≡ terminal_sum p ts (terminal_count ts) }
 {
     let n = terminals.len() / TERMINAL_WORDS;
-    let mut sum = Ext {
-        c0: 0,
-        c1: 0,
-        c2: 0,
-        c3: 0,
-    };
-    let mut i = 0;
-    while i < n {
+    let mut sum = Ext::ZERO;
+    for i in 0..n {
         sum = with_terminal(p, sum, terminals, i);
-        i += 1;
     }
     sum
 }
 
-pub fn terminals_refusal(limits: Limits, p: u32, terminals: &[u32]) -> Verdict
+pub fn terminals_refusal(limits: Limits, p: u32, terminals: &[u32]) -> Result<(), Refusal>
     requires { KnownPrime p }
     ensures { refusal result ≡ terminals_refusal limits p terminals.now }
 {
-    let n = terminals.len() / TERMINAL_WORDS;
     let whole = terminals.len() % TERMINAL_WORDS == 0;
-    let few = n <= limits.tables;
+    let few = terminals.len() / TERMINAL_WORDS <= limits.tables;
     if !(whole & few) {
-        return Verdict::Refused(Refusal::SizeAtOdds);
+        return Err(Refusal::SizeAtOdds);
     }
     if !all_below(p, terminals) {
-        return Verdict::Refused(Refusal::WordTooLarge);
+        return Err(Refusal::WordTooLarge);
     }
     if is_zero(terminal_sum(p, terminals)) {
-        Verdict::Accepted
+        Ok(())
     } else {
-        Verdict::Refused(Refusal::TerminalsNotZero)
+        Err(Refusal::TerminalsNotZero)
     }
 }
 
 // The terminals of a batch cancel, at the choices of the call.
-pub fn verify_terminal_sum(choices: Choices, terminals: &[u32]) -> Verdict
+pub fn verify_terminal_sum(choices: Choices, terminals: &[u32]) -> Result<(), Refusal>
     ensures { numbers (refusal result) ≡ numbers (terminals_at choices terminals.now) }
 {
     if !known(choices) {
-        return Verdict::Refused(Refusal::SizeAtOdds);
+        return Err(Refusal::SizeAtOdds);
     }
     let limits = limits_of(choices.profile);
     terminals_refusal(limits, prime_of(choices.field), terminals)
@@ -165,12 +151,10 @@ fn all_small(limits: Limits, lookups: &[u32], counts: &[u32]) -> bool
 {
     let mut ok = true;
     let mut at: usize = 0;
-    let mut t = 0;
-    while t < counts.len() {
+    for t in 0..counts.len() {
         let end = at + LOOKUP_WORDS * size(counts, COUNT_SIZES, LOOKUP_COUNT_SIZE, t);
-        ok = ok & lookups_small(limits, &lookups[at..end]);
+        ok &= lookups_small(limits, &lookups[at..end]);
         at = end;
-        t += 1;
     }
     ok
 }
@@ -189,8 +173,7 @@ fn tables_fit(limits: Limits, lookups: &[u32], counts: &[u32], heights: &[u32]) 
         LOOKUP_WORDS,
         counts.len(),
     );
-    let given = lookups.len();
-    if given != words {
+    if lookups.len() != words {
         return false;
     }
     all_small(limits, lookups, counts)
@@ -203,10 +186,8 @@ fn weight_sum(lookups: &[u32]) -> u64
 {
     let n = lookups.len() / LOOKUP_WORDS;
     let mut sum: u64 = 0;
-    let mut i = 0;
-    while i < n {
-        sum = sum + weight(lookups, i);
-        i += 1;
+    for i in 0..n {
+        sum += weight(lookups, i);
     }
     sum
 }
@@ -216,9 +197,10 @@ fn table_weight(lookups: &[u32], height: u32) -> u64
     requires { FewWeights lookups.now × (height ≤ 1048576) }
     ensures { (result ≡ weight_sum lookups.now * height) × (result ≤ 576460752169205760) }
 {
-    weight_sum(lookups) * to_u64(height)
+    weight_sum(lookups) * u64::from(height)
 }
 
+// A walk of its own over the tables: the sum fits because every table has passed `all_small` by then.
 fn height_sum(lookups: &[u32], counts: &[u32], heights: &[u32]) -> u64
     requires lookups_counted { let l : HeightLists = height_lists lookups.now counts.now heights.now in LookupsCounted l.lookups l.counts × ((t : ℕ) → t < length l.counts → FewWeights (table_lookups l.lookups l.counts t)) }
     requires heights_len { let l : HeightLists = height_lists lookups.now counts.now heights.now in (length l.heights ≡ length l.counts) × ((t : ℕ) → word l.heights t ≤ 1048576) }
@@ -226,12 +208,10 @@ fn height_sum(lookups: &[u32], counts: &[u32], heights: &[u32]) -> u64
 {
     let mut sum: u64 = 0;
     let mut at: usize = 0;
-    let mut t = 0;
-    while t < counts.len() {
+    for t in 0..counts.len() {
         let end = at + LOOKUP_WORDS * size(counts, COUNT_SIZES, LOOKUP_COUNT_SIZE, t);
-        sum = sum + table_weight(&lookups[at..end], heights[t]);
+        sum += table_weight(&lookups[at..end], heights[t]);
         at = end;
-        t += 1;
     }
     sum
 }
@@ -242,21 +222,21 @@ pub fn height_refusal(
     lookups: &[u32],
     counts: &[u32],
     heights: &[u32],
-) -> Verdict
+) -> Result<(), Refusal>
     requires { Sizes.Sane limits }
     ensures { refusal result ≡ height_refusal limits p lookups.now counts.now heights.now }
 {
     if !tables_fit(limits, lookups, counts, heights) {
-        return Verdict::Refused(Refusal::SizeAtOdds);
+        return Err(Refusal::SizeAtOdds);
     }
     if !all_agree(lookups) {
-        return Verdict::Refused(Refusal::LookupInvalid);
+        return Err(Refusal::LookupInvalid);
     }
     let sum = height_sum(lookups, counts, heights);
-    if sum < to_u64(p) {
-        Verdict::Accepted
+    if sum < u64::from(p) {
+        Ok(())
     } else {
-        Verdict::Refused(Refusal::HeightSumTooLarge(sum))
+        Err(Refusal::HeightSumTooLarge(sum))
     }
 }
 
@@ -266,12 +246,12 @@ pub fn check_multiplicity_height_bound(
     lookups: &[u32],
     counts: &[u32],
     heights: &[u32],
-) -> Verdict
+) -> Result<(), Refusal>
     ensures { numbers (refusal result)
         ≡ numbers (height_at choices lookups.now counts.now heights.now) }
 {
     if !known(choices) {
-        return Verdict::Refused(Refusal::SizeAtOdds);
+        return Err(Refusal::SizeAtOdds);
     }
     let limits = limits_of(choices.profile);
     height_refusal(limits, prime_of(choices.field), lookups, counts, heights)

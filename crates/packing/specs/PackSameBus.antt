@@ -1,5 +1,5 @@
 -- Packing of one table: the answer, and the lent lists afterwards, for every input.
-use Rattle.std.specs.Prelude.{Bool, cond, not, ◌&&◌, List, ℕ, leb, length}
+use Rattle.std.specs.Prelude.{Bool, cond, not, ◌&&◌, List, ℕ, leb, length, Err, Ok, Result}
 use Rattle.std.proofs.Math.Option.{Option, none, some}
 use Rattle.lists.specs.Count.{or_else}
 use Rattle.field.specs.Known.{prime_of}
@@ -17,8 +17,6 @@ use Rattle.lookup_buses.specs.Widths.{Tables, widths_refusal}
 use Rattle.packing.specs.Packing.{packed, overweight}
 use Rattle.packing.specs.Written.{words_of, written}
 use Rattle.packing.specs.declared.answer.Counts.{Counts}
-use Rattle.packing.specs.declared.answer.PackingAnswer.{PackingAnswer}
-use Rattle.packing.specs.declared.answer.PackingAnswer.TheVariants.{Packed, Refused}
 
 -- one table by itself
 abbrev pub single_table : Lookups → Tables
@@ -48,7 +46,7 @@ packing_refusal m p limit c nodes l lent =
     (unless (not (overweight (columns limit nodes l))) WeightTooLarge none)))
 
 pub record Outcome : Type 0 where
-  pub answer : PackingAnswer
+  pub answer : Result Counts Refusal
   pub lists : Lookups
 
 abbrev pub counts : Lookups → Counts
@@ -76,8 +74,8 @@ all_written w lent =
 
 -- refusals 1 to 12 leave lent outputs as they were (SPECIFICATION, section 10.5)
 abbrev pub outcome : Option Refusal → Lookups → Lookups → Outcome
-outcome (some f) w lent = record { answer = Refused f; lists = lent }
-outcome none w lent = record { answer = Packed (counts w); lists = all_written w lent }
+outcome (some f) w lent = record { answer = Err f; lists = lent }
+outcome none w lent = record { answer = Ok (counts w); lists = all_written w lent }
 
 -- the table's columns, nodes and lookups, and the lent lists
 unfoldable pub packing : Limits → ℕ → ℕ → Columns → List ℕ → Lookups → Lookups → Outcome
@@ -87,7 +85,7 @@ packing m p limit c nodes l lent = outcome (packing_refusal m p limit c nodes l 
 unfoldable pub packing_at : Choices → ℕ → Columns → List ℕ → Lookups → Lookups → Outcome
 packing_at c limit columns nodes l lent =
     cond (known c) (packing (limits_of c.profile) (prime_of c.field) limit columns nodes l lent)
-    (record { answer = Refused SizeAtOdds; lists = lent })
+    (record { answer = Err SizeAtOdds; lists = lent })
 
 -- SPECIFICATION, sections 1.4 and 6.2: "An answer is a number and three 64-bit details", "how much of each list was written" beside it, 0 of each
 -- where it is refused, and the lent lists afterwards
@@ -97,13 +95,13 @@ pub record PackingNumbers : Type 0 where
   pub lists : Lookups
 
 -- for each case of the code's enum
-abbrev pub refusal_of : PackingAnswer → Option Refusal
-refusal_of (Packed c) = none
-refusal_of (Refused f) = some f
+abbrev pub refusal_of : Result Counts Refusal → Option Refusal
+refusal_of (Ok c) = none
+refusal_of (Err f) = some f
 
-abbrev pub used_of : PackingAnswer → Counts
-used_of (Packed c) = c
-used_of (Refused f) = record { lookups = 0; names = 0; tuples = 0; multiplicities = 0; flags = 0; elements = 0 }
+abbrev pub used_of : Result Counts Refusal → Counts
+used_of (Ok c) = c
+used_of (Err f) = record { lookups = 0; names = 0; tuples = 0; multiplicities = 0; flags = 0; elements = 0 }
 
 unfoldable pub in_numbers : Outcome → PackingNumbers
 in_numbers o = record { answer = numbers (refusal_of o.answer); used = used_of o.answer; lists = o.lists }

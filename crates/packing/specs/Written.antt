@@ -31,5 +31,5 @@ words_of ls =
     }
 
 -- a lent list after words were written at its front: "what lies past it is untouched"
-abbrev pub written : List ℕ → List ℕ → List ℕ
+abbrev pub written : {A : Type 0} → List A → List A → List A
 written words d = words ++ drop (length words) d

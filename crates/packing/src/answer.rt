@@ -1,5 +1,4 @@
-// The answers of packing.
-use expression::refusal::Refusal;
+// What packing answers.
 
 // How many words were written into each list.
 #[derive(Clone, Copy)]
@@ -10,10 +9,4 @@ pub struct Counts {
     pub multiplicities: usize,
     pub flags: usize,
     pub elements: usize,
-}
-
-#[derive(Clone, Copy)]
-pub enum PackingAnswer {
-    Packed(Counts),
-    Refused(Refusal),
 }

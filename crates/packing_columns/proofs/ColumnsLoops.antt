@@ -10,6 +10,7 @@ use lib.ListN.{length, drop, set, drop_of_length-le}
 use lib.Seq.{drop-cons}
 use Rattle.lists.specs.laws.Writing.{nine-set}
 use Rattle.expression.specs.Words.{word, low_half, high_half}
+use Rattle.std.specs.Int.{from_bool}
 use Rattle.expression.specs.Values.{bit}
 use Rattle.lookup.specs.Lookups.{lookup_count, on_bus, name_length, weight, exclusive, tuple_count, tuple_start, multiplicity_start}
 use Rattle.lookup.specs.Tests.{weight_limit}
@@ -145,9 +146,11 @@ fill_stops {s} {xs} {k} {t} {i} {o} {a} {n} {f} g h ei ea en ef y =
       small = small g;
     }
 
-pub fill-ends : {s : PlanSource} {xs : List ℕ} {k t : ℕ} {o : OpenColumn} → Filling s xs k o t → length xs ≤ t → ColumnTaken s xs k (record { column = o; end = t })
+pub fill-ends : {s : PlanSource} {xs : List ℕ} {k t : ℕ} {o : OpenColumn} → Filling s xs k o t → length xs ≤ t → ColumnTaken s xs k (record { column = o; end = length xs })
 fill-ends {s} {xs} {k} {t} {o} g h =
-    record { is = g.is ∙ columns_done s o xs t h; above = g.above; within = g.within; head = g.head; small = small g }
+    let e : t ≡ length xs = omega (arith, g.within, h) in
+    rw (← e)
+    (record { is = g.is ∙ columns_done s o xs t h; above = g.above; within = g.within; head = g.head; small = small g })
 
 pub merged-small : {s : PlanSource} {xs : List ℕ} {k t : ℕ} {o a n : OpenColumn} → Filling s xs k o t → ColumnWithin 549755813888 a → n ≡ merge o a → n.sum ≤ 70368744177664
 unfolding merge
@@ -155,12 +158,17 @@ merged-small {s} {xs} {k} {t} {o} {a} {n} f w e =
     let x : o.sum ≤ 35184372088832 = (small f).sum in
     rw e (omega (arith, w.sum))
 
+-- a mark as a word
+from-bit : (b : Bool) → from_bool b ≡ bit b
+from-bit true = refl
+from-bit false = refl
+
 -- the words of a column, one by one
-pub column_put : {a b w x t m f v : ℕ} {on ex : Bool} (l lookups : List ℕ) (k : ℕ) (o : OpenColumn) → length l ≡ 9 → on ≡ on_bus lookups o.head → a ≡ bit on → b ≡ name_length lookups o.head
-    → w ≡ low_half o.weight → ex ≡ exclusive lookups o.head → x ≡ bit ex → t ≡ saturated o.tuples → m ≡ saturated o.multiplicities → f ≡ saturated o.flags
+pub column_put : {a b w x t m f v : ℕ} {on ex : Bool} (l lookups : List ℕ) (k : ℕ) (o : OpenColumn) → length l ≡ 9 → on ≡ on_bus lookups o.head → a ≡ from_bool on → b ≡ name_length lookups o.head
+    → w ≡ low_half o.weight → ex ≡ exclusive lookups o.head → x ≡ from_bool ex → t ≡ saturated o.tuples → m ≡ saturated o.multiplicities → f ≡ saturated o.flags
     → v ≡ high_half o.weight → set (set (set (set (set (set (set (set (set l 0 a) 1 b) 2 w) 3 k) 4 x) 5 t) 6 m) 7 f) 8 v ≡ column_words lookups k o
 unfolding column_words
 column_put {a} {b} {w} {x} {t} {m} {f} {v} {on} {ex} l lookups k o h e₀ ea eb ew e₁ ex' et em ef ev =
-    let pa = ea ∙ ap bit e₀ in
-    let px = ex' ∙ ap bit e₁ in
+    let pa = ea ∙ from-bit on ∙ ap bit e₀ in
+    let px = ex' ∙ from-bit ex ∙ ap bit e₁ in
     nine-set l a b w k x t m f v h ∙ (λ j. pa j ∷ eb j ∷ ew j ∷ k ∷ px j ∷ et j ∷ em j ∷ ef j ∷ ev j ∷ [])

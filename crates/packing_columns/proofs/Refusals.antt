@@ -1,4 +1,5 @@
 -- The refusals after 1 to 5.
+use Rattle.std.specs.Prelude.{Err, Ok}
 use mathlib.Core.Path.{◌≡◌, refl, sym, ap, ◌∙◌}
 use mathlib.Core.Bool.{Bool, true, false}
 use mathlib.Core.Option.{none, some}
@@ -11,8 +12,7 @@ use Rattle.lists.specs.Count.{total, first}
 use Rattle.expression.specs.Refusal.{refusal}
 use Rattle.expression.specs.declared.refusal.Refusal.{Refusal}
 use Rattle.expression.specs.declared.refusal.Refusal.TheVariants.{WeightTooLarge}
-use Rattle.expression.specs.declared.refusal.Verdict.{Verdict}
-use Rattle.expression.specs.declared.refusal.Verdict.TheVariants as verdict
+use Rattle.expression.specs.Refusal.{Verdict}
 use Rattle.lookup.specs.Lookups.{Lookups, bus_lookups, lookup_words, lookup_count}
 use Rattle.lookup.specs.Sizes.{size_start, table_part}
 use Rattle.lookup_buses.specs.Widths.{expected, lookup_refusal, table_refusal, widths_refusal}
@@ -51,14 +51,14 @@ module _ (lookups names tuples : List ℕ) (w : ListsExact lookups names tuples)
 
 -- the refusals after 1 to 5
 module _ (over : Bool) (lookups names tuples : List ℕ) {v : Verdict} (g : refusal v ≡ widths_refusal (single_table (bus_lookups lookups names tuples))) where
-  pub refuse_widths : {f : Refusal} → v ≡ verdict.Refused f → some f ≡ plan_refusal over lookups names tuples
+  pub refuse_widths : {f : Refusal} → v ≡ Err f → some f ≡ plan_refusal over lookups names tuples
   unfolding plan_refusal
   refuse_widths q = rw (sym g ∙ ap refusal q)
 
-  pub refuse_over : v ≡ verdict.Accepted → over ≡ true → some WeightTooLarge ≡ plan_refusal over lookups names tuples
+  pub refuse_over : v ≡ Ok tt → over ≡ true → some WeightTooLarge ≡ plan_refusal over lookups names tuples
   unfolding plan_refusal
   refuse_over q o = rw (sym g ∙ ap refusal q, o)
 
-  pub refuse_none : v ≡ verdict.Accepted → over ≡ false → none ≡ plan_refusal over lookups names tuples
+  pub refuse_none : v ≡ Ok tt → over ≡ false → none ≡ plan_refusal over lookups names tuples
   unfolding plan_refusal
   refuse_none q o = rw (sym g ∙ ap refusal q, o)

@@ -1,6 +1,5 @@
 // The columns of packing: greedily filled, one after the other.
 ghost use Rattle.std.specs.Prelude.{◌≡◌, [], ◌+◌, ◌<◌, ◌≤◌, length};
-ghost use Rattle.expression.specs.Values.{bit};
 ghost use Rattle.lookup.specs.Lookups.{Lookups, bus_lookups, lookup_words, lookup_count, weight};
 ghost use Rattle.lookup.specs.Tests.{weight_limit};
 ghost use Rattle.lookup.specs.Requires.{BusNames};
@@ -18,7 +17,6 @@ use lookup::types::{
 };
 use lookup_buses::order::order;
 use lookup_degree::lookups::{denominator_of, numerator_of};
-use lookup_degree::sums::largest;
 
 // A column: its first lookup, the degree of its denominators, the larger of that and its numerator's, its weight, and how many
 // tuples, multiplicities and flags it has. 64 bits hold the sums of any 64 lookups.
@@ -41,6 +39,7 @@ pub struct NextColumn {
 }
 
 // The order of the lookups, the first lookup of each column, the columns' words, their number, and whether a bus column's weight is over 2^32 - 1.
+// `over` is a mark and no refusal: refusal 6 goes before that of the weights, and is no matter of the plan.
 #[derive(Clone, Copy)]
 pub struct Plan {
     pub order: [u32; 64],
@@ -57,7 +56,7 @@ fn top_of(nodes: &[u32], degrees: &[u32], lookups: &[u32], multiplicities: &[u32
 {
     let sum = denominator_of(degrees, lookups, i);
     let top = numerator_of(nodes, degrees, lookups, multiplicities, i);
-    largest(sum, top)
+    sum.max(top)
 }
 
 // A column of lookup i alone.
@@ -75,8 +74,8 @@ fn opened(
     let top = top_of(nodes, degrees, lookups, multiplicities, i);
     OpenColumn {
         head: i,
-        sum: sum,
-        top: top,
+        sum,
+        top,
         weight: weight(lookups, i),
         tuples: to_u64(tuple_count(lookups, i)),
         multiplicities: to_u64(multiplicity_count(lookups, i)),
@@ -89,11 +88,10 @@ fn merge(a: OpenColumn, b: OpenColumn) -> OpenColumn
     requires { ColumnWithin 35184372088832 a × ColumnWithin 549755813888 b }
     ensures { result ≡ merge a b }
 {
-    let top = largest(a.top + b.sum, a.sum + b.top);
     OpenColumn {
         head: a.head,
         sum: a.sum + b.sum,
-        top: top,
+        top: (a.top + b.sum).max(a.sum + b.top),
         weight: a.weight + b.weight,
         tuples: a.tuples + b.tuples,
         multiplicities: a.multiplicities + b.multiplicities,
@@ -105,7 +103,7 @@ fn column_degree(column: OpenColumn) -> u64
     requires { column.sum ≤ 70368744177664 }
     ensures { result ≡ column_degree column }
 {
-    largest(1 + column.sum, column.top)
+    (1 + column.sum).max(column.top)
 }
 
 // Whether lookup i is on the bus of a column's first lookup, and the column that they make is within the limit.
@@ -139,31 +137,19 @@ fn next_column(
 {
     let first = to_usize(order[k]);
     let mut open = opened(nodes, degrees, lookups, multiplicities, first);
-    let mut end = k + 1;
-    while end < order.len() {
+    for end in k + 1..order.len() {
         let i = to_usize(order[end]);
         let alone = opened(nodes, degrees, lookups, multiplicities, i);
         let merged = merge(open, alone);
         if !fits(lookups, names, limit, open.head, i, merged) {
-            return NextColumn {
-                column: open,
-                end: end,
-            };
+            return NextColumn { column: open, end };
         }
         open = merged;
-        end += 1;
     }
     NextColumn {
         column: open,
-        end: end,
+        end: order.len(),
     }
-}
-
-// A mark as a word.
-fn mark(b: bool) -> u32
-    ensures { result ≡ bit b }
-{
-    if b { 1 } else { 0 }
 }
 
 // The words of a column, the k-th.
@@ -171,15 +157,11 @@ fn put_column(lookups: &[u32], k: u32, column: OpenColumn, out: &mut [u32])
     requires { (length out.old ≡ lookup_words) × (column.head < lookup_count lookups.now) }
     ensures { out.new ≡ column_words lookups.now k column }
 {
-    let head = column.head;
-    let scope = mark(on_bus(lookups, head));
-    let name = name_length(lookups, head);
-    let exclusive = mark(exclusive(lookups, head));
-    out[SCOPE_WORD] = scope;
-    out[NAME_LENGTH_WORD] = name;
+    out[SCOPE_WORD] = u32::from(on_bus(lookups, column.head));
+    out[NAME_LENGTH_WORD] = name_length(lookups, column.head);
     out[WEIGHT_WORD] = low_half(column.weight);
     out[COLUMN_WORD] = k;
-    out[EXCLUSIVE_WORD] = exclusive;
+    out[EXCLUSIVE_WORD] = u32::from(exclusive(lookups, column.head));
     out[TUPLE_COUNT_WORD] = saturate_u32(column.tuples);
     out[MULTIPLICITY_COUNT_WORD] = saturate_u32(column.multiplicities);
     out[FLAG_COUNT_WORD] = saturate_u32(column.flags);
@@ -221,15 +203,15 @@ pub fn make_plan(
         let at = LOOKUP_WORDS * columns;
         let end = at + LOOKUP_WORDS;
         put_column(lookups, columns as u32, column, &mut words[at..end]);
-        over = over | (on_bus(lookups, column.head) & (4294967295 < column.weight));
+        over |= on_bus(lookups, column.head) & (4294967295 < column.weight);
         columns += 1;
         k = next.end;
     }
     Plan {
-        order: order,
-        heads: heads,
-        words: words,
-        columns: columns,
-        over: over,
+        order,
+        heads,
+        words,
+        columns,
+        over,
     }
 }

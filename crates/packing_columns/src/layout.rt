@@ -8,9 +8,9 @@ ghost use Rattle.packing.specs.PackSameBus.{single_table, all_written};
 ghost use Rattle.packing_columns.specs.inner.Layout.{plan_words, plan_counts, counts_hold, plan_refusal, PlanNumbers, Layout, ListsExact, PackLists, pack_lists, OutputsHold};
 
 use crate::columns::{Plan, make_plan};
-use crate::lookup_lists::{LookupList, copy, list_total, write_list, write_names};
+use crate::lookup_lists::{LookupList, copy, list_total, write_list};
 use expression::node::NODE_WORDS;
-use expression::refusal::{Refusal, Verdict};
+use expression::refusal::Refusal;
 use expression::sizes::Limits;
 use expression_checks::degrees::fill_degrees;
 use lookup::types::LOOKUP_WORDS;
@@ -51,21 +51,23 @@ pub fn counts_of(plan: Plan, lookups: &[u32], tuples: &[u32]) -> Counts
     ensures { result ≡ plan_counts plan lookups.now tuples.now }
 {
     let n = lookups.len() / LOOKUP_WORDS;
-    let columns = plan.columns;
-    let order = plan.order;
-    let heads = plan.heads;
-    let name_bytes = list_total(LookupList::Names, lookups, tuples, &heads[0..columns]);
-    let tuple_words = list_total(LookupList::Tuples, lookups, tuples, &order[0..n]);
-    let multiplicity_words = list_total(LookupList::Multiplicities, lookups, tuples, &order[0..n]);
-    let flag_words = list_total(LookupList::Flags, lookups, tuples, &order[0..n]);
-    let element_words = list_total(LookupList::Elements, lookups, tuples, &order[0..n]);
     Counts {
-        lookups: LOOKUP_WORDS * columns,
-        names: name_bytes,
-        tuples: tuple_words,
-        multiplicities: multiplicity_words,
-        flags: flag_words,
-        elements: element_words,
+        lookups: LOOKUP_WORDS * plan.columns,
+        names: list_total(
+            LookupList::Names,
+            lookups,
+            tuples,
+            &plan.heads[0..plan.columns],
+        ),
+        tuples: list_total(LookupList::Tuples, lookups, tuples, &plan.order[0..n]),
+        multiplicities: list_total(
+            LookupList::Multiplicities,
+            lookups,
+            tuples,
+            &plan.order[0..n],
+        ),
+        flags: list_total(LookupList::Flags, lookups, tuples, &plan.order[0..n]),
+        elements: list_total(LookupList::Elements, lookups, tuples, &plan.order[0..n]),
     }
 }
 
@@ -82,7 +84,7 @@ pub fn counts_hold(own: Counts, lent: Counts) -> bool
 }
 
 // Refusal 6 of one table.
-fn table_widths(lookups: &[u32], names: &[u8], tuples: &[u32]) -> Verdict
+fn table_widths(lookups: &[u32], names: &[u8], tuples: &[u32]) -> Result<(), Refusal>
     requires { let l : Lookups = bus_lookups lookups.now names.now tuples.now in ListsExact l.lookups l.names l.tuples }
     ensures { let l : Lookups = bus_lookups lookups.now names.now tuples.now in refusal result ≡ widths_refusal (single_table l) }
 {
@@ -95,20 +97,20 @@ fn table_widths(lookups: &[u32], names: &[u8], tuples: &[u32]) -> Verdict
 }
 
 // The refusals after 1 to 5: 6 and 7.
-pub fn plan_refusal(over: bool, lookups: &[u32], names: &[u8], tuples: &[u32]) -> Verdict
+pub fn plan_refusal(
+    over: bool,
+    lookups: &[u32],
+    names: &[u8],
+    tuples: &[u32],
+) -> Result<(), Refusal>
     requires { let l : Lookups = bus_lookups lookups.now names.now tuples.now in ListsExact l.lookups l.names l.tuples }
     ensures { let l : Lookups = bus_lookups lookups.now names.now tuples.now in refusal result ≡ plan_refusal over l.lookups l.names l.tuples }
 {
-    let verdict = table_widths(lookups, names, tuples);
-    match verdict {
-        Verdict::Refused(f) => Verdict::Refused(f),
-        Verdict::Accepted => {
-            if over {
-                Verdict::Refused(Refusal::WeightTooLarge)
-            } else {
-                Verdict::Accepted
-            }
-        }
+    table_widths(lookups, names, tuples)?;
+    if over {
+        Err(Refusal::WeightTooLarge)
+    } else {
+        Ok(())
     }
 }
 
@@ -135,18 +137,20 @@ pub fn write_all(
         ≡ all_written (plan_words plan s.own) s.lent }
 {
     let n = lookups.len() / LOOKUP_WORDS;
-    let columns = plan.columns;
-    let used = LOOKUP_WORDS * columns;
-    let order = plan.order;
-    let heads = plan.heads;
-    let words = plan.words;
-    copy(&words[0..used], lookups_out);
-    write_names(lookups, &heads[0..columns], names, names_out);
+    copy(&plan.words[0..LOOKUP_WORDS * plan.columns], lookups_out);
+    write_list(
+        LookupList::Names,
+        lookups,
+        &[],
+        &plan.heads[0..plan.columns],
+        names,
+        names_out,
+    );
     write_list(
         LookupList::Tuples,
         lookups,
         tuples,
-        &order[0..n],
+        &plan.order[0..n],
         tuples,
         tuples_out,
     );
@@ -154,7 +158,7 @@ pub fn write_all(
         LookupList::Multiplicities,
         lookups,
         tuples,
-        &order[0..n],
+        &plan.order[0..n],
         multiplicities,
         multiplicities_out,
     );
@@ -162,7 +166,7 @@ pub fn write_all(
         LookupList::Flags,
         lookups,
         tuples,
-        &order[0..n],
+        &plan.order[0..n],
         flags,
         flags_out,
     );
@@ -170,7 +174,7 @@ pub fn write_all(
         LookupList::Elements,
         lookups,
         tuples,
-        &order[0..n],
+        &plan.order[0..n],
         elements,
         elements_out,
     );

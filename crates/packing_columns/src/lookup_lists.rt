@@ -1,17 +1,16 @@
 // The parts of a table's lists that belong to its lookups, copied in another order.
-ghost use Rattle.std.specs.Prelude.{◌≡◌, List, [], ℕ, ◌≤◌, length};
+ghost use Rattle.std.specs.Prelude.{◌≡◌, List, ℕ, ◌≤◌, length};
 ghost use Rattle.lists.specs.Count.{total};
 ghost use Rattle.expression.specs.Words.{word};
 ghost use Rattle.lookup.specs.Lookups.{lookup_count};
 ghost use Rattle.packing.specs.Written.{written};
 ghost use Rattle.packing_columns.specs.inner.LookupLists.{list_start, list_length, list_parts};
-ghost use Rattle.packing_columns.specs.declared.lookup_lists.LookupList.TheVariants.{Names};
 ghost use Rattle.packing_columns.specs.inner.LookupListsRequires.{LookupNumbers, FewTuples};
 
 use expression::words::to_usize;
 use lookup::starts::{element_start, flag_start, multiplicity_start, name_start, tuple_start};
 
-// Which of the lists of a table: each lookup has a part of it.
+// Which of the lists of a table: each lookup has a part of it. Plain data and no closure, since the definitions tell the lists apart by it.
 #[derive(Clone, Copy)]
 pub enum LookupList {
     Names,
@@ -41,83 +40,43 @@ pub fn list_total(list: LookupList, lookups: &[u32], tuples: &[u32], order: &[u3
     ensures { let is : List ℕ = order.now in result ≡ total (λ t. list_length list lookups.now tuples.now (word is t)) (length is) }
 {
     let mut sum: usize = 0;
-    let mut t = 0;
-    while t < order.len() {
+    for t in 0..order.len() {
         let i = to_usize(order[t]);
         let start = list_start(list, lookups, tuples, i);
         let next = list_start(list, lookups, tuples, i + 1);
-        sum = sum + (next - start);
-        t += 1;
+        sum += next - start;
     }
     sum
 }
 
-// The words of src at the front of out.
-pub fn copy(src: &[u32], out: &mut [u32])
+// The elements of src at the front of out.
+pub fn copy<T: Copy>(src: &[T], out: &mut [T])
     requires { length src.now ≤ length out.old }
     ensures { out.new ≡ written src.now out.old }
 {
-    let mut i = 0;
-    while i < src.len() {
-        out[i] = src[i];
-        i += 1;
-    }
-}
-
-// The same of bytes: a second function, since there is none over the type of the elements. So is `write_names` below.
-pub fn copy_bytes(src: &[u8], out: &mut [u8])
-    requires { length src.now ≤ length out.old }
-    ensures { out.new ≡ written src.now out.old }
-{
-    let mut i = 0;
-    while i < src.len() {
-        out[i] = src[i];
-        i += 1;
-    }
+    out[..src.len()].copy_from_slice(src);
 }
 
 // The parts of that list, src, of these lookups, one after the other, at the front of out.
-pub fn write_list(
+pub fn write_list<T: Copy>(
     list: LookupList,
     lookups: &[u32],
     tuples: &[u32],
     order: &[u32],
-    src: &[u32],
-    out: &mut [u32],
+    src: &[T],
+    out: &mut [T],
 )
-    requires { let words : List ℕ = list_parts list lookups.now tuples.now src.now order.now in FewTuples lookups.now × LookupNumbers (lookup_count lookups.now) order.now
-        × (list_start list lookups.now tuples.now (lookup_count lookups.now) ≤ length src.now) × (length words ≤ length out.old) }
-    ensures { let words : List ℕ = list_parts list lookups.now tuples.now src.now order.now in out.new ≡ written words out.old }
+    requires { let is : List ℕ = order.now in FewTuples lookups.now × LookupNumbers (lookup_count lookups.now) is
+        × (list_start list lookups.now tuples.now (lookup_count lookups.now) ≤ length src.now) × (length (list_parts list lookups.now tuples.now src.now is) ≤ length out.old) }
+    ensures { out.new ≡ written (list_parts list lookups.now tuples.now src.now order.now) out.old }
 {
     let mut end: usize = 0;
-    let mut t = 0;
-    while t < order.len() {
+    for t in 0..order.len() {
         let i = to_usize(order[t]);
         let start = list_start(list, lookups, tuples, i);
         let next = list_start(list, lookups, tuples, i + 1);
         let new_end = end + (next - start);
         copy(&src[start..next], &mut out[end..new_end]);
         end = new_end;
-        t += 1;
-    }
-}
-
-// The names of these lookups, likewise.
-pub fn write_names(lookups: &[u32], order: &[u32], src: &[u8], out: &mut [u8])
-    requires { let words : List ℕ = list_parts Names lookups.now [] src.now order.now in FewTuples lookups.now × LookupNumbers (lookup_count lookups.now) order.now
-        × (list_start Names lookups.now [] (lookup_count lookups.now) ≤ length src.now) × (length words ≤ length out.old) }
-    ensures { let words : List ℕ = list_parts Names lookups.now [] src.now order.now in out.new ≡ written words out.old }
-{
-    let none = [0u32; 0];
-    let mut end: usize = 0;
-    let mut t = 0;
-    while t < order.len() {
-        let i = to_usize(order[t]);
-        let start = list_start(LookupList::Names, lookups, &none, i);
-        let next = list_start(LookupList::Names, lookups, &none, i + 1);
-        let new_end = end + (next - start);
-        copy_bytes(&src[start..next], &mut out[end..new_end]);
-        end = new_end;
-        t += 1;
     }
 }

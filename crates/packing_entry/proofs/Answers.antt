@@ -1,4 +1,5 @@
 -- The answers.
+use Rattle.std.specs.Prelude.{Err, Ok, Result}
 use mathlib.Core.Path.{◌≡◌, refl, sym, ap, ap₂, ◌∙◌}
 use mathlib.Core.Bool.{Bool, true, false, not}
 use mathlib.Core.Option.{Option, none}
@@ -14,8 +15,7 @@ use Rattle.field.specs.Known.{prime_of}
 use Rattle.expression.specs.Refusal.{refusal, unless}
 use Rattle.expression.specs.declared.refusal.Refusal.{Refusal}
 use Rattle.expression.specs.declared.refusal.Refusal.TheVariants.{SizeAtOdds, WeightTooLarge}
-use Rattle.expression.specs.declared.refusal.Verdict.{Verdict}
-use Rattle.expression.specs.declared.refusal.Verdict.TheVariants as verdict
+use Rattle.expression.specs.Refusal.{Verdict}
 use Rattle.expression.specs.declared.sizes.Limits.{Limits}
 use Rattle.expression.specs.Limits.{Sane}
 use Rattle.expression.specs.Choices.{known, limits_of}
@@ -37,8 +37,6 @@ use Rattle.packing.specs.PackSameBus.{single_table, holds, columns, packing_refu
 use Rattle.packing.proofs.laws.Lengths.{NoLonger, packed_no_longer}
 use Rattle.packing_columns.specs.inner.Layout.{plan_words, plan_counts, counts_hold, plan_refusal, formed_refusal, formed_outcome, Layout, ListsExact, OutputsHold}
 use Rattle.packing.specs.declared.answer.Counts.{Counts}
-use Rattle.packing.specs.declared.answer.PackingAnswer.{PackingAnswer}
-use Rattle.packing.specs.declared.answer.PackingAnswer.TheVariants.{Packed, Refused}
 
 -- no other lists count for the widths
 same-widths : (l : Lookups) → widths_refusal (single_table (bus_lookups l.lookups l.names l.tuples)) ≡ widths_refusal (single_table l)
@@ -94,31 +92,31 @@ module _ (limit : ℕ) (nodes : List ℕ) (l lent : Lookups) {r : Plan} (y : Lay
 
   -- the outcome: packed, or refused
   pub packed_is : {c : Counts} {out : Lookups} → c ≡ plan_counts r l.lookups l.tuples → formed_refusal limit nodes l ≡ none → out ≡ all_written (plan_words r l) lent
-      → (Packed c ≡ (formed_outcome limit nodes l lent).answer) × (out ≡ (formed_outcome limit nodes l lent).lists)
+      → (Ok c ≡ (formed_outcome limit nodes l lent).answer) × (out ≡ (formed_outcome limit nodes l lent).lists)
   unfolding formed_outcome
   packed_is {c} {out} e g o =
-      rw g (ap Packed (e ∙ sym y.counted), o ∙ ap (λ (x : Lookups). all_written x lent) (sym y.words))
+      rw g (ap Ok (e ∙ sym y.counted), o ∙ ap (λ (x : Lookups). all_written x lent) (sym y.words))
 
-  pub refused_is : {f : Refusal} (v : Verdict) → refusal v ≡ formed_refusal limit nodes l → v ≡ verdict.Refused f
-      → (Refused f ≡ (formed_outcome limit nodes l lent).answer) × (lent ≡ (formed_outcome limit nodes l lent).lists)
+  pub refused_is : {f : Refusal} (v : Verdict) → refusal v ≡ formed_refusal limit nodes l → v ≡ Err f
+      → (Err f ≡ (formed_outcome limit nodes l lent).answer) × (lent ≡ (formed_outcome limit nodes l lent).lists)
   unfolding formed_outcome
   refused_is {f} v g q = rw (sym g ∙ ap refusal q) (refl, refl)
 
-  pub accepted_is : (v : Verdict) → refusal v ≡ formed_refusal limit nodes l → v ≡ verdict.Accepted → formed_refusal limit nodes l ≡ none
+  pub accepted_is : (v : Verdict) → refusal v ≡ formed_refusal limit nodes l → v ≡ Ok tt → formed_refusal limit nodes l ≡ none
   accepted_is v g q = sym g ∙ ap refusal q
 
 -- the answer within limits
 module _ (m : Limits) (p limit : ℕ) (c : Columns) (nodes : List ℕ) (l lent : Lookups) {b : Bool} (e : b ≡ counts_hold (counts l) (counts lent)) where
-  pub answer-small : b ≡ false → (Refused SizeAtOdds ≡ (packing m p limit c nodes l lent).answer) × (lent ≡ (packing m p limit c nodes l lent).lists)
+  pub answer-small : b ≡ false → (Err SizeAtOdds ≡ (packing m p limit c nodes l lent).answer) × (lent ≡ (packing m p limit c nodes l lent).lists)
   unfolding packing packing_refusal
   answer-small z = rw (sym (same-hold l lent) ∙ sym e ∙ z) (refl, refl)
 
-  pub answer-refused : {v : Verdict} {f : Refusal} → b ≡ true → refusal v ≡ form_refusal m p c nodes l → v ≡ verdict.Refused f
-      → (Refused f ≡ (packing m p limit c nodes l lent).answer) × (lent ≡ (packing m p limit c nodes l lent).lists)
+  pub answer-refused : {v : Verdict} {f : Refusal} → b ≡ true → refusal v ≡ form_refusal m p c nodes l → v ≡ Err f
+      → (Err f ≡ (packing m p limit c nodes l lent).answer) × (lent ≡ (packing m p limit c nodes l lent).lists)
   unfolding packing packing_refusal
   answer-refused z g q = rw (held l lent e z, sym g ∙ ap refusal q) (refl, refl)
 
-  pub answer_formed : {v : Verdict} {a : PackingAnswer} {out : Lookups} → b ≡ true → refusal v ≡ form_refusal m p c nodes l → v ≡ verdict.Accepted
+  pub answer_formed : {v : Verdict} {a : Result Counts Refusal} {out : Lookups} → b ≡ true → refusal v ≡ form_refusal m p c nodes l → v ≡ Ok tt
       → (a ≡ (formed_outcome limit nodes l lent).answer) × (out ≡ (formed_outcome limit nodes l lent).lists)
       → (a ≡ (packing m p limit c nodes l lent).answer) × (out ≡ (packing m p limit c nodes l lent).lists)
   unfolding packing packing_refusal formed_outcome formed_refusal
@@ -148,11 +146,11 @@ whole m p c nodes l g f e =
 
 -- `pack_same_bus`
 module _ (c : Choices) (limit : ℕ) (columns : Columns) (nodes : List ℕ) (l lent : Lookups) {b : Bool} (e : b ≡ known c) where
-  pub choice_unknown : b ≡ false → ◌≡◌ {A = Outcome} (record { answer = Refused SizeAtOdds; lists = lent }) (packing_at c limit columns nodes l lent)
+  pub choice_unknown : b ≡ false → ◌≡◌ {A = Outcome} (record { answer = Err SizeAtOdds; lists = lent }) (packing_at c limit columns nodes l lent)
   unfolding packing_at
   choice_unknown z = rw (sym e ∙ z) refl
 
-  pub choices_known : {m : Limits} {p : ℕ} {a : PackingAnswer} {out : Lookups} → b ≡ true → m ≡ limits_of c.profile → p ≡ prime_of c.field
+  pub choices_known : {m : Limits} {p : ℕ} {a : Result Counts Refusal} {out : Lookups} → b ≡ true → m ≡ limits_of c.profile → p ≡ prime_of c.field
       → (a ≡ (packing m p limit columns nodes l lent).answer) × (out ≡ (packing m p limit columns nodes l lent).lists)
       → ◌≡◌ {A = Outcome} (record { answer = a; lists = out }) (packing_at c limit columns nodes l lent)
   unfolding packing_at

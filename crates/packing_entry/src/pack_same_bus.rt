@@ -7,11 +7,11 @@ ghost use Rattle.packing.specs.PackSameBus.{holds, packing, packing_at, in_numbe
 ghost use Rattle.packing_columns.specs.inner.Layout.{formed_outcome, ListsExact, PackSource, pack_source};
 
 use expression::choices::{Choices, known, limits_of};
-use expression::refusal::{Refusal, Verdict};
+use expression::refusal::Refusal;
 use expression::sizes::Limits;
 use field::modulus::prime_of;
 use lookup::refusals::{Columns, form_refusal};
-use packing::answer::{Counts, PackingAnswer};
+use packing::answer::Counts;
 use packing_columns::layout::{counts_hold, counts_of, plan_of, plan_refusal, write_all};
 
 // Packing of a table that has none of refusals 1 to 5, into lists that hold it. Nothing is written before the last refusal is known.
@@ -31,7 +31,7 @@ fn pack_formed(
     multiplicities_out: &mut [u32],
     flags_out: &mut [u32],
     elements_out: &mut [u32],
-) -> PackingAnswer
+) -> Result<Counts, Refusal>
     requires { let s : PackSource = pack_source nodes.now (lent_lookups lookups.now names.now tuples.now multiplicities.now flags.now elements.now)
         (lent_lookups lookups_out.old names_out.old tuples_out.old multiplicities_out.old flags_out.old elements_out.old) in Formed limits s.nodes s.own × ListsExact s.own.lookups s.own.names s.own.tuples × (holds s.lent s.own ≡ true) }
     ensures { let s : PackSource = pack_source nodes.now (lent_lookups lookups.now names.now tuples.now multiplicities.now flags.now elements.now)
@@ -51,28 +51,23 @@ fn pack_formed(
         elements,
     );
     let counts = counts_of(plan, lookups, tuples);
-    let verdict = plan_refusal(plan.over, lookups, names, tuples);
-    match verdict {
-        Verdict::Refused(f) => PackingAnswer::Refused(f),
-        Verdict::Accepted => {
-            write_all(
-                plan,
-                lookups,
-                names,
-                tuples,
-                multiplicities,
-                flags,
-                elements,
-                lookups_out,
-                names_out,
-                tuples_out,
-                multiplicities_out,
-                flags_out,
-                elements_out,
-            );
-            PackingAnswer::Packed(counts)
-        }
-    }
+    plan_refusal(plan.over, lookups, names, tuples)?;
+    write_all(
+        plan,
+        lookups,
+        names,
+        tuples,
+        multiplicities,
+        flags,
+        elements,
+        lookups_out,
+        names_out,
+        tuples_out,
+        multiplicities_out,
+        flags_out,
+        elements_out,
+    );
+    Ok(counts)
 }
 
 // The answer within these limits, for words below p.
@@ -94,7 +89,7 @@ pub fn pack_within(
     multiplicities_out: &mut [u32],
     flags_out: &mut [u32],
     elements_out: &mut [u32],
-) -> PackingAnswer
+) -> Result<Counts, Refusal>
     requires { Sane limits }
     ensures { let s : PackSource = pack_source nodes.now (lent_lookups lookups.now names.now tuples.now multiplicities.now flags.now elements.now)
         (lent_lookups lookups_out.old names_out.old tuples_out.old multiplicities_out.old flags_out.old elements_out.old) in (result ≡ (packing limits p limit columns s.nodes s.own s.lent).answer)
@@ -118,9 +113,9 @@ pub fn pack_within(
         elements: elements_out.len(),
     };
     if !counts_hold(own, lent) {
-        return PackingAnswer::Refused(Refusal::SizeAtOdds);
+        return Err(Refusal::SizeAtOdds);
     }
-    let verdict = form_refusal(
+    form_refusal(
         limits,
         p,
         columns,
@@ -131,27 +126,24 @@ pub fn pack_within(
         multiplicities,
         flags,
         elements,
-    );
-    match verdict {
-        Verdict::Refused(f) => PackingAnswer::Refused(f),
-        Verdict::Accepted => pack_formed(
-            limits,
-            limit,
-            nodes,
-            lookups,
-            names,
-            tuples,
-            multiplicities,
-            flags,
-            elements,
-            lookups_out,
-            names_out,
-            tuples_out,
-            multiplicities_out,
-            flags_out,
-            elements_out,
-        ),
-    }
+    )?;
+    pack_formed(
+        limits,
+        limit,
+        nodes,
+        lookups,
+        names,
+        tuples,
+        multiplicities,
+        flags,
+        elements,
+        lookups_out,
+        names_out,
+        tuples_out,
+        multiplicities_out,
+        flags_out,
+        elements_out,
+    )
 }
 
 // Lookups of one bus share columns of at most this degree (`pack_same_bus`), at the choices of the call.
@@ -172,7 +164,7 @@ pub fn pack_same_bus(
     multiplicities_out: &mut [u32],
     flags_out: &mut [u32],
     elements_out: &mut [u32],
-) -> PackingAnswer
+) -> Result<Counts, Refusal>
     ensures { in_numbers (record {
       answer = result;
       lists = lent_lookups lookups_out.new names_out.new tuples_out.new
@@ -185,7 +177,7 @@ pub fn pack_same_bus(
         flags_out.old elements_out.old)) }
 {
     if !known(choices) {
-        return PackingAnswer::Refused(Refusal::SizeAtOdds);
+        return Err(Refusal::SizeAtOdds);
     }
     pack_within(
         limits_of(choices.profile),

@@ -26,10 +26,8 @@ fn put(out: &mut [u32], at: usize, w: u32) {
 
 // The nodes of a case into a lent list; what finds no room there is left out.
 fn lend(nodes: &[u32], out: &mut [u32]) {
-    let mut i = 0;
-    while i < nodes.len() {
+    for i in 0..nodes.len() {
         put(out, i, nodes[i]);
-        i += 1;
     }
 }
 

@@ -225,12 +225,10 @@ pub fn same_words(x: &[u32], y: &[u32]) -> bool {
     if x.len() != y.len() {
         return false;
     }
-    let mut i = 0;
-    while i < x.len() {
+    for i in 0..x.len() {
         if x[i] != y[i] {
             return false;
         }
-        i += 1;
     }
     true
 }

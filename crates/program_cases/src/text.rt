@@ -92,10 +92,8 @@ fn appended(n: u64, d: u64) -> u64
 // The number that digits write.
 pub fn number(digits: &[u8]) -> u64 {
     let mut n: u64 = 0;
-    let mut i = 0;
-    while i < digits.len() {
+    for i in 0..digits.len() {
         n = appended(n, digit(digits[i]));
-        i += 1;
     }
     n
 }

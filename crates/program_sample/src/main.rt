@@ -7,40 +7,34 @@ use expression::numbers;
 use expression::sizes::Shape;
 use field::extension::Ext;
 use field::modulus::BABYBEAR_NUMBER;
-use logup::logup::Generated;
 use logup_generation::generate_permutation;
 
 // Words, separated by commas.
 fn print_words(words: &[u32]) {
-    let mut i = 0;
-    while i < words.len() {
+    for (i, &word) in words.iter().enumerate() {
         if 0 < i {
             io::write_all(1, b",");
         }
-        print_word(words[i]);
-        i += 1;
+        print_word(word);
     }
 }
 
 fn print_word(n: u32) {
-    io::print_decimal(1, n as u64);
+    io::print_decimal(1, u64::from(n));
 }
 
 fn print_terminal(e: Ext) {
-    let words = [e.c0, e.c1, e.c2, e.c3];
     io::write_all(1, b"terminal=");
-    print_words(&words);
+    print_words(&[e.c0, e.c1, e.c2, e.c3]);
     io::write_all(1, b"\n");
 }
 
 // A line for each row of a trace of one lookup.
 fn print_trace(trace: &[u32], height: usize) {
-    let mut r: usize = 0;
-    while r < height {
+    for r in 0..height {
         io::write_all(1, b"trace=");
         print_words(generate_permutation::row(trace, 1, height, r as u64));
         io::write_all(1, b"\n");
-        r += 1;
     }
 }
 
@@ -86,14 +80,14 @@ fn main() {
         &mut trace,
     );
     match answer {
-        Generated::Terminal(t) => {
+        Ok(Some(t)) => {
             print_trace(&trace, 1);
             print_terminal(t.0);
         }
-        Generated::Absent => {
+        Ok(None) => {
             io::write_all(1, b"terminal=none\n");
         }
-        Generated::Refused(f) => {
+        Err(f) => {
             io::write_all(1, b"refusal=");
             print_word(numbers::number(f));
             io::write_all(1, b"\n");

@@ -1,5 +1,5 @@
 -- The packed table, and that it is what packing writes.
-use Rattle.std.specs.Prelude.{◌≡◌, false, List, ℕ, T}
+use Rattle.std.specs.Prelude.{◌≡◌, false, List, ℕ, T, Ok}
 use Rattle.std.proofs.Math.Option.{none}
 use Rattle.field.specs.Known.{prime_of}
 use Rattle.expression.specs.Choices.{known, limits_of}
@@ -11,7 +11,6 @@ use Rattle.lookup.specs.declared.refusals.Columns.{Columns}
 use Rattle.packing.specs.Packing.{overweight}
 use Rattle.packing.specs.Written.{words_of}
 use Rattle.packing.specs.PackSameBus.{columns, packing_refusal, Outcome, counts, all_written, packing_at}
-use Rattle.packing.specs.declared.answer.PackingAnswer.TheVariants.{Packed}
 
 -- the table with its lookups packed; its traces and its nodes are as they were
 abbrev pub packed_table : ℕ → Table → Table
@@ -26,7 +25,7 @@ abbrev pub WritesPacked : Limits → ℕ → (ℕ → Columns → List ℕ → L
 WritesPacked m p packing =
     (limit : ℕ) (c : Columns) (t : Table) (lent : Lookups) → packing_refusal m p limit c t.nodes t.lookups lent ≡ none
     → packing limit c t.nodes t.lookups lent
-    ≡ record { answer = Packed (counts (packed_table limit t).lookups); lists = all_written (packed_table limit t).lookups lent }
+    ≡ record { answer = Ok (counts (packed_table limit t).lookups); lists = all_written (packed_table limit t).lookups lent }
 
 -- at every known field and profile
 abbrev pub KnownWritesPacked : Type 0

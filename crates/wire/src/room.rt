@@ -5,41 +5,38 @@ ghost use Rattle.wire.specs.inner.Place.{placed, word_count, less, all_less, fil
 
 use crate::words::decode;
 
-// What is left of a room after some lists: whether they fit so far, and how many words. Sizes alone, so that nothing is lent for the test.
-#[derive(Clone, Copy)]
-pub struct Left {
-    pub fits: bool,
-    pub words: usize,
-}
-
-// After a list of so many bytes.
-pub fn less(left: Left, bytes: usize) -> Left
+// How many words are left of a room of `left` words after a list of so many bytes: none if it does not fit. Sizes alone, so that nothing is lent for
+// the test.
+pub fn less(left: Option<usize>, bytes: usize) -> Option<usize>
     ensures { result ≡ less left bytes }
 {
-    if left.fits & (bytes % 4 == 0) & (bytes / 4 <= left.words) {
-        return Left {
-            fits: true,
-            words: left.words - bytes / 4,
-        };
-    }
-    Left {
-        fits: false,
-        words: 0,
+    let words = left?;
+    if (bytes % 4 == 0) & (bytes / 4 <= words) {
+        Some(words - bytes / 4)
+    } else {
+        None
     }
 }
 
 // After five lists.
-pub fn less_five(left: Left, a: usize, b: usize, c: usize, d: usize, e: usize) -> Left
+pub fn less_five(
+    left: Option<usize>,
+    a: usize,
+    b: usize,
+    c: usize,
+    d: usize,
+    e: usize,
+) -> Option<usize>
     ensures { result ≡ all_less left (a ∷ b ∷ c ∷ d ∷ e ∷ []) }
 {
     less(less(less(less(less(left, a), b), c), d), e)
 }
 
 // The lists fit, and no word of the room is left over.
-pub fn filled(left: Left) -> bool
+pub fn filled(left: Option<usize>) -> bool
     ensures { result ≡ filled left }
 {
-    left.fits & (left.words == 0)
+    left == Some(0)
 }
 
 // The words of the bytes, into the room from a place on. The place after them is returned.
@@ -52,7 +49,7 @@ pub fn fill(bytes: &[u8], room: &mut [u32], at: usize) -> usize
     end
 }
 
-// Where each of five lists ends.
+// Where each of five lists ends. Five by name and no array, since each list has its own place in the doors on bytes: an index would say less.
 #[derive(Clone, Copy)]
 pub struct Ends {
     pub first: usize,

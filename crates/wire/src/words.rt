@@ -1,13 +1,6 @@
 // Words of four bytes, the least byte first.
 ghost use Rattle.std.specs.Prelude.{◌≡◌, ◌++◌, ◌+◌, ◌*◌, ◌/◌, ◌≤◌, length, drop};
-ghost use Rattle.wire.specs.Wire.{word_of, word_at, words_of, word_bytes, bytes_of};
-
-// The word of four bytes.
-fn word_of(a: u8, b: u8, c: u8, d: u8) -> u32
-    ensures { result ≡ word_of a b c d }
-{
-    (a as u32) + 256 * (b as u32) + 65536 * (c as u32) + 16777216 * (d as u32)
-}
+ghost use Rattle.wire.specs.Wire.{word_at, words_of, word_bytes, bytes_of};
 
 // Word i of some bytes.
 fn word_at(bytes: &[u8], i: usize) -> u32
@@ -15,7 +8,7 @@ fn word_at(bytes: &[u8], i: usize) -> u32
     ensures { result ≡ word_at bytes.now i }
 {
     let at = 4 * i;
-    word_of(bytes[at], bytes[at + 1], bytes[at + 2], bytes[at + 3])
+    u32::from_le_bytes([bytes[at], bytes[at + 1], bytes[at + 2], bytes[at + 3]])
 }
 
 // The words of some bytes, into the front of a lent list. Bytes past the last whole word are left out.
@@ -24,11 +17,8 @@ pub fn decode(bytes: &[u8], out: &mut [u32])
     ensures { out.new ≡ words_of bytes.now ++ drop (length bytes.now / 4) out.old }
 {
     let n = bytes.len() / 4;
-    let mut i = 0;
-    while i < n {
-        let w = word_at(bytes, i);
-        out[i] = w;
-        i += 1;
+    for i in 0..n {
+        out[i] = word_at(bytes, i);
     }
 }
 
@@ -37,10 +27,7 @@ fn put(x: u32, out: &mut [u8])
     requires { length out.old ≡ 4 }
     ensures { out.new ≡ word_bytes x }
 {
-    out[0] = (x % 256) as u8;
-    out[1] = (x / 256 % 256) as u8;
-    out[2] = (x / 65536 % 256) as u8;
-    out[3] = (x / 16777216 % 256) as u8;
+    out.copy_from_slice(&x.to_le_bytes());
 }
 
 // The bytes of some words, into the front of a lent list.
@@ -49,11 +36,9 @@ pub fn encode(words: &[u32], out: &mut [u8])
     ensures { out.new ≡ bytes_of words.now ++ drop (4 * length words.now) out.old }
 {
     let n = words.len();
-    let mut i = 0;
-    while i < n {
+    for i in 0..n {
         let at = 4 * i;
         let end = at + 4;
         put(words[i], &mut out[at..end]);
-        i += 1;
     }
 }

@@ -1,4 +1,5 @@
 -- What a group leaves in a workspace of zeros is what the definition says of it.
+use Rattle.std.specs.Prelude as Std
 use Rattle.std.proofs.Math.Path.{◌≡◌, refl, ap}
 use Rattle.std.proofs.Common.{sym, ◌∙◌, subst, inl, inr, arith}
 use Rattle.std.specs.Prelude.{Bool, true, false, cond, ◌⊎◌, get_or, drop, replicate}
@@ -15,14 +16,13 @@ use Rattle.lists.specs.laws.Count.{joined-member}
 use Rattle.expression.specs.Words.{word}
 use Rattle.expression.specs.Refusal.{refusal}
 use Rattle.expression.specs.declared.refusal.Refusal.{Refusal}
-use Rattle.expression.specs.declared.refusal.Verdict.{Verdict}
+use Rattle.expression.specs.Refusal.{Verdict}
 use Rattle.lookup.specs.Lookups.{lookup_count, tuple_count, tuple_start, element_start, tuple_width, tuple_nodes, lookup_at}
 use Rattle.lookup.specs.Table.{values_of}
 use Rattle.logup.specs.Ledger.{Entry}
 use Rattle.balance_slots.specs.Slots.{slots}
 use Rattle.balance_slots.specs.Workspace.{workspace_of, slot_words}
-use Rattle.balance_slots.specs.inner.Work.{Work, work, step, work_of, work_refusal}
-use Rattle.balance_slots.specs.declared.slot.SlotUse.{SlotUse}
+use Rattle.balance_slots.specs.inner.Work.{Work, in_use, work, step, work_of, work_refusal}
 use Rattle.balance_slots.proofs.laws.Add.{Narrow, made, work-slots, slots-fit}
 use Rattle.balance_slots.proofs.laws.GroupRefusal.{work_refusal_is, widths_in_use}
 use Rattle.balance_slots.proofs.laws.Room.{Roomy, fold_roomy}
@@ -90,13 +90,13 @@ module _ (p : ℕ) (l : TableLists) (w : TablesTested p l) where
     E = entries p (group_at l m)
 
     -- the workspace was cleared, and the group added
-    pub record Entered (workspace : List ℕ) (u : SlotUse) : Type 0 where
+    pub record Entered (workspace : List ℕ) (u : Std.Option ℕ) : Type 0 where
       pub is : work workspace u ≡ work_of room (slots p E)
-      pub room_in : slot_words * u.used ≤ length workspace
+      pub room_in : slot_words * in_use u ≤ length workspace
       pub long : length workspace ≡ room
-      pub widths : (j : ℕ) → j < u.used → word workspace (slot_words * j) ≤ 8
+      pub widths : (j : ℕ) → j < in_use u → word workspace (slot_words * j) ≤ 8
 
-    pub entered : {zs workspace : List ℕ} {u : SlotUse} → zs ≡ replicate room 0 → work workspace u ≡ fold (step p) (made zs 0 false) E → Entered workspace u
+    pub entered : {zs workspace : List ℕ} {u : Std.Option ℕ} → zs ≡ replicate room 0 → work workspace u ≡ fold (step p) (made zs 0 false) E → Entered workspace u
     entered {zs} {workspace} {u} ez e =
         let q : work workspace u ≡ fold (step p) (made (replicate room 0) 0 false) E = e ∙ ap (λ (z : List ℕ). fold (step p) (made z 0 false) E) ez in
         let g : Roomy room (work workspace u) = rw q (fold_roomy room p E (made (replicate room 0) 0 false) (record { long = length-replicate room 0; room = omega arith })) in
@@ -113,7 +113,7 @@ module _ (p : ℕ) (l : TableLists) (w : TablesTested p l) where
     words_left = refl
 
     -- what the visit leaves
-    pub left : {workspace : List ℕ} {u : SlotUse} {n : ℕ} (v : Verdict) (g : ℕ) → Entered workspace u → refusal v ≡ work_refusal g (work workspace u) → n ≡ g + 1
+    pub left : {workspace : List ℕ} {u : Std.Option ℕ} {n : ℕ} (v : Verdict) (g : ℕ) → Entered workspace u → refusal v ≡ work_refusal g (work workspace u) → n ≡ g + 1
         → (record { refusal = refusal v; workspace = workspace; group = n } ≡ group_visited p room g (group_at l m)) × (n ≡ g + 1)
     unfolding group_visited
     left {workspace} {u} {n} v g r e en = (

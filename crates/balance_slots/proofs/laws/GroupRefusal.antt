@@ -1,5 +1,6 @@
 -- The slot that the search finds is the one that the definition names.
-use Rattle.std.specs.Prelude.{◌≡◌, refl, Bool, true, false, cond, ℕ, zero, suc, ◌+◌, ◌*◌, ◌-◌, ◌<◌, ◌≤◌, eqb, length, take, drop, get_or, replicate}
+use Rattle.std.specs.Prelude as Std
+use Rattle.std.specs.Prelude.{Some, None, ◌≡◌, refl, Bool, true, false, cond, ℕ, zero, suc, ◌+◌, ◌*◌, ◌-◌, ◌<◌, ◌≤◌, eqb, length, take, drop, get_or, replicate}
 use Rattle.std.proofs.Common.{sym, ap, ap₂, ◌∙◌, subst, arith, take-suc, take_all, length-take-le, get_or-append-add, take_at, eq-eqb, ne_eqb, eqb-true}
 use Rattle.std.proofs.Math.Option.{some}
 use mathlib.Core.List.{List, [], ◌∷◌, ◌++◌, append-nil, append_assoc, flat_map}
@@ -14,9 +15,8 @@ use Rattle.balance_slots.specs.Decimal.{tuple_less}
 use Rattle.balance_slots.specs.Slots.{Slot}
 use Rattle.balance_slots.specs.Workspace.{words_of_slot, full, workspace_of, slot_words, tuple_word}
 use Rattle.balance_slots.specs.GroupRefusal.{Numbered, unbalanced, earlier, names_first, group_refusal}
-use Rattle.balance_slots.specs.inner.Work.{work_of, net_at, tuple_at, best, better_at, least_to, slot_refusal, work_refusal}
+use Rattle.balance_slots.specs.inner.Work.{work_of, net_at, tuple_at, better_at, least_to, slot_refusal, work_refusal}
 use Rattle.balance_slots.proofs.laws.Add.{Fit, front, front_long, slot_is, slot-long}
-use Rattle.balance_slots.specs.declared.group_refusal.Best.{Best}
 
 abbrev pub nobody : Slot
 nobody = record { tuple = []; net = 0 }
@@ -39,23 +39,23 @@ unbalanced-one k (x ∷ xs) s =
     ∙ sym (append_assoc (cond (eqb x.net 0) [] (record { number = k; slot = x } ∷ [])) (unbalanced (suc k) xs) (cond (eqb s.net 0) [] (record { number = k + suc (length xs); slot = s } ∷ [])))
 
 -- the best so far is the definition's
-abbrev Agrees : List Slot → ℕ → List Numbered → Best → Type 0
-Agrees ss k [] b = b ≡ best false 0
-Agrees ss k (x ∷ xs) b = (b ≡ best true (fold earlier x xs).number) × ((fold earlier x xs).slot ≡ get_or ss (fold earlier x xs).number nobody) × ((fold earlier x xs).number < k)
+abbrev Agrees : List Slot → ℕ → List Numbered → Std.Option ℕ → Type 0
+Agrees ss k [] b = b ≡ None
+Agrees ss k (x ∷ xs) b = (b ≡ Some (fold earlier x xs).number) × ((fold earlier x xs).slot ≡ get_or ss (fold earlier x xs).number nobody) × ((fold earlier x xs).number < k)
 
-wider : (ss : List Slot) (k : ℕ) (us : List Numbered) (b : Best) → Agrees ss k us b → Agrees ss (suc k) us b
+wider : (ss : List Slot) (k : ℕ) (us : List Numbered) (b : Std.Option ℕ) → Agrees ss k us b → Agrees ss (suc k) us b
 wider ss k [] b a = a
 wider ss k (x ∷ xs) b a = (a.0, a.1, (let h : (fold earlier x xs).number < k = a.2 in omega arith))
 
-same-zero : (workspace : List ℕ) (b : Best) (k : ℕ) → net_at workspace k ≡ 0 → b ≡ better_at workspace b k
+same-zero : (workspace : List ℕ) (b : Std.Option ℕ) (k : ℕ) → net_at workspace k ≡ 0 → b ≡ better_at workspace b k
 unfolding better_at
 same-zero workspace b k e = rw (eq-eqb (net_at workspace k) 0 e)
 
-first_one : (workspace : List ℕ) (k : ℕ) → (net_at workspace k ≡ 0 → ⊥) → better_at workspace (best false 0) k ≡ best true k
+first_one : (workspace : List ℕ) (k : ℕ) → (net_at workspace k ≡ 0 → ⊥) → better_at workspace (None) k ≡ Some k
 unfolding better_at
 first_one workspace k n = rw (ne_eqb (net_at workspace k) 0 n)
 
-later_one : (workspace : List ℕ) (j k : ℕ) → (net_at workspace k ≡ 0 → ⊥) → better_at workspace (best true j) k ≡ cond (tuple_less (tuple_at workspace k) (tuple_at workspace j)) (best true k) (best true j)
+later_one : (workspace : List ℕ) (j k : ℕ) → (net_at workspace k ≡ 0 → ⊥) → better_at workspace (Some j) k ≡ cond (tuple_less (tuple_at workspace k) (tuple_at workspace j)) (Some k) (Some j)
 unfolding better_at
 later_one workspace j k n = rw (ne_eqb (net_at workspace k) 0 n)
 
@@ -64,27 +64,27 @@ abbrev nth : List Slot → ℕ → Numbered
 nth ss k = record { number = k; slot = get_or ss k nobody }
 
 chosen : (workspace : List ℕ) (ss : List Slot) (k : ℕ) (y : Numbered) (t : Bool) → tuple_less (get_or ss k nobody).tuple y.slot.tuple ≡ t → y.slot ≡ get_or ss y.number nobody → y.number < k
-    → (cond t (best true k) (best true y.number) ≡ best true (earlier y (nth ss k)).number) × ((earlier y (nth ss k)).slot ≡ get_or ss (earlier y (nth ss k)).number nobody) × ((earlier y (nth ss k)).number < suc k)
+    → (cond t (Some k) (Some y.number) ≡ Some (earlier y (nth ss k)).number) × ((earlier y (nth ss k)).slot ≡ get_or ss (earlier y (nth ss k)).number nobody) × ((earlier y (nth ss k)).number < suc k)
 chosen workspace ss k y true e q l = (rw e, rw e, rw e (omega arith))
 chosen workspace ss k y false e q l = (rw e, rw e q, rw e (omega arith))
 
-loud : (workspace : List ℕ) (ss : List Slot) → Holding workspace ss → (k : ℕ) → k < length ss → (b : Best) → ((get_or ss k nobody).net ≡ 0 → ⊥) → (vs : List Numbered) → Agrees ss k vs b → Agrees ss (suc k) (vs ++ (nth ss k ∷ [])) (better_at workspace b k)
+loud : (workspace : List ℕ) (ss : List Slot) → Holding workspace ss → (k : ℕ) → k < length ss → (b : Std.Option ℕ) → ((get_or ss k nobody).net ≡ 0 → ⊥) → (vs : List Numbered) → Agrees ss k vs b → Agrees ss (suc k) (vs ++ (nth ss k ∷ [])) (better_at workspace b k)
 unfolding fold
-loud workspace ss h k l b n [] e = (ap (λ (x : Best). better_at workspace x k) e ∙ first_one workspace k (λ z. n (sym (h.net k l) ∙ z)), refl, omega arith)
+loud workspace ss h k l b n [] e = (ap (λ (x : Std.Option ℕ). better_at workspace x k) e ∙ first_one workspace k (λ z. n (sym (h.net k l) ∙ z)), refl, omega arith)
 loud workspace ss h k l b n (x ∷ xs) e =
     let y : Numbered = fold earlier x xs in
     let f : fold earlier x (xs ++ (nth ss k ∷ [])) ≡ earlier y (nth ss k) = fold-append earlier x xs (nth ss k ∷ []) in
     let c = chosen workspace ss k y (tuple_less (get_or ss k nobody).tuple y.slot.tuple) refl e.1 e.2 in
     let t : tuple_less (tuple_at workspace k) (tuple_at workspace y.number) ≡ tuple_less (get_or ss k nobody).tuple y.slot.tuple =
     ap₂ tuple_less (h.tuple k l) (h.tuple y.number (let g : y.number < k = e.2 in omega arith) ∙ ap (λ (v : Slot). v.tuple) (sym e.1)) in
-    let d : better_at workspace b k ≡ cond (tuple_less (get_or ss k nobody).tuple y.slot.tuple) (best true k) (best true y.number) =
-    ap (λ (v : Best). better_at workspace v k) e.0 ∙ later_one workspace y.number k (λ z. n (sym (h.net k l) ∙ z)) ∙ ap (λ (q : Bool). cond q (best true k) (best true y.number)) t in (
-      d ∙ c.0 ∙ ap (λ (v : Numbered). best true v.number) (sym f),
+    let d : better_at workspace b k ≡ cond (tuple_less (get_or ss k nobody).tuple y.slot.tuple) (Some k) (Some y.number) =
+    ap (λ (v : Std.Option ℕ). better_at workspace v k) e.0 ∙ later_one workspace y.number k (λ z. n (sym (h.net k l) ∙ z)) ∙ ap (λ (q : Bool). cond q (Some k) (Some y.number)) t in (
+      d ∙ c.0 ∙ ap (λ (v : Numbered). Some v.number) (sym f),
       ap (λ (v : Numbered). v.slot) f ∙ c.1 ∙ ap (λ (v : Numbered). get_or ss v.number nobody) (sym f),
       rw (ap (λ (v : Numbered). v.number) f) c.2,
     )
 
-step : (workspace : List ℕ) (ss : List Slot) → Holding workspace ss → (k : ℕ) → k < length ss → (us : List Numbered) (b : Best) → Agrees ss k us b
+step : (workspace : List ℕ) (ss : List Slot) → Holding workspace ss → (k : ℕ) → k < length ss → (us : List Numbered) (b : Std.Option ℕ) → Agrees ss k us b
     → Agrees ss (suc k) (us ++ cond (eqb (get_or ss k nobody).net 0) [] (nth ss k ∷ [])) (better_at workspace b k)
 step workspace ss h k l us b a = go (eqb (get_or ss k nobody).net 0) refl
   where
@@ -101,7 +101,7 @@ agrees workspace ss h (suc k) l =
     ∙ ap (λ (n : ℕ). unbalanced 0 (take k ss) ++ cond (eqb (get_or ss k nobody).net 0) [] (record { number = n; slot = get_or ss k nobody } ∷ [])) (let z : 0 + length (take k ss) ≡ k = omega (arith, length-take-le k ss (let w : k ≤ length ss = omega arith in w)) in z) in
     rw e (step workspace ss h k l (unbalanced 0 (take k ss)) (least_to workspace k) (agrees workspace ss h k (omega arith)))
 
-says : (workspace : List ℕ) (ss : List Slot) → Holding workspace ss → (g k : ℕ) → k ≤ length ss → (us : List Numbered) (b : Best) → Agrees ss k us b → slot_refusal g workspace b ≡ names_first g us
+says : (workspace : List ℕ) (ss : List Slot) → Holding workspace ss → (g k : ℕ) → k ≤ length ss → (us : List Numbered) (b : Std.Option ℕ) → Agrees ss k us b → slot_refusal g workspace b ≡ names_first g us
 unfolding names_first
 says workspace ss h g k l [] b a = rw a
 says workspace ss h g k l (x ∷ xs) b a =

@@ -1,12 +1,13 @@
 -- Slots linked by hash. The width word of a linked slot is its width + 16 · link; the link is 1 + the number of the slot before it in its
 -- chain, or 0. All else is as in the workspace without links.
-use Rattle.std.specs.Prelude.{ℕ, zero, suc, ◌+◌, ◌*◌, ◌/◌, ◌%◌, ◌<◌, ◌≤◌, ◌≡◌, Bool, cond, ◌&&◌, List, eqb, ltb, length, take, drop}
+use Rattle.std.specs.Prelude as Std
+use Rattle.std.specs.Prelude.{Some, None, ℕ, zero, suc, ◌+◌, ◌*◌, ◌/◌, ◌%◌, ◌<◌, ◌≤◌, ◌≡◌, Bool, cond, ◌&&◌, List, eqb, ltb, length, take, drop}
 use Rattle.lists.specs.Same.{same_list}
 use Rattle.lists.specs.Tab.{tab}
 use Rattle.expression.specs.Words.{word}
-use Rattle.balance_slots.specs.inner.Work.{Work}
+use Rattle.balance_slots.specs.inner.Work.{Work, in_use, work}
 use Rattle.balance_slots.specs.inner.Hash.{chains, hash}
-use Rattle.balance_slots.specs.declared.add.LinkedUse.{LinkedUse}
+use Rattle.balance_slots.specs.declared.add.Linked.{Linked}
 use Rattle.balance_slots.specs.declared.hash.Seed.{Seed}
 use Rattle.balance_slots.specs.Workspace.{slot_words, tuple_words, tuple_word}
 
@@ -38,9 +39,18 @@ plain_word workspace n i = cond (ltb i (slot_words * n) && eqb (i % slot_words) 
 unfoldable pub plain : List ℕ → ℕ → List ℕ
 plain workspace n = tab (plain_word workspace n) 0 (length workspace)
 
+-- how many slots are linked, and how many are in use; none, if one was missing
+abbrev pub linked_of : Std.Option Linked → ℕ
+linked_of (Some v) = v.linked
+linked_of None = 0
+
+abbrev pub use_of : Std.Option Linked → Std.Option ℕ
+use_of (Some v) = Some v.used
+use_of None = None
+
 -- the work without them
-abbrev pub plain_work : List ℕ → LinkedUse → Work
-plain_work workspace v = record { words = plain workspace v.linked; used = v.used; full = v.full }
+abbrev pub plain_work : List ℕ → Std.Option Linked → Work
+plain_work workspace v = work (plain workspace (linked_of v)) (use_of v)
 
 -- the first r slots are linked, at least and at most so many, and without the links the workspace is `is`
 pub record SlotsLinked (seed : Seed) (heads workspace : List ℕ) (r least most : ℕ) (is : List ℕ) : Type 0 where
@@ -50,7 +60,7 @@ pub record SlotsLinked (seed : Seed) (heads workspace : List ℕ) (r least most 
   pub not_more : r ≤ most
 
 -- the slots in use lie in the workspace, and the first of them are linked
-pub record ChainsLinked (seed : Seed) (heads workspace : List ℕ) (v : LinkedUse) : Type 0 where
-  pub chained : Chained seed heads workspace v.linked
-  pub inside : v.linked ≤ v.used
-  pub room : slot_words * v.used ≤ length workspace
+pub record ChainsLinked (seed : Seed) (heads workspace : List ℕ) (v : Std.Option Linked) : Type 0 where
+  pub chained : Chained seed heads workspace (linked_of v)
+  pub inside : linked_of v ≤ in_use (use_of v)
+  pub room : slot_words * in_use (use_of v) ≤ length workspace

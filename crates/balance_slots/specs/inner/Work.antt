@@ -1,5 +1,6 @@
 -- The workspace as words, and what the code makes of it: slot k is the words from slot-words · k on.
-use Rattle.std.specs.Prelude.{ℕ, zero, suc, ◌+◌, ◌*◌, Bool, true, false, cond, ◌&&◌, List, [], ◌∷◌, ◌++◌, eqb, leb, ltb, length, take, drop, set, replicate}
+use Rattle.std.specs.Prelude as Std
+use Rattle.std.specs.Prelude.{Some, None, ℕ, zero, suc, ◌+◌, ◌*◌, Bool, true, false, cond, ◌&&◌, List, [], ◌∷◌, ◌++◌, eqb, leb, ltb, length, take, drop, set, replicate}
 use Rattle.std.proofs.Math.Option.{Option, none, some}
 use Rattle.lists.specs.Same.{same_list}
 use Rattle.lists.specs.Tab.{tab}
@@ -11,8 +12,6 @@ use Rattle.logup.specs.Ledger.{Entry}
 use Rattle.balance_slots.specs.Decimal.{tuple_less}
 use Rattle.balance_slots.specs.Slots.{Slot}
 use Rattle.balance_slots.specs.Workspace.{full, workspace_of, slot_words, tuple_words, tuple_word, net_word}
-use Rattle.balance_slots.specs.declared.slot.SlotUse.{SlotUse}
-use Rattle.balance_slots.specs.declared.group_refusal.Best.{Best}
 
 -- the workspace, how many slots are in use, and whether one was missing
 pub record Work : Type 0 where
@@ -20,8 +19,17 @@ pub record Work : Type 0 where
   pub used : ℕ
   pub full : Bool
 
-abbrev pub work : List ℕ → SlotUse → Work
-work workspace u = record { words = workspace; used = u.used; full = u.full }
+-- how many slots are in use, and whether one was missing, which is none
+abbrev pub in_use : Std.Option ℕ → ℕ
+in_use (Some n) = n
+in_use None = 0
+
+abbrev pub missing : Std.Option ℕ → Bool
+missing (Some n) = false
+missing None = true
+
+abbrev pub work : List ℕ → Std.Option ℕ → Work
+work workspace u = record { words = workspace; used = in_use u; full = missing u }
 
 -- whether slot k holds the tuple t
 unfoldable pub match_at : List ℕ → List ℕ → ℕ → Bool
@@ -68,22 +76,29 @@ net_at workspace k = word workspace (slot_words * k + net_word)
 abbrev pub tuple_at : List ℕ → ℕ → List ℕ
 tuple_at workspace k = take (word workspace (slot_words * k)) (drop (slot_words * k + tuple_word) workspace)
 
-abbrev pub best : Bool → ℕ → Best
-best f k = record { found = f; slot = k }
+-- slot k, whose net is not zero, against the best so far
+abbrev pub chosen_at : List ℕ → Std.Option ℕ → ℕ → Std.Option ℕ
+chosen_at workspace None k = Some k
+chosen_at workspace (Some b) k = cond (tuple_less (tuple_at workspace k) (tuple_at workspace b)) (Some k) (Some b)
 
 -- slot k against the best so far
-unfoldable pub better_at : List ℕ → Best → ℕ → Best
-better_at workspace b k =
-    cond (eqb (net_at workspace k) 0) b (cond b.found (cond (tuple_less (tuple_at workspace k) (tuple_at workspace b.slot)) (best true k) b) (best true k))
+unfoldable pub better_at : List ℕ → Std.Option ℕ → ℕ → Std.Option ℕ
+better_at workspace b k = cond (eqb (net_at workspace k) 0) b (chosen_at workspace b k)
 
 -- the best of the first n slots
-unfoldable pub least_to : List ℕ → ℕ → Best
-least_to workspace zero = best false 0
+unfoldable pub least_to : List ℕ → ℕ → Std.Option ℕ
+least_to workspace zero = None
 least_to workspace (suc k) = better_at workspace (least_to workspace k) k
 
 -- what the found slot says of group g
-abbrev pub slot_refusal : ℕ → List ℕ → Best → Option Refusal
-slot_refusal g workspace b = cond b.found (some (NetNotZero g b.slot (net_at workspace b.slot))) none
+abbrev pub slot_refusal : ℕ → List ℕ → Std.Option ℕ → Option Refusal
+slot_refusal g workspace None = none
+slot_refusal g workspace (Some k) = some (NetNotZero g k (net_at workspace k))
+
+-- its number, or 0
+abbrev pub slot_of : Std.Option ℕ → ℕ
+slot_of None = 0
+slot_of (Some k) = k
 
 -- the refusal of group g
 unfoldable pub work_refusal : ℕ → Work → Option Refusal

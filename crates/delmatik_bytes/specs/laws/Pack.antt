@@ -1,6 +1,6 @@
 -- Packing on bytes: lists in the parts of a room, and the answer by cases.
 use Prim.Native.Nat.{ℕ, ◌+◌, ◌-◌, ◌*◌, ◌≤◌, zero-le}
-use Rattle.std.specs.Prelude.{◌≡◌, true, false, ◌&&◌, take}
+use Rattle.std.specs.Prelude.{◌≡◌, true, false, ◌&&◌, take, Err, Result}
 use Rattle.std.proofs.Common.{sym, ◌∙◌, arith, length-take, Fits}
 use Rattle.std.proofs.Math.Path.{ap, ap₂}
 use mathlib.Core.List.{List, [], ◌∷◌, ◌++◌, map, append_assoc}
@@ -17,8 +17,6 @@ use Rattle.lookup.specs.Lookups.{Lookups, lookup_words}
 use Rattle.lookup.specs.declared.refusals.Columns.{Columns}
 use Rattle.packing.specs.Written.{written}
 use Rattle.packing.specs.PackSameBus.{Outcome, counts, all_written, packing_at}
-use Rattle.packing.specs.declared.answer.PackingAnswer.{PackingAnswer}
-use Rattle.packing.specs.declared.answer.PackingAnswer.TheVariants.{Refused}
 use Rattle.delmatik_answers.specs.Packing.{packing_refused, packing_used}
 use Rattle.wire.specs.Wire.{words_of, bytes_of}
 use Rattle.wire.specs.Room.{fit, flat, all_words}
@@ -28,6 +26,8 @@ use Rattle.wire.specs.laws.Room.{lent-next, parts_are, given_back, fit_count, fi
 use Rattle.delmatik_bytes.specs.Bytes.{lookup_lists, encoded_lookups}
 use Rattle.delmatik_bytes.specs.Pack.{answered, in_bytes, packing_on_bytes}
 use Rattle.delmatik_bytes.specs.inner.Words.{lookups_in, packing_on_words}
+use Rattle.expression.specs.declared.refusal.Refusal.{Refusal}
+use Rattle.packing.specs.declared.answer.Counts.{Counts}
 use Rattle.delmatik_bytes.specs.inner.Sized.{Sized}
 
 -- as many elements in a part of a room of the same length
@@ -115,7 +115,7 @@ pub room-ends : {a b c d e : List ℕ} {r₀ r₁ : List ℕ} {x : Ends} → fit
 unfolding word_count
 room-ends {a} {b} {c} {d} {e} {r₀} f l = omega (arith, fit_count (a ∷ b ∷ c ∷ d ∷ e ∷ []) r₀ f)
 
-module _ (c : Choices) (limit : ℕ) (columns : Columns) (nodes : List ℕ) (l lent : Lookups) (given room out_room : List ℕ) {n : ℕ} {details used : List ℕ} {a : PackingAnswer} where
+module _ (c : Choices) (limit : ℕ) (columns : Columns) (nodes : List ℕ) (l lent : Lookups) (given room out_room : List ℕ) {n : ℕ} {details used : List ℕ} {a : Result Counts Refusal} where
   pub fitting : {after : Lookups} {names Room-after out_after : List ℕ} (lists decoded written : List (List ℕ)) → known c ≡ true
       → fit (nodes ∷ lookup_lists l) room ≡ true → fit (lookup_lists lent) out_room ≡ true
       → (Room-after ≡ all_words (nodes ∷ lookup_lists l)) × (lists ≡ map words_of (nodes ∷ lookup_lists l)) → decoded ≡ map words_of (lookup_lists lent)
@@ -134,21 +134,21 @@ module _ (c : Choices) (limit : ℕ) (columns : Columns) (nodes : List ℕ) (l l
       ∙ ap (λ (z : Outcome). in_bytes z given (all_words (nodes ∷ lookup_lists l))) (o ∙ same))
 
   -- refusal 1, and everything as it was lent
-  as_lent : a ≡ Refused SizeAtOdds
+  as_lent : a ≡ Err SizeAtOdds
       → (n ≡ answer_number (packing_refused a)) × (details ≡ answer_details (packing_refused a)) × (used ≡ packing_used a given)
-      → record { number = n; details = details; used = used; lists = lent; room = room; out_room = out_room } ≡ answered (Refused SizeAtOdds) given lent room out_room
+      → record { number = n; details = details; used = used; lists = lent; room = room; out_room = out_room } ≡ answered (Err SizeAtOdds) given lent room out_room
   as_lent q told =
       (λ i. record { number = told.0 i; details = told.1 i; used = told.2 i; lists = lent; room = room; out_room = out_room })
-      ∙ ap (λ (z : PackingAnswer). answered z given lent room out_room) q
+      ∙ ap (λ (z : Result Counts Refusal). answered z given lent room out_room) q
 
-  pub unknown : known c ≡ false → a ≡ Refused SizeAtOdds
+  pub unknown : known c ≡ false → a ≡ Err SizeAtOdds
       → (n ≡ answer_number (packing_refused a)) × (details ≡ answer_details (packing_refused a)) × (used ≡ packing_used a given)
       → record { number = n; details = details; used = used; lists = lent; room = room; out_room = out_room }
       ≡ packing_on_bytes c limit columns nodes l lent given room out_room
   unfolding packing_on_bytes
   unknown k q told = rw k (as_lent q told)
 
-  pub odd : known c ≡ true → (fit (nodes ∷ lookup_lists l) room && fit (lookup_lists lent) out_room) ≡ false → a ≡ Refused SizeAtOdds
+  pub odd : known c ≡ true → (fit (nodes ∷ lookup_lists l) room && fit (lookup_lists lent) out_room) ≡ false → a ≡ Err SizeAtOdds
       → (n ≡ answer_number (packing_refused a)) × (details ≡ answer_details (packing_refused a)) × (used ≡ packing_used a given)
       → record { number = n; details = details; used = used; lists = lent; room = room; out_room = out_room }
       ≡ packing_on_bytes c limit columns nodes l lent given room out_room

@@ -1,6 +1,6 @@
 -- What is known of the prime and the value of X⁴ of either field.
 use Rattle.std.specs.Prelude.{refl, Bool, true, false, cond, ℕ, ◌<◌, eqb}
-use Rattle.std.proofs.Common.{inl, inr, arith, lit<, lit≤}
+use Rattle.std.proofs.Common.{inl, inr, lit<, lit≤}
 use Rattle.field.specs.Modulus.{Modulus, Certificate}
 use Rattle.field.specs.inner.Requires.{KnownPrime}
 use Rattle.field.proofs.laws.Certificates.{babybear-certificate, koalabear-certificate}

@@ -8,6 +8,7 @@ use Rattle.expression.specs.Values.{bit}
 use Rattle.logup.specs.Column.{Place, branches, chosen, fault}
 use Rattle.logup_column.specs.inner.Own.{branch_code, Fits}
 use Rattle.logup_column.specs.inner.Terms.{multiplicity_by, denominator_by, term_multiplicity, term_denominator}
+use Rattle.logup_column.specs.inner.Kinds.{chosen_number}
 use Rattle.logup_column.specs.declared.column.Flags.{Flags}
 use Rattle.logup_column.specs.declared.column.Term.{Term}
 
@@ -19,7 +20,7 @@ PartsFit c = Fits c.lookups.lookups c.lookups.tuples c.lookups.multiplicities c.
 pub record FlagsRead (flags : ℕ → ℕ) (n : ℕ) (f : Flags) : Type 0 where
   pub over≡ : f.over ≡ some_of (λ k. ltb 1 (flags k)) n
   pub ones≡ : f.ones ≡ total (λ k. bit (eqb (flags k) 1)) n
-  pub chosen≡ : f.chosen ≡ branch_code (chosen flags n)
+  pub chosen≡ : chosen_number f.chosen ≡ branch_code (chosen flags n)
 
 -- the term of a tuple with multiplicity m and denominator d: 0 ÷ 1 where it contributes nothing
 pub record IsTerm (p : ℕ) (nothing : Bool) (m : ℕ) (d : List ℕ) (t : Term) : Type 0 where

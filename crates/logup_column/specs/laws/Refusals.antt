@@ -1,7 +1,8 @@
 -- The runs of tests, return by return.
-use Rattle.std.specs.Prelude.{◌≡◌, refl, Bool, true, false, ◌&&◌, ℕ}
+use Rattle.std.specs.Prelude.{◌≡◌, refl, Bool, true, false, ◌&&◌, ℕ, Err, Ok}
 use Rattle.std.proofs.Common.{sym, ap, ◌∙◌}
 use Rattle.std.proofs.Math.Option.{Option, none, some, some-ne-none}
+use Rattle.std.specs.Result.{result_and}
 use Rattle.lists.specs.Count.{or_else}
 use Rattle.expression.specs.Refusal.{unless, refusal}
 use Rattle.expression.specs.Node.{node_count}
@@ -9,8 +10,7 @@ use Rattle.expression.specs.Tests.{degrees_low}
 use Rattle.expression.specs.declared.sizes.Limits.{Limits}
 use Rattle.expression.specs.declared.refusal.Refusal.{Refusal}
 use Rattle.expression.specs.declared.refusal.Refusal.TheVariants.{SizeAtOdds, WordTooLarge, NodeInvalid, DegreeTooHigh, LookupInvalid}
-use Rattle.expression.specs.declared.refusal.Verdict.{Verdict}
-use Rattle.expression.specs.declared.refusal.Verdict.TheVariants.{Accepted, Refused}
+use Rattle.expression.specs.Refusal.{Verdict}
 use Rattle.lookup.specs.Table.{Table}
 use Rattle.lookup.specs.Tests.{sizes, words_below, known, lists_agree, in_position}
 use Rattle.logup_column.specs.inner.Refusals.{position_refusal, table_tests}
@@ -55,9 +55,14 @@ module _ {fit' low' : Bool} (m : Limits) (p : ℕ) (t : Table) (fit low : Bool) 
       → (o ≡ table_tests m p t fit low later) × (o ≡ none → Tested m p t fit low × (later ≡ none))
   entry_none e k = (k ∙ both e, λ n. (tested m p t fit low (sym (e ∙ (λ j. table_tests m p t (ef j) (el j) none))), sym k ∙ n))
 
+-- the first of two verdicts
+pub and_refusal : {x : Verdict} (a b : Verdict) → x ≡ result_and a b → refusal x ≡ or_else (refusal a) (refusal b)
+and_refusal (Ok u) b e = ap refusal e
+and_refusal (Err f) b e = ap refusal e
+
 -- what a verdict answers, from its variant
-pub accepted-answer : {v : Verdict} {o : Option Refusal} → v ≡ Accepted → refusal v ≡ o → none ≡ o
+pub accepted-answer : {v : Verdict} {o : Option Refusal} → v ≡ Ok tt → refusal v ≡ o → none ≡ o
 accepted-answer e k = sym (ap refusal e) ∙ k
 
-pub refused-answer : {v : Verdict} {o : Option Refusal} (f : Refusal) → v ≡ Refused f → refusal v ≡ o → some f ≡ o
+pub refused-answer : {v : Verdict} {o : Option Refusal} (f : Refusal) → v ≡ Err f → refusal v ≡ o → some f ≡ o
 refused-answer f e k = sym (ap refusal e) ∙ k

@@ -3,7 +3,7 @@ use Rattle.std.specs.Prelude.{◌≡◌, List, ℕ}
 use Rattle.lists.specs.Count.{joined}
 use Rattle.lists.specs.Tab.{tab}
 use Rattle.expression.specs.Refusal.{refusal}
-use Rattle.expression.specs.declared.refusal.Verdict.{Verdict}
+use Rattle.expression.specs.Refusal.{Verdict}
 use Rattle.lookup.specs.Lookups.{Lookups, lookup_count, tuple_count}
 use Rattle.logup.specs.Rows.{place, row_fault}
 use Rattle.logup_column.specs.inner.Terms.{term_multiplicity, term_denominator}

@@ -1,18 +1,17 @@
 -- What the functions over a row of the trace speak of: the row's first element is number `base` of the trace.
-use Rattle.std.specs.Prelude.{ℕ, ◌+◌, ◌*◌, ◌≤◌, ◌≡◌, Bool, true, false, cond, List, eqb, ltb, length}
+use Rattle.std.specs.Prelude.{ℕ, ◌+◌, ◌*◌, ◌≤◌, ◌≡◌, cond, List, eqb, ltb, length, Result, Ok, Err}
 use Rattle.std.proofs.Math.Option.{Option, none, some}
 use Rattle.lists.specs.Count.{first, or_else}
 use Rattle.field.specs.Element.{Word4, sub4, element, sum4}
 use Rattle.field.specs.Ext.{ext_words}
+use Rattle.field.specs.declared.extension.Ext.{Ext}
 use Rattle.expression.specs.Requires.{Below}
-use Rattle.expression.specs.Refusal.{refusal}
 use Rattle.expression.specs.declared.refusal.Refusal.{Refusal}
 use Rattle.lookup.specs.Lookups.{Lookups, lookup_count}
 use Rattle.logup.specs.Rows.{place}
 use Rattle.logup.specs.Constraints.{must_vanish}
 use Rattle.logup_column.specs.inner.Source.{RowSource}
 use Rattle.logup_terms.specs.inner.Constraint.{vanishing}
-use Rattle.logup_terms.specs.declared.eval_row.RowFractions.{RowFractions}
 
 -- element i + 1 of the row is lookup i's fraction
 unfoldable pub fractions_sum : ℕ → List ℕ → ℕ → ℕ → List ℕ
@@ -33,18 +32,20 @@ accumulator_verdict p accumulator next sum n r height =
     or_else (cond (eqb r 0) (must_vanish accumulator r n) none)
     (must_vanish (sub4 p (sub4 p next accumulator) sum) r (cond (ltb (r + 1) height) (n + 1) (n + 2)))
 
-abbrev pub is_refused : Option Refusal → Bool
-is_refused none = false
-is_refused (some f) = true
-
 -- a trace as the tests leave it: words below p, as many as its size says, and wide enough for n lookups
 pub record TraceInputs (p height width n : ℕ) (words : List ℕ) : Type 0 where
   pub below : Below p words
   pub size : length words ≡ width * height * 4
   pub wide : n + 1 ≤ width
 
--- the fractions of a row, and the refusal of its lookups
-pub record FractionsEvaluated (p w : ℕ) (s : RowSource) (words : List ℕ) (base r : ℕ) (a : RowFractions) : Type 0 where
-  pub below : Word4 p (ext_words a.sum)
-  pub sum≡ : ext_words a.sum ≡ fractions_sum p words base (lookup_count s.lookups.lookups)
-  pub verdict≡ : refusal a.verdict ≡ fractions_verdict p w s.lookups s.challenges s.vals words base r (lookup_count s.lookups.lookups)
+-- the sum of a row's fractions, where its lookups refuse nothing
+pub record FractionsAre (p w : ℕ) (s : RowSource) (words : List ℕ) (base r : ℕ) (sum : Ext) : Type 0 where
+  pub below : Word4 p (ext_words sum)
+  pub sum≡ : ext_words sum ≡ fractions_sum p words base (lookup_count s.lookups.lookups)
+  pub verdict≡ : none ≡ fractions_verdict p w s.lookups s.challenges s.vals words base r (lookup_count s.lookups.lookups)
+
+-- this sum, or the first refusal of the row's lookups
+abbrev pub FractionsEvaluated : ℕ → ℕ → RowSource → List ℕ → ℕ → ℕ → Result Ext Refusal → Type 0
+FractionsEvaluated p w s words base r (Ok sum) = FractionsAre p w s words base r sum
+FractionsEvaluated p w s words base r (Err f) =
+    some f ≡ fractions_verdict p w s.lookups s.challenges s.vals words base r (lookup_count s.lookups.lookups)

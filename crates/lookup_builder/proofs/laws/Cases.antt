@@ -1,5 +1,5 @@
 -- Building at small tables, by computation: the weights of SPECIFICATION, section 6.3, refusals 1, 2 and 6, and the choices of a call.
-use Rattle.std.specs.Prelude.{◌≡◌, refl, true, List, [], ◌∷◌, ℕ, replicate}
+use Rattle.std.specs.Prelude.{◌≡◌, refl, true, List, [], ◌∷◌, ℕ, replicate, Err, Ok}
 use Rattle.std.proofs.Common.{arith}
 use Rattle.lists.specs.Count.{total, every, first, joined}
 use Rattle.field.specs.Known.{known_field, prime_of}
@@ -20,7 +20,6 @@ use Rattle.lookup_degree.specs.Sums.{greatest}
 use Rattle.lookup_builder.specs.Building.{first_tuple, weight_sum, weight_top, built_weight, built_words, built, local_refusal, locals_refusal}
 use Rattle.lookup_builder.specs.FromInteractions.{Interactions, Outcome, building_fits, built_refusal, building_refusal, building, building_at}
 use Rattle.lookup_builder.specs.declared.answer.Kinds.{Kinds}
-use Rattle.lookup_builder.specs.declared.answer.BuildingAnswer.TheVariants.{Built, Refused}
 use Rattle.lookup_builder.specs.BuiltWeights.{BuiltWhole}
 use Rattle.lookup_builder.proofs.laws.BuiltWeights.{built-weights}
 
@@ -64,7 +63,7 @@ building_with c a = building_at c one_column (0 ∷ a ∷ 0 ∷ []) one_each (th
 abbrev with_local : ℕ → ℕ → Outcome
 with_local low high =
     record {
-      answer = Built 27;
+      answer = Ok 27;
       lookups =
           0 ∷ 0 ∷ low ∷ 0 ∷ 0 ∷ 2 ∷ 2 ∷ 0 ∷ high ∷ 1 ∷ 1 ∷ 5 ∷ 1 ∷ 0 ∷ 1 ∷ 1 ∷ 0 ∷ 0 ∷ 1 ∷ 1 ∷ 7 ∷ 2 ∷ 1 ∷ 2 ∷ 2 ∷ 2 ∷ 0 ∷ 9 ∷ [];
     }
@@ -76,19 +75,19 @@ pub cases :
     × (building_of (three sized (4294967295 ∷ 1 ∷ 5 ∷ 3 ∷ 7 ∷ []) (replicate 5 1)) ≡ with_local 0 1)
     × (building_of (three sized (4294967295 ∷ 4294967295 ∷ 5 ∷ 3 ∷ 7 ∷ []) (replicate 5 1)) ≡ with_local 4294967294 1)
     -- 6: the local's tuples have widths 2 and 3
-    × (building_of (three sized (2 ∷ 1 ∷ 5 ∷ 3 ∷ 7 ∷ []) (2 ∷ 3 ∷ 1 ∷ 1 ∷ 1 ∷ [])) ≡ record { answer = Refused (WidthsDiffer 0 2 3); lookups = lent })
+    × (building_of (three sized (2 ∷ 1 ∷ 5 ∷ 3 ∷ 7 ∷ []) (2 ∷ 3 ∷ 1 ∷ 1 ∷ 1 ∷ [])) ≡ record { answer = Err (WidthsDiffer 0 2 3); lookups = lent })
     -- the widths of a bus are not compared here
-    × ((building_of (three sized (2 ∷ 1 ∷ 5 ∷ 3 ∷ 7 ∷ []) (2 ∷ 2 ∷ 1 ∷ 1 ∷ 2 ∷ []))).answer ≡ Built 27)
+    × ((building_of (three sized (2 ∷ 1 ∷ 5 ∷ 3 ∷ 7 ∷ []) (2 ∷ 2 ∷ 1 ∷ 1 ∷ 2 ∷ []))).answer ≡ Ok 27)
     -- 1: a global of two tuples, and a weight short
-    × ((building_of (three (0 ∷ 1 ∷ 1 ∷ 2 ∷ 1 ∷ 2 ∷ []) (2 ∷ 1 ∷ 5 ∷ 3 ∷ 7 ∷ []) (replicate 5 1))).answer ≡ Refused SizeAtOdds)
-    × ((building_of (three sized (2 ∷ 1 ∷ 5 ∷ 3 ∷ []) (replicate 5 1))).answer ≡ Refused SizeAtOdds)
+    × ((building_of (three (0 ∷ 1 ∷ 1 ∷ 2 ∷ 1 ∷ 2 ∷ []) (2 ∷ 1 ∷ 5 ∷ 3 ∷ 7 ∷ []) (replicate 5 1))).answer ≡ Err SizeAtOdds)
+    × ((building_of (three sized (2 ∷ 1 ∷ 5 ∷ 3 ∷ []) (replicate 5 1))).answer ≡ Err SizeAtOdds)
     -- 2 reads the prime of the field: the first is a word of field 2
-    × (building_with (choices_of 1 1) 2013265921 ≡ record { answer = Refused WordTooLarge; lookups = lent })
-    × ((building_with (choices_of 2 1) 2013265921).answer ≡ Built 27)
-    × (building_with (choices_of 2 1) 2130706433 ≡ record { answer = Refused WordTooLarge; lookups = lent })
+    × (building_with (choices_of 1 1) 2013265921 ≡ record { answer = Err WordTooLarge; lookups = lent })
+    × ((building_with (choices_of 2 1) 2013265921).answer ≡ Ok 27)
+    × (building_with (choices_of 2 1) 2130706433 ≡ record { answer = Err WordTooLarge; lookups = lent })
     -- an unknown field or profile is 1, before 2, and the lent list stays
-    × (building_with (choices_of 3 1) 4294967295 ≡ record { answer = Refused SizeAtOdds; lookups = lent })
-    × (building_with (choices_of 2 3) 0 ≡ record { answer = Refused SizeAtOdds; lookups = lent })
+    × (building_with (choices_of 3 1) 4294967295 ≡ record { answer = Err SizeAtOdds; lookups = lent })
+    × (building_with (choices_of 2 3) 0 ≡ record { answer = Err SizeAtOdds; lookups = lent })
 unfolding known_field prime_of known limits_of total every first joined all_below all_within cabinet decode node node_degree degrees nodes_within
     nodes_fit constants_below nodes_known degrees_low name_start tuple_start multiplicity_start flag_start element_start tuple_width columns_within
     form_sizes nodes_refusal lists_refusal form_refusal shape_of weight_limit lookup_within lookups_within lookups_fit lengths_agree nodes_present lists_agree greatest

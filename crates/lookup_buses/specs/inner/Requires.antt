@@ -1,14 +1,12 @@
 -- What the code asks of its lists, and what its loops make.
 use Rattle.std.proofs.Math.Option.{Option, none, some}
-use Rattle.std.specs.Prelude.{List, ℕ, ◌+◌, ◌*◌, ◌<◌, ◌≤◌, ◌≡◌, eqb, length}
+use Rattle.std.specs.Prelude.{List, ℕ, ◌*◌, ◌<◌, ◌≤◌, ◌≡◌, eqb, length, Some, None}
+use Rattle.std.specs.Prelude as Std
 use Rattle.expression.specs.Words.{word}
 use Rattle.lookup.specs.Lookups.{Lookups, lookup_words, lookup_count, name_start, tuple_start}
-use Rattle.lookup.specs.Sizes.{table_count, size, size_start}
+use Rattle.lookup.specs.Sizes.{table_count, size_start}
 use Rattle.lookup_buses.specs.Order.{keep, by_place, numbers}
 use Rattle.lookup_buses.specs.CheckBusWidths.{BusTables, bus_sizes, lookup_count_size, name_bytes_size, tuple_count_size, table_at}
-use Rattle.lookup_buses.specs.declared.lookup_widths.FirstWidth.{FirstWidth}
-use Rattle.lookup_buses.specs.declared.lookup_widths.FirstWidth.TheVariants.{Nothing, Width}
-use Rattle.lookup_buses.specs.declared.spans.TableSpans.{TableSpans}
 
 -- the lookups of place k, and all of them by place, by number, from a list of places
 unfoldable pub of_place : List ℕ → ℕ → ℕ → List ℕ
@@ -43,19 +41,7 @@ pub record TableAmong : Type 0 where
 abbrev pub among : BusTables → Lookups → TableAmong
 among all own = record { all = all; own = own }
 
--- what the code's enum says
-abbrev pub width_option : FirstWidth → Option ℕ
-width_option Nothing = none
-width_option (Width w) = some w
-
--- where the lists of table t lie
-unfoldable pub spans_at : List ℕ → ℕ → TableSpans
-spans_at sizes t =
-    record {
-      lookups_start = lookup_words * size_start bus_sizes sizes lookup_count_size t;
-      lookups_end = lookup_words * size_start bus_sizes sizes lookup_count_size t + lookup_words * size bus_sizes sizes lookup_count_size t;
-      names_start = 1 * size_start bus_sizes sizes name_bytes_size t;
-      names_end = 1 * size_start bus_sizes sizes name_bytes_size t + 1 * size bus_sizes sizes name_bytes_size t;
-      tuples_start = 1 * size_start bus_sizes sizes tuple_count_size t;
-      tuples_end = 1 * size_start bus_sizes sizes tuple_count_size t + 1 * size bus_sizes sizes tuple_count_size t;
-    }
+-- the code's option as the definitions have it
+abbrev pub width_option : Std.Option ℕ → Option ℕ
+width_option None = none
+width_option (Some w) = some w

@@ -1,25 +1,18 @@
--- Three stores into three words; and the numbers of an outcome leave nothing out: they say which answer it is.
-use Rattle.std.specs.Prelude.{◌≡◌, refl, List, [], ◌∷◌, ℕ, length, set}
-use Rattle.std.proofs.Common.{sym, ap, arith}
+-- The numbers of an outcome leave nothing out: they say which answer it is.
+use Rattle.std.specs.Prelude.{◌≡◌, Err, Ok, Result}
+use Rattle.std.proofs.Common.{sym, ap}
 use Rattle.std.proofs.Math.Option.{none, some, some-ne-none, some-injective}
 use Rattle.expression.specs.Refusal.{numbers}
 use Rattle.expression.specs.laws.Refusal.{numbers_injective}
+use Rattle.expression.specs.declared.refusal.Refusal.{Refusal}
+use Rattle.lookup_count.specs.declared.count.Count.{Count}
 use Rattle.lookup_count.specs.Count.{Outcome, CountNumbers, refusal_of, added_of, in_numbers}
-use Rattle.lookup_count.specs.declared.count.Counted.{Counted}
-use Rattle.lookup_count.specs.declared.count.Counted.TheVariants.{Added, Refused}
 
-pub three-set : (l : List ℕ) (a b c : ℕ) → length l ≡ 3 → set (set (set l 0 a) 1 b) 2 c ≡ a ∷ b ∷ c ∷ []
-three-set [] a b c e = absurd (omega arith)
-three-set (x ∷ []) a b c e = absurd (omega arith)
-three-set (x ∷ y ∷ []) a b c e = absurd (omega arith)
-three-set (x ∷ y ∷ z ∷ []) a b c e = refl
-three-set (x ∷ y ∷ z ∷ v ∷ l) a b c e = absurd (omega arith)
-
-same_answer : (a b : Counted) → numbers (refusal_of a) ≡ numbers (refusal_of b) → added_of a ≡ added_of b → a ≡ b
-same_answer (Added c) (Added d) q u = ap Added u
-same_answer (Added c) (Refused f) q u = absurd (some-ne-none f (sym (numbers_injective none (some f) q)))
-same_answer (Refused f) (Added c) q u = absurd (some-ne-none f (numbers_injective (some f) none q))
-same_answer (Refused f) (Refused g) q u = ap Refused (some-injective f g (numbers_injective (some f) (some g) q))
+same_answer : (a b : Result Count Refusal) → numbers (refusal_of a) ≡ numbers (refusal_of b) → added_of a ≡ added_of b → a ≡ b
+same_answer (Ok c) (Ok d) q u = ap Ok u
+same_answer (Ok c) (Err f) q u = absurd (some-ne-none f (sym (numbers_injective none (some f) q)))
+same_answer (Err f) (Ok c) q u = absurd (some-ne-none f (numbers_injective (some f) none q))
+same_answer (Err f) (Err g) q u = ap Err (some-injective f g (numbers_injective (some f) (some g) q))
 
 pub in_numbers_injective : (a b : Outcome) → in_numbers a ≡ in_numbers b → a ≡ b
 unfolding in_numbers

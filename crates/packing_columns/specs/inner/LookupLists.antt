@@ -17,9 +17,9 @@ list_start Elements lookups tuples i = element_start tuples (tuple_start lookups
 unfoldable pub list_length : LookupList → List ℕ → List ℕ → ℕ → ℕ
 list_length list lookups tuples i = list_start list lookups tuples (i + 1) - list_start list lookups tuples i
 
-unfoldable pub list_part : LookupList → List ℕ → List ℕ → List ℕ → ℕ → List ℕ
+unfoldable pub list_part : {A : Type 0} → LookupList → List ℕ → List ℕ → List A → ℕ → List A
 list_part list lookups tuples src i = take (list_length list lookups tuples i) (drop (list_start list lookups tuples i) src)
 
 -- the parts of these lookups, one after the other
-unfoldable pub list_parts : LookupList → List ℕ → List ℕ → List ℕ → List ℕ → List ℕ
+unfoldable pub list_parts : {A : Type 0} → LookupList → List ℕ → List ℕ → List A → List ℕ → List A
 list_parts list lookups tuples src is = flat_map (list_part list lookups tuples src) is

@@ -3,6 +3,3 @@ use Rattle.program_sample.proofs.print_trace.Given as goal
 
 abbrev pub invariant-loop-r : goal.invariant-loop-r
 invariant-loop-r l = l.r ≤ l.height
-
-abbrev pub decreases-loop-r : goal.decreases-loop-r
-decreases-loop-r l = l.height - l.r

@@ -1,5 +1,5 @@
 -- The words of a list of lookups, read back.
-use Rattle.std.specs.Prelude.{◌≡◌, Bool, eqb, drop, get_or}
+use Rattle.std.specs.Prelude.{◌≡◌, Bool, eqb, drop, get_or, Err}
 use Rattle.std.proofs.Math.Path.{refl, sym, ap, ap₂}
 use Rattle.std.proofs.Common.{◌∙◌, subst, zero-add, length-append}
 use Rattle.std.proofs.Math.Bool.{true, false, cond, not}
@@ -29,7 +29,6 @@ use Rattle.expression.specs.declared.refusal.Refusal.TheVariants.{SizeAtOdds}
 use Rattle.lookup_degree.specs.Degree.{node_degrees}
 use Rattle.packing.specs.Written.{lookup_words, words_of}
 use Rattle.packing.specs.PackSameBus.{columns, outcome, packing, packing_at}
-use Rattle.packing.specs.declared.answer.PackingAnswer.TheVariants.{Refused}
 use Rattle.theorems_packing.specs.Packed.{WritesPacked, KnownWritesPacked}
 use Rattle.theorems_packing.proofs.laws.Each.{Each, packed-each}
 
@@ -326,7 +325,7 @@ unfolding packing_at
 packing-known c k =
     λ i limit columns nodes l lent.
     cond (true_of (known c) k i) (packing (limits_of c.profile) (prime_of c.field) limit columns nodes l lent)
-    (record { answer = Refused SizeAtOdds; lists = lent })
+    (record { answer = Err SizeAtOdds; lists = lent })
 
 -- at the entry point, in each field
 pub known_writes_packed : KnownWritesPacked

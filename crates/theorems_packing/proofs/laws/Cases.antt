@@ -1,7 +1,7 @@
 -- The theorems of this crate at work on one table, in each field: on the bus "b" two additive lookups that share a column at limit 3 and an
 -- exclusive one, and a local between them. Every theorem's hypotheses are met, and balance accepts both tables. The terminal under rule 2 is of
 -- another table, with tuples of two words.
-use Rattle.std.specs.Prelude.{◌≡◌, refl, true, ◌↔◌, ℕ, ◌+◌, ◌<◌, replicate}
+use Rattle.std.specs.Prelude.{◌≡◌, refl, true, ◌↔◌, ℕ, ◌+◌, ◌<◌, replicate, Ok}
 use Rattle.std.proofs.Common.{sym, ap, ◌∙◌, subst}
 use Rattle.std.proofs.Math.Option.{none}
 use mathlib.Core.List.{List, [], ◌∷◌, flat_map, zip_with}
@@ -51,7 +51,6 @@ use Rattle.logup.specs.Ledger.{Entry, ledger}
 use Rattle.packing.specs.Packing.{in_order, fill, filled, renumbered, packed, overweight}
 use Rattle.packing.specs.Written.{lookup_words, words_of}
 use Rattle.packing.specs.PackSameBus.{holds, columns, packing_refusal, counts, all_written, packing_at}
-use Rattle.packing.specs.declared.answer.PackingAnswer.TheVariants.{Packed}
 use Rattle.balance_slots.specs.Slots.{add_nonzero, add, slots}
 use Rattle.balance_slots.specs.Workspace.{full}
 use Rattle.balance_slots.specs.GroupRefusal.{unbalanced, names_first, group_refusal}
@@ -245,7 +244,7 @@ module _ (field : ℕ) where
   pub record AtWork (terminal-word bus_word : ℕ) : Type 0 where
     -- The entry point writes these lookups: here into lists that are as long as the table's own.
     pub written : packing_at (choices_of field 1) 3 main_only nodes lookups lookups
-        ≡ record { answer = Packed (counts packed_lookups); lists = all_written packed_lookups lookups }
+        ≡ record { answer = Ok (counts packed_lookups); lists = all_written packed_lookups lookups }
     -- it passes the tests
     pub passes : PassesPacked m p 3 table
     -- it has the same ledger
@@ -281,7 +280,7 @@ module _ (field : ℕ) where
       record {
         written =
             known_writes_packed (choices_of field 1) c.is_known 3 main_only table lookups c.may_pack
-            ∙ ap (λ (l : Lookups). record { answer = Packed (counts l); lists = all_written l lookups }) c.packs;
+            ∙ ap (λ (l : Lookups). record { answer = Ok (counts l); lists = all_written l lookups }) c.packs;
         passes = packed-passes m p 3 table c.tested c.not_over;
         ledger_same = same-ledger m p 3 table c.tested;
         entries_same = same_entries m p 3 table c.tested;

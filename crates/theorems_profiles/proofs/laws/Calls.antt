@@ -1,5 +1,5 @@
 -- A call of each entry point, with n lookups of w words where it reads any, and under a rule where it takes one.
-use Rattle.std.specs.Prelude.{ℕ, ◌+◌, ◌*◌, List, [], ◌∷◌, negsuc, length, replicate}
+use Rattle.std.specs.Prelude.{ℕ, ◌+◌, ◌*◌, List, [], ◌∷◌, negsuc, length, replicate, Result}
 use Rattle.std.proofs.Math.Option.{Option}
 use Rattle.lists.specs.Count.{joined}
 use Rattle.expression.specs.Choices.{choices_of}
@@ -13,9 +13,7 @@ use Rattle.lookup_challenges.specs.Prefixes as prefixes
 use Rattle.lookup_protocol.specs.Height.{height_at}
 use Rattle.lookup_protocol.specs.Terminals.{terminals_at}
 use Rattle.lookup_degree.specs.ConstraintDegree as degree
-use Rattle.lookup_degree.specs.declared.constraint_degree.DegreeAnswer.{DegreeAnswer}
 use Rattle.lookup_buses.specs.CheckBusWidths as widths
-use Rattle.lookup_buses.specs.declared.check_bus_widths.WidthsAnswer.{WidthsAnswer}
 use Rattle.lookup_builder.specs.FromInteractions as building
 use Rattle.packing.specs.PackSameBus as packing
 use Rattle.logup.specs.Generation as generation
@@ -83,7 +81,7 @@ module _ (n w : ℕ) where
       let o = generated rule (choices_of field 1) in
       verdict_at c rule (table n w) (challenges n) (n + 1) o.buffer o.answer.terminal
 
-  abbrev pub degree_of_first : Choices → DegreeAnswer
+  abbrev pub degree_of_first : Choices → Result ℕ Refusal
   degree_of_first c = degree.degree_at c columns nodes (lookups n w) 0 0
 
   abbrev pub packed : Choices → packing.Outcome
@@ -96,7 +94,7 @@ module _ (n w : ℕ) where
   abbrev pub built : Choices → building.Outcome
   built c = building.building_at c columns nodes (record { locals = 0; globals = n; exclusives = 0 }) interactions (replicate (9 * n) 7)
 
-  abbrev pub widest : Choices → WidthsAnswer
+  abbrev pub widest : Choices → Result ℕ Refusal
   widest c = widths.widths_at c (widths.lent_bus_tables (lookups n w).lookups (replicate n 98) (replicate n w) (n ∷ n ∷ n ∷ []))
 
   -- 1024 rows for each word of a tuple

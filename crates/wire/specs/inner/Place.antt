@@ -1,8 +1,7 @@
 -- Places in a room: words from a place on, how much of a room is left, and where each of five lists ends.
-use Rattle.std.specs.Prelude.{ℕ, ◌+◌, ◌-◌, ◌/◌, ◌%◌, ◌≤◌, ◌≡◌, Bool, true, false, cond, ◌&&◌, List, [], ◌∷◌, ◌++◌, eqb, leb, length, take, drop}
+use Rattle.std.specs.Prelude.{ℕ, ◌+◌, ◌-◌, ◌/◌, ◌%◌, ◌≤◌, ◌≡◌, Bool, false, cond, ◌&&◌, List, [], ◌∷◌, ◌++◌, eqb, leb, length, take, drop, Option, None, Some}
 use borrow.Rule.Slice.PartMut.{put_mid}
 use Rattle.wire.specs.Room.{all_words}
-use Rattle.wire.specs.declared.room.Left.{Left}
 use Rattle.wire.specs.declared.room.Ends.{Ends}
 
 -- these words in the room from a place on, all else as it was
@@ -14,19 +13,19 @@ unfoldable pub word_count : List (List ℕ) → ℕ
 word_count [] = 0
 word_count (bytes ∷ lists) = length bytes / 4 + word_count lists
 
--- a list of so many bytes takes its words of what is left
-abbrev pub less : Left → ℕ → Left
-less left bytes =
-    cond (left.fits && eqb (bytes % 4) 0 && leb (bytes / 4) left.words) (record { fits = true; words = left.words - bytes / 4 })
-    (record { fits = false; words = 0 })
+-- a list of so many bytes takes its words of what is left; none is left of a room that it does not fit
+abbrev pub less : Option ℕ → ℕ → Option ℕ
+less None bytes = None
+less (Some words) bytes = cond (eqb (bytes % 4) 0 && leb (bytes / 4) words) (Some (words - bytes / 4)) None
 
-abbrev pub all_less : Left → List ℕ → Left
+abbrev pub all_less : Option ℕ → List ℕ → Option ℕ
 all_less left [] = left
 all_less left (bytes ∷ sizes) = all_less (less left bytes) sizes
 
--- the room is filled
-abbrev pub filled : Left → Bool
-filled left = left.fits && eqb left.words 0
+-- the lists fit, and the room is filled
+abbrev pub filled : Option ℕ → Bool
+filled None = false
+filled (Some words) = eqb words 0
 
 -- five lists stand in the room from a place on; where each ends
 pub record Five (a b c d e : List ℕ) (at : ℕ) (before after : List ℕ) (ends : Ends) : Type 0 where

@@ -1,42 +1,40 @@
 -- Laws of rooms and of the lists of bytes that are decoded into them.
 use Prim.Native.Nat.{ℕ, zero, suc, ◌+◌, ◌-◌, ◌*◌, ◌/◌, ◌%◌, ◌<◌, ◌≤◌, zero-le}
-use Rattle.std.specs.Prelude.{◌≡◌, refl, Bool, true, false, cond, ◌&&◌, eqb, leb, get_or}
+use Rattle.std.specs.Prelude.{◌≡◌, refl, Bool, true, false, cond, ◌&&◌, eqb, leb, get_or, Option, None, Some}
 use Rattle.std.proofs.Math.Path.{sym, ap, ap₂}
-use Rattle.std.proofs.Common.{◌∙◌, zero-add, arith, length-drop, drop_of_length-le, take-append-drop, eqb-true, leb-true, Fits}
+use Rattle.std.proofs.Common.{◌∙◌, zero-add, arith, length-drop, drop_of_length-le, take-append-drop, eqb-true, leb-true}
 use mathlib.Core.List.{List, [], ◌∷◌, ◌++◌, map, append-nil, append_assoc}
 use Rattle.std.proofs.Math.ListN.{length, take, drop, length-append, length-take}
 use Rattle.std.proofs.Math.Seq.{take_at, drop_at, drop-drop, take-append_seam, drop-append_seam}
 use borrow.Rule.Slice.PartMut.{put_mid}
-use Rattle.std.specs.Int.{w64}
 use Rattle.lists.specs.laws.Filled.{Filled, filled-part, put_mid_is}
 use Rattle.lists.specs.laws.Parts.{part-lent}
 use Rattle.lists.specs.laws.Tests.{both_left, both_right}
 use Rattle.wire.specs.Wire.{words_of, bytes_of}
 use Rattle.wire.specs.Room.{sizes_fit, fit, flat, all_words}
-use Rattle.wire.specs.inner.Place.{placed, word_count, less, all_less, filled, Five, parts, Steps, Ordered, both_ends, Split, five_ends, After}
+use Rattle.wire.specs.inner.Place.{placed, word_count, all_less, filled, Five, parts, Steps, Ordered, both_ends, Split, five_ends, After}
 use Rattle.wire.specs.laws.Trip.{words-length}
-use Rattle.wire.specs.declared.room.Left.{Left}
 use Rattle.wire.specs.declared.room.Ends.{Ends}
 
 -- The test by what is left is the test of the sizes.
-abbrev next_left : Bool → ℕ → Left
-next_left b w = cond b (record { fits = true; words = w }) (record { fits = false; words = 0 })
+pub none-left : (sizes : List ℕ) → filled (all_less None sizes) ≡ false
+none-left [] = refl
+none-left (b ∷ sizes) = none-left sizes
 
-step : (f g h : Bool) (w : ℕ) (sizes : List ℕ)
-    → ((next_left (f && g && h) w).fits && sizes_fit sizes (next_left (f && g && h) w).words) ≡ (f && ((g && h) && sizes_fit sizes w))
-step true true true w sizes = refl
-step true true false w sizes = refl
-step true false h w sizes = refl
-step false g h w sizes = refl
+step : (h : Bool) (w : ℕ) (sizes : List ℕ) → filled (all_less (cond h (Some w) None) sizes) ≡ (h && filled (all_less (Some w) sizes))
+step true w sizes = refl
+step false w sizes = none-left sizes
 
-pub left-fits : (sizes : List ℕ) (left : Left) → filled (all_less left sizes) ≡ (left.fits && sizes_fit sizes left.words)
+pub left-fits : (sizes : List ℕ) (words : ℕ) → filled (all_less (Some words) sizes) ≡ sizes_fit sizes words
 unfolding sizes_fit
-left-fits [] left = refl
-left-fits (b ∷ sizes) left = left-fits sizes (less left b) ∙ step left.fits (eqb (b % 4) 0) (leb (b / 4) left.words) (left.words - b / 4) sizes
+left-fits [] words = refl
+left-fits (b ∷ sizes) words =
+    let one : Bool = eqb (b % 4) 0 && leb (b / 4) words in
+    step one (words - b / 4) sizes ∙ ap (λ (x : Bool). one && x) (left-fits sizes (words - b / 4))
 
-pub fit-told : (lists : List (List ℕ)) (room : List ℕ) {left : Left} {b : Bool} → left ≡ all_less (record { fits = true; words = length room }) (map length lists) → b ≡ filled left → b ≡ fit lists room
+pub fit-told : (lists : List (List ℕ)) (room : List ℕ) {left : Option ℕ} {b : Bool} → left ≡ all_less (Some (length room)) (map length lists) → b ≡ filled left → b ≡ fit lists room
 unfolding fit
-fit-told lists room e f = f ∙ ap filled e ∙ left-fits (map length lists) (record { fits = true; words = length room })
+fit-told lists room e f = f ∙ ap filled e ∙ left-fits (map length lists) (length room)
 
 -- Lists that fit: their words are as many as the room's, and each is whole words.
 sizes-sum : (lists : List (List ℕ)) (room : ℕ) → sizes_fit (map length lists) room ≡ true → word_count lists ≡ room
@@ -165,16 +163,6 @@ part_placed {ys} bytes room at fits e =
     let is : ys ≡ words_of bytes = e ∙ ap (λ (l : List ℕ). words_of bytes ++ l) none_left ∙ append-nil (words_of bytes) in
     put_mid_is room at (at + n) is (omega arith) ∙ ap (λ (k : ℕ). take at room ++ (words_of bytes ++ drop (at + k) room)) (sym (words-length bytes))
 
--- The test that a list fits what is left.
-pub less-fits : (left : Left) (bytes : ℕ) → (left.fits && eqb (bytes % 4) 0 && leb (bytes / 4) left.words) ≡ true → record { fits = true; words = left.words - bytes / 4 } ≡ less left bytes
-less-fits left bytes e = rw e
-
-pub less_odd : (left : Left) (bytes : ℕ) → (left.fits && eqb (bytes % 4) 0 && leb (bytes / 4) left.words) ≡ false → record { fits = false; words = 0 } ≡ less left bytes
-less_odd left bytes e = rw e
-
-pub less-within : (left : Left) (bytes : ℕ) → (left.fits && eqb (bytes % 4) 0 && leb (bytes / 4) left.words) ≡ true → bytes / 4 ≤ left.words
-less-within left bytes e = leb-true (bytes / 4) left.words (both_right (left.fits && eqb (bytes % 4) 0) (leb (bytes / 4) left.words) e)
-
 -- The parts of a room are the lists that stand in it.
 pub parts_are : (lists : List (List ℕ)) (ends : List ℕ) (at : ℕ) (room rest : List ℕ) → drop at room ≡ flat lists ++ rest → Steps at (map length lists) ends → parts room at ends ≡ lists
 unfolding flat
@@ -257,10 +245,6 @@ front_fits xs ys room e = omega (arith, word_count-append xs ys, fit_count (xs +
 pub back_fits : {a b c d e : List ℕ} {r₀ r₁ : List ℕ} {x : Ends} (ys : List (List ℕ)) → fit (a ∷ b ∷ c ∷ d ∷ e ∷ ys) r₀ ≡ true → Five a b c d e 0 r₀ r₁ x → x.fifth + word_count ys ≤ length r₁
 unfolding word_count
 back_fits {a} {b} {c} {d} {e} {r₀} ys fits l = omega (arith, fit_count (a ∷ b ∷ c ∷ d ∷ e ∷ ys) r₀ fits)
-
--- the place of a word in bytes
-pub scaled : {i n : ℕ} → i ≤ n → n * 4 < 9223372036854775808 → Fits w64 (i * 4)
-scaled h g = omega arith
 
 -- one list and five more
 module _ {b c d e f : List ℕ} {r₁ r₂ : List ℕ} {n : ℕ} {x : Ends} where

@@ -1,8 +1,5 @@
-use Rattle.balance.proofs.RowsLoops.{row_skipped, front_below}
+use Rattle.balance.proofs.RowsLoops.{front_below}
 use Rattle.balance.proofs.rows.accumulate_row.Goals as goal
-
-pub returns-then-u : goal.returns-then-u
-returns-then-u c = row_skipped _ _ c.requires.2 c.if-u.true
 
 pub add_tuples-requires : goal.add_tuples-requires
 add_tuples-requires c =

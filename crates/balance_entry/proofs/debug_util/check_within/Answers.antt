@@ -1,4 +1,4 @@
-use Rattle.std.proofs.Common.{not, ap, sym, ◌∙◌}
+use Rattle.std.proofs.Common.{rules, ◌≡◌, not, ap, sym, ◌∙◌, Ok, Err}
 use Rattle.balance.proofs.laws.Whole.{lists_covered, whole}
 use Rattle.balance_entry.proofs.DebugUtilLoops.{unfit, refused, nothing, answered}
 use Rattle.balance_entry.proofs.debug_util.check_within.Goals as goal
@@ -6,18 +6,21 @@ use Rattle.balance_entry.proofs.debug_util.check_within.Goals as goal
 pub returns-then-not-lists_fit : goal.returns-then-not-lists_fit
 returns-then-not-lists_fit c = unfit _ _ _ _ c.lists_fit.ensures (ap not c.if-not-lists_fit.true)
 
-pub tables_verdict-v-requires : goal.tables_verdict-v-requires
-tables_verdict-v-requires c =
+pub tables_verdict-requires : goal.tables_verdict-requires
+tables_verdict-requires c =
     (c.requires.0, lists_covered _ _ c.requires.0 (sym c.lists_fit.ensures ∙ c.if-not-lists_fit.false))
 
-pub returns-then-not-accepted : goal.returns-then-not-accepted
-returns-then-not-accepted c =
-    refused _ _ _ _ c.tables_verdict-v.result c.lists_fit.ensures (ap not c.if-not-lists_fit.false) c.tables_verdict-v.ensures c.accepted.ensures (ap not c.if-not-accepted.true)
+pub returns-in_err-tables_verdict : goal.returns-in_err-tables_verdict
+returns-in_err-tables_verdict c =
+    let e : c.from_residual.result ≡ Err c.in_err-tables_verdict.field-0.0 = search rules in
+    refused _ _ _ _ c.lists_fit.ensures (ap not c.if-not-lists_fit.false) c.tables_verdict.ensures c.in_err-tables_verdict.was e
 
-pub check_groups-checked-requires : goal.check_groups-checked-requires
-check_groups-checked-requires c =
-    whole _ _ _ c.requires.0 c.requires.1 (nothing _ _ _ c.args.workspace.now c.tables_verdict-v.result c.lists_fit.ensures (ap not c.if-not-lists_fit.false) c.tables_verdict-v.ensures c.accepted.ensures (ap not c.if-not-accepted.false))
+pub check_groups-requires : goal.check_groups-requires
+check_groups-requires c =
+    let passed : c.tables_verdict.result ≡ Ok tt = search rules in
+    whole _ _ _ c.requires.0 c.requires.1 (nothing _ _ _ c.args.workspace.now c.lists_fit.ensures (ap not c.if-not-lists_fit.false) c.tables_verdict.ensures passed)
 
 pub returns : goal.returns
 returns c =
-    answered _ _ _ _ c.requires.0 c.requires.1 (nothing _ _ _ c.args.workspace.now c.tables_verdict-v.result c.lists_fit.ensures (ap not c.if-not-lists_fit.false) c.tables_verdict-v.ensures c.accepted.ensures (ap not c.if-not-accepted.false)) c.check_groups-checked.ensures
+    let passed : c.tables_verdict.result ≡ Ok tt = search rules in
+    answered _ _ _ _ c.requires.0 c.requires.1 (nothing _ _ _ c.args.workspace.now c.lists_fit.ensures (ap not c.if-not-lists_fit.false) c.tables_verdict.ensures passed) c.check_groups.ensures

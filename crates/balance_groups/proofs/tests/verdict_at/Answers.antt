@@ -123,42 +123,42 @@ pub slice_bounds-table_verdict-end-10 : goal.slice_bounds-table_verdict-end-10
 slice_bounds-table_verdict-end-10 c =
     (lies c.requires.1 c.requires.2 c.table_ranges-ranges.ensures).elements_end
 
-pub offset_bounds-main-main_start : goal.offset_bounds-main-main_start
-offset_bounds-main-main_start c =
+pub offset_bounds-main-ranges : goal.offset_bounds-main-ranges
+offset_bounds-main-ranges c =
     let r = lies c.requires.1 c.requires.2 c.table_ranges-ranges.ensures in omega (arith, r.main, r.main_end)
 
-pub offset_bounds-preprocessed-preprocessed_start : goal.offset_bounds-preprocessed-preprocessed_start
-offset_bounds-preprocessed-preprocessed_start c =
+pub offset_bounds-preprocessed-ranges : goal.offset_bounds-preprocessed-ranges
+offset_bounds-preprocessed-ranges c =
     let r = lies c.requires.1 c.requires.2 c.table_ranges-ranges.ensures in omega (arith, r.preprocessed, r.preprocessed_end)
 
-pub offset_bounds-public_values-public_values_start : goal.offset_bounds-public_values-public_values_start
-offset_bounds-public_values-public_values_start c =
+pub offset_bounds-public_values-ranges : goal.offset_bounds-public_values-ranges
+offset_bounds-public_values-ranges c =
     let r = lies c.requires.1 c.requires.2 c.table_ranges-ranges.ensures in omega (arith, r.public_values, r.public_values_end)
 
-pub offset_bounds-nodes-nodes_start : goal.offset_bounds-nodes-nodes_start
-offset_bounds-nodes-nodes_start c =
+pub offset_bounds-nodes-ranges : goal.offset_bounds-nodes-ranges
+offset_bounds-nodes-ranges c =
     let r = lies c.requires.1 c.requires.2 c.table_ranges-ranges.ensures in omega (arith, r.nodes, r.nodes_end)
 
-pub offset_bounds-lookups-lookups_start : goal.offset_bounds-lookups-lookups_start
-offset_bounds-lookups-lookups_start c =
+pub offset_bounds-lookups-ranges : goal.offset_bounds-lookups-ranges
+offset_bounds-lookups-ranges c =
     let r = lies c.requires.1 c.requires.2 c.table_ranges-ranges.ensures in omega (arith, r.lookups, r.lookups_end)
 
-pub offset_bounds-tuples-tuples_start : goal.offset_bounds-tuples-tuples_start
-offset_bounds-tuples-tuples_start c =
+pub offset_bounds-tuples-ranges : goal.offset_bounds-tuples-ranges
+offset_bounds-tuples-ranges c =
     let r = lies c.requires.1 c.requires.2 c.table_ranges-ranges.ensures in omega (arith, r.tuples, r.tuples_end)
 
-pub offset_bounds-multiplicities-multiplicities_start : goal.offset_bounds-multiplicities-multiplicities_start
-offset_bounds-multiplicities-multiplicities_start c =
+pub offset_bounds-multiplicities-ranges : goal.offset_bounds-multiplicities-ranges
+offset_bounds-multiplicities-ranges c =
     let r = lies c.requires.1 c.requires.2 c.table_ranges-ranges.ensures in omega (arith, r.multiplicities, r.multiplicities_end)
 
-pub offset_bounds-flags-flags_start : goal.offset_bounds-flags-flags_start
-offset_bounds-flags-flags_start c =
+pub offset_bounds-flags-ranges : goal.offset_bounds-flags-ranges
+offset_bounds-flags-ranges c =
     let r = lies c.requires.1 c.requires.2 c.table_ranges-ranges.ensures in omega (arith, r.flags, r.flags_end)
 
-pub offset_bounds-elements-elements_start : goal.offset_bounds-elements-elements_start
-offset_bounds-elements-elements_start c =
+pub offset_bounds-elements-ranges : goal.offset_bounds-elements-ranges
+offset_bounds-elements-ranges c =
     let r = lies c.requires.1 c.requires.2 c.table_ranges-ranges.ensures in omega (arith, r.elements, r.elements_end)
 
 pub returns : goal.returns
 returns c =
-    verdict_is _ _ (lies c.requires.1 c.requires.2 c.table_ranges-ranges.ensures) c.shape_of-shape.ensures c.table_verdict.ensures
+    verdict_is _ _ (lies c.requires.1 c.requires.2 c.table_ranges-ranges.ensures) c.shape_of.ensures c.table_verdict.ensures

@@ -1,12 +1,9 @@
-use Rattle.balance_slots.proofs.ChainsLoops.{step-full, step_skip, step-add}
+use Rattle.balance_slots.proofs.ChainsLoops.{step_skip, step-add}
 use Rattle.balance_slots.proofs.add.add.Goals as goal
 
-pub returns-then-v : goal.returns-then-v
-returns-then-v c = step-full _ _ _ c.requires.2 c.if-v.true
-
 pub returns-then-count-eq0 : goal.returns-then-count-eq0
-returns-then-count-eq0 c = step_skip _ _ _ c.requires.2 c.if-v.false c.if-count-eq0.true
+returns-then-count-eq0 c = step_skip _ _ _ c.requires.2 c.if-count-eq0.true
 
 pub returns : goal.returns
 returns c =
-    step-add _ _ _ _ _ c.if-v.false c.if-count-eq0.false c.add_nonzero.ensures
+    step-add _ _ _ _ _ c.if-count-eq0.false c.add_nonzero.ensures

@@ -1,14 +1,12 @@
 use Rattle.balance_slots.proofs.GroupRefusalLoops.{refusal-full, refusal-named, refusal_none}
-use mathlib.Core.Path.{refl, ◌∙◌}
+use mathlib.Core.Path.{◌∙◌}
 use Rattle.balance_slots.proofs.group_refusal.group_refusal.Goals as goal
 
-pub returns-then-u : goal.returns-then-u
-returns-then-u c = refusal-full _ _ _ c.if-u.true
+pub returns-in_default : goal.returns-in_default
+returns-in_default c = refusal-full _ _ _ c.in_default.is
 
-pub returns-then-b : goal.returns-then-b
-returns-then-b c =
-    refusal-named _ _ _ c.if-u.false c.least-b.ensures.0 c.if-b.true refl (c.to_u64-net.ensures.0 ∙
-    c.word_at.ensures)
+pub returns-in-Some-least : goal.returns-in-Some-least
+returns-in-Some-least c = refusal-named _ _ c.in-Some.is c.least.ensures.0 c.in-Some-least.is (c.from-net.ensures ∙ c.word_at.ensures)
 
-pub returns : goal.returns
-returns c = refusal_none _ _ _ c.if-u.false c.least-b.ensures.0 c.if-b.false
+pub returns-in-None : goal.returns-in-None
+returns-in-None c = refusal_none _ _ c.in-Some.is c.least.ensures.0 c.in-None.is

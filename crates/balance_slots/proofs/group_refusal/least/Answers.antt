@@ -6,4 +6,4 @@ pub loop-k-init : goal.loop-k-init
 loop-k-init c = least_loop_begins
 
 pub loop-k-preserved : goal.loop-k-preserved
-loop-k-preserved c = least_loop_turn c.loop-k.invariant (search rules) c.better-next.ensures
+loop-k-preserved c = least_loop_turn c.loop-k.invariant (search rules) c.better-b.ensures

@@ -1,9 +1,5 @@
 use Rattle.balance_slots.proofs.GroupRefusalLoops.{LeastLoop}
-use Prim.Native.Nat.{◌-◌}
 use Rattle.balance_slots.proofs.group_refusal.least.Given as goal
 
 abbrev pub invariant-loop-k : goal.invariant-loop-k
 invariant-loop-k l = LeastLoop l.workspace l.n l.k l.b
-
-abbrev pub decreases-loop-k : goal.decreases-loop-k
-decreases-loop-k l = l.n - l.k

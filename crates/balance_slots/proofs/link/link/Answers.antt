@@ -1,4 +1,5 @@
 use Rattle.balance_slots.proofs.ChainsLoops.{link_low, link_is}
+use mathlib.Core.Path.{refl}
 use native.Mathlib.Omega.{arith}
 use Rattle.balance_slots.proofs.link.link.Goals as goal
 
@@ -12,4 +13,4 @@ overflow_add-workspace c =
 
 pub returns : goal.returns
 returns c =
-    link_is c.requires.0 c.requires.1 c.if-width-gt8.false c.to_usize.ensures.0 c.hash-h.ensures
+    link_is c.requires.0 c.requires.1 c.if-width-gt8.false refl c.hash-h.ensures

@@ -4,7 +4,8 @@ use mir.ValLaws.{to_z-of_z}
 use Rattle.expression.specs.Choices.{choices_of}
 use Rattle.lookup_count.specs.Count.{Outcome, from_i32_at}
 use Rattle.lookup_count.specs.laws.Count.{in_numbers_injective}
-use Rattle.delmatik_answers.specs.Count.{count_refused, counted_words}
+use Rattle.delmatik_answers.specs.Refused.{refused}
+use Rattle.delmatik_answers.specs.Count.{counted_words}
 use Rattle.delmatik.specs.Exports.{exported_count, exported_verdict}
 use Rattle.delmatik.proofs.Answered.{verdict_is}
 use Rattle.delmatik.proofs.count.delmatik_count_from_i32.Goals as goal
@@ -16,6 +17,6 @@ returns c =
     let lent = args.count.now in
     let choices = choices_of args.field args.profile in
     let o = in_numbers_injective _ _ c.from_i32-a.ensures ∙ ap (from_i32_at choices args.nodes.now args.used) (to_z-of_z w32 args.x c.ranges.x) in
-    let v = verdict_is c.write_answer.ensures (c.count_verdict.ensures ∙ ap (λ (x : Outcome). count_refused x.answer) o) in
+    let v = verdict_is c.write_answer.ensures (c.verdict.ensures ∙ ap (λ (x : Outcome). refused x.answer) o) in
     let written = c.write_counted.ensures ∙ ap (λ (x : Outcome). counted_words x.answer lent) o in
     λ i. record { number = (v i).number; details = (v i).details; count = written i; nodes = (o i).nodes }

@@ -1,10 +1,7 @@
+use mathlib.Core.Path.{ap, ◌∙◌}
+use Rattle.expression.specs.Refusal.{answer_details}
+use Rattle.delmatik_answers.specs.laws.Generation.{details_are}
 use Rattle.delmatik_answers.proofs.generated.generation_details.Goals as goal
 
-pub returns-in-Terminal : goal.returns-in-Terminal
-returns-in-Terminal c = rw c.in-Terminal.is
-
-pub returns-in-Absent : goal.returns-in-Absent
-returns-in-Absent c = rw c.in-Absent.is
-
-pub returns-in-Refused : goal.returns-in-Refused
-returns-in-Refused c = rw c.in-Refused.is c.details.ensures
+pub returns : goal.returns
+returns c = c.details.ensures ∙ ap answer_details c.verdict.ensures ∙ details_are c.args.g

@@ -21,6 +21,8 @@ use mathlib.Core.Option.{Option}
 use mathlib.Core.List.{List}
 use lib.ListN.{length}
 use mathlib.Core.Path.{◌≡◌, sym, ap, ap₂, ◌∙◌}
+use Rattle.std.specs.Prelude.{Err}
+use borrow.Author.Rules.{rules}
 use Rattle.delmatik_bytes.proofs.pack_same_bus.pack_in.Goals as goal
 
 -- the test by the ends of the parts is that of the lists in them
@@ -39,14 +41,14 @@ returns-then-not-counts_hold c =
     let a = c.args in
     outcome_is (answer-small _ _ _ _ _ _ _ (hold_so _ a.out_room.now a.names_out.now a.out_ends c.requires.1 c.counts_hold.ensures) c.if-not-counts_hold.true)
 
-pub form_refusal-v-requires : goal.form_refusal-v-requires
-form_refusal-v-requires c = rw c.limits_of-limits.ensures (limits_sane _)
+pub form_refusal-requires : goal.form_refusal-requires
+form_refusal-requires c = rw c.limits_of-limits.ensures (limits_sane _)
 
 pub pack_formed-requires : goal.pack_formed-requires
 pack_formed-requires c =
     let a = c.args in
     let sane = limits_sane a.choices.profile in
-    let none_refused = sym (form_so a.columns _ _ c.limits_of-limits.ensures c.prime_of.ensures c.form_refusal-v.ensures) ∙ ap refusal c.in-Accepted.is in
+    let none_refused = sym (form_so a.columns _ _ c.limits_of-limits.ensures c.prime_of.ensures c.form_refusal.ensures) ∙ ap refusal c.in_ok-form_refusal.was in
     let form = formed _ _ _ _ _ sane none_refused in (
       rw c.limits_of-limits.ensures form,
       whole _ _ _ _ _ sane form none_refused,
@@ -54,16 +56,17 @@ pack_formed-requires c =
       held _ _ (hold_so _ a.out_room.now a.names_out.now a.out_ends c.requires.1 c.counts_hold.ensures) c.if-not-counts_hold.false,
     )
 
-pub returns-in-Refused : goal.returns-in-Refused
-returns-in-Refused c =
+pub returns-in_err-form_refusal : goal.returns-in_err-form_refusal
+returns-in_err-form_refusal c =
     let a = c.args in
-    outcome_is (answer-refused _ _ _ _ _ _ _ (hold_so _ a.out_room.now a.names_out.now a.out_ends c.requires.1 c.counts_hold.ensures) c.if-not-counts_hold.false
-    (form_so a.columns _ _ c.limits_of-limits.ensures c.prime_of.ensures c.form_refusal-v.ensures) c.in-Refused.is)
+    let e : c.from_residual.result ≡ Err c.in_err-form_refusal.field-0.0 = search rules in
+    rw e (outcome_is (answer-refused _ _ _ _ _ _ _ (hold_so _ a.out_room.now a.names_out.now a.out_ends c.requires.1 c.counts_hold.ensures) c.if-not-counts_hold.false
+    (form_so a.columns _ _ c.limits_of-limits.ensures c.prime_of.ensures c.form_refusal.ensures) c.in_err-form_refusal.was))
 
-pub returns-in-Accepted : goal.returns-in-Accepted
-returns-in-Accepted c =
+pub returns : goal.returns
+returns c =
     let a = c.args in
     let o = c.pack_formed.ensures in
     outcome_is (answer_formed _ _ _ _ _ _ _ (hold_so _ a.out_room.now a.names_out.now a.out_ends c.requires.1 c.counts_hold.ensures) c.if-not-counts_hold.false
-    (form_so a.columns _ _ c.limits_of-limits.ensures c.prime_of.ensures c.form_refusal-v.ensures) c.in-Accepted.is
+    (form_so a.columns _ _ c.limits_of-limits.ensures c.prime_of.ensures c.form_refusal.ensures) c.in_ok-form_refusal.was
     (ap (λ (z : Outcome). z.answer) o, ap (λ (z : Outcome). z.lists) o))

@@ -23,8 +23,8 @@ overflow_mul-used c = used-fits c.requires.0.numbered.few c.requires.0.numbered.
 pub copy-requires : goal.copy-requires
 copy-requires c = front-short c.args.plan.words c.requires.0.lookups
 
-pub write_names-requires : goal.write_names-requires
-write_names-requires c = (c.requires.0.numbered.parted, c.requires.0.numbered.heads, names-room _ c.requires.0.fitting, c.requires.0.names)
+pub write_list-requires : goal.write_list-requires
+write_list-requires c = (c.requires.0.numbered.parted, c.requires.0.numbered.heads, names-room _ c.requires.0.fitting, c.requires.0.names)
 
 pub write_at-requires : goal.write_at-requires
 write_at-requires c =
@@ -78,4 +78,4 @@ returns c =
     (plan_words a.plan (lent_lookups a.lookups.now a.names.now a.tuples.now a.multiplicities.now a.flags.now a.elements.now)) a.names_out.now
     refl c.write_at.ensures c.write_at-2.ensures c.write_at-3.ensures c.write_at-4.ensures
     (front-short a.plan.words c.requires.0.lookups) c.requires.0.tuples c.requires.0.multiplicities c.requires.0.flags c.requires.0.elements
-    c.copy.ensures refl refl refl refl c.write_names.ensures
+    c.copy.ensures refl refl refl refl c.write_list.ensures

@@ -4,12 +4,12 @@ use Rattle.lists.specs.laws.Turns.{test_begins, test_turn, test_ends}
 use borrow.Author.Rules.{rules}
 use Rattle.expression.proofs.words.all_within.Goals as goal
 
-pub loop-i-init : goal.loop-i-init
-loop-i-init c = test_begins
+pub loop-x-init : goal.loop-x-init
+loop-x-init c = test_begins
 
-pub loop-i-preserved : goal.loop-i-preserved
-loop-i-preserved c = test_turn c.loop-i.invariant (search rules) refl
+pub loop-x-preserved : goal.loop-x-preserved
+loop-x-preserved c = test_turn c.loop-x.invariant (search rules) refl
 
 pub returns : goal.returns
 unfolding all_within
-returns c = test_ends c.loop-i.invariant (search rules)
+returns c = test_ends c.loop-x.invariant (search rules)

@@ -1,5 +1,4 @@
 use Rattle.lists.specs.laws.Turns.{sum-begins, sum_turn}
-use mathlib.Core.Path.{◌∙◌}
 use borrow.Author.Rules.{rules}
 use Rattle.expression.proofs.words.total_of.Goals as goal
 
@@ -7,4 +6,4 @@ pub loop-i-init : goal.loop-i-init
 loop-i-init c = sum-begins
 
 pub loop-i-preserved : goal.loop-i-preserved
-loop-i-preserved c = sum_turn c.to_usize-w.result c.loop-i.invariant (search rules) c.to_usize-w.ensures.1 (c.to_usize-w.ensures.0 ∙ c.word_at.ensures)
+loop-i-preserved c = sum_turn c.word_at.result c.loop-i.invariant (search rules) (search rules) c.word_at.ensures

@@ -1,12 +1,8 @@
 use Rattle.expression_eval.proofs.EvaluateLoops.{Filling}
 use Rattle.expression.specs.Node.{node_count}
 use Rattle.expression.specs.Window.{lent_traces, window}
-use Prim.Native.Nat.{◌-◌}
 use Rattle.expression_eval.proofs.traits.pair_values.Given as goal
 
 abbrev pub invariant-loop-i : goal.invariant-loop-i
 invariant-loop-i l = Filling l.p l.nodes (window (lent_traces l.shape l.main l.preprocessed l.public_values) l.r) (node_count l.nodes) l.vals l.i
     × Filling l.p l.nodes (window (lent_traces l.shape l.main l.preprocessed l.public_values) l.next) (node_count l.nodes) l.next_vals l.i
-
-abbrev pub decreases-loop-i : goal.decreases-loop-i
-decreases-loop-i l = l.n - l.i

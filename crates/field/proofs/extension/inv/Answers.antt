@@ -10,5 +10,5 @@ unfolding inverse4
 returns c =
     let s = c.args in (
       c.cofactor_times.ensures.0,
-      c.cofactor_times.ensures.1 ∙ ap (λ (i : ℕ). mul4 s.p s.w (cofactor s.p s.w (ext_words s.a)) (lift i)) (c.inv-i.ensures.1 ∙ ap (inverse1 s.p) c.norm_of-m.ensures.1),
+      c.cofactor_times.ensures.1 ∙ ap (λ (i : ℕ). mul4 s.p s.w (cofactor s.p s.w (ext_words s.a)) (lift i)) (c.inv-i.ensures.1 ∙ ap (inverse1 s.p) c.norm_of.ensures.1),
     )

@@ -1,7 +1,7 @@
+use mathlib.Core.Bool.{and_assoc}
 use Rattle.field.specs.Element.{same4}
-use mathlib.Core.Path.{refl}
 use Rattle.field.proofs.extension.same.Goals as goal
 
 pub returns : goal.returns
 unfolding same4
-returns c = refl
+returns c = simp and_assoc c.eq.ensures

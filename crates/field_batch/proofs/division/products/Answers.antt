@@ -6,23 +6,23 @@ use borrow.Author.Rules.{rules}
 use Rattle.field_batch.proofs.division.products.Goals as goal
 
 pub loop-j-init : goal.loop-j-init
-loop-j-init c = multiplying_begins c.requires.0 (search rules) refl c.requires.1
+loop-j-init g c = multiplying_begins c.requires.0 (search rules) refl c.requires.1
 
 pub keep-k-requires : goal.keep-k-requires
-keep-k-requires c = (
+keep-k-requires g c = (
   c.requires.0.modulus,
   c.requires.0.low,
   c.requires.0.certificate,
-  subst (Word4 c.args.p) (sym c.load.ensures) (word-element _ _ c.requires.0.ds_below),
+  subst (Word4 g.row.P) (sym c.load.ensures) (word-element _ _ c.requires.0.ds_below),
 )
 
 pub times-product-requires : goal.times-product-requires
-times-product-requires c = (
+times-product-requires g c = (
   c.requires.0.modulus,
   multiplying_factor c.loop-j.invariant c.loop-j-test.true refl c.load.ensures c.keep-k.ensures,
   c.loop-j.invariant.below,
 )
 
 pub loop-j-preserved : goal.loop-j-preserved
-loop-j-preserved c =
+loop-j-preserved g c =
     multiplying_turn c.loop-j.invariant c.loop-j-test.true refl c.load.ensures c.keep-k.ensures _ c.store.ensures c.times-product.ensures

@@ -1,9 +1,5 @@
 use Rattle.logup_column.proofs.FlagsLoops.{StartLoop}
-use Prim.Native.Nat.{◌-◌}
 use Rattle.logup_column.proofs.column.start_of.Given as goal
 
 abbrev pub invariant-loop-j : goal.invariant-loop-j
 invariant-loop-j l = StartLoop l.widths l.nodes l.to l.at l.j
-
-abbrev pub decreases-loop-j : goal.decreases-loop-j
-decreases-loop-j l = l.to - l.j

@@ -8,10 +8,9 @@ loop-k-init c =
     terms_begin c.requires.3 (omega (arith, c.well_formed)) (omega (arith, c.well_formed)) refl c.requires.4 c.requires.5
 
 pub slice_bounds-term_of-end : goal.slice_bounds-term_of-end
-slice_bounds-term_of-end c =
-    terms_in c.loop-k.invariant c.loop-k-test.true c.size_at.ensures.0
+slice_bounds-term_of-end c = terms_in c.loop-k.invariant c.loop-k-test.true refl
 
 pub loop-k-preserved : goal.loop-k-preserved
 loop-k-preserved c =
-    terms_turn c.loop-k.invariant c.loop-k-test.true _ c.value-m.ensures c.size_at.ensures.0
-    c.contributes_nothing-nothing.ensures c.term_of-t.ensures c.store.ensures c.is_zero.ensures c.either-zero.ensures
+    terms_turn c.loop-k.invariant c.loop-k-test.true _ c.value-m.ensures refl c.contributes_nothing-nothing.ensures
+    c.term_of-t.ensures c.store.ensures c.is_zero-zero.ensures refl

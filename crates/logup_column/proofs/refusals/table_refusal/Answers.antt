@@ -1,5 +1,8 @@
 use Rattle.expression.specs.Refusal.{refusal}
-use Rattle.logup_column.proofs.RefusalsLoops.{table-nodes, table_1, table_2, table-rest}
+use mathlib.Core.Path.{◌≡◌, refl, ap, ◌∙◌}
+use borrow.Author.Rules.{rules}
+use Rattle.std.specs.Prelude.{Err}
+use Rattle.logup_column.proofs.RefusalsLoops.{table-nodes, table_1, table_2, table-rest, stopped, went_on}
 use Rattle.logup_column.proofs.refusals.table_refusal.Goals as goal
 
 pub returns-then-not-sized-fit : goal.returns-then-not-sized-fit
@@ -16,8 +19,15 @@ pub position_refusal-requires : goal.position_refusal-requires
 position_refusal-requires c =
     table-nodes _ _ _ c.sizes-sized.ensures c.if-not-sized-fit.false c.requires
 
+pub returns-in_err-nodes_refusal : goal.returns-in_err-nodes_refusal
+returns-in_err-nodes_refusal c =
+    let e : c.from_residual.result ≡ Err c.in_err-nodes_refusal.field-0.0 = search rules in
+    ap refusal e ∙ table-rest _ _ _ _ _ c.sizes-sized.ensures c.if-not-sized-fit.false (c.words_below-below.ensures _ _)
+    (refusal c.nodes_refusal.result) _ c.if-not-below-low.false
+    c.nodes_refusal.ensures refl (stopped _ c.in_err-nodes_refusal.was)
+
 pub returns : goal.returns
 returns c =
     table-rest _ _ _ _ _ c.sizes-sized.ensures c.if-not-sized-fit.false (c.words_below-below.ensures _ _)
     (refusal c.nodes_refusal.result) (refusal c.position_refusal.result) c.if-not-below-low.false
-    c.nodes_refusal.ensures (c.position_refusal.ensures _ _) c.first.ensures
+    c.nodes_refusal.ensures (c.position_refusal.ensures _ _) (went_on _ c.in_ok-nodes_refusal.was)

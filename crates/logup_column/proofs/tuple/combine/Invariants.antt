@@ -1,9 +1,5 @@
-use Prim.Native.Nat.{◌-◌}
 use Rattle.logup_column.proofs.CombineLoops.{CombineLoop}
 use Rattle.logup_column.proofs.tuple.combine.Given as goal
 
 abbrev pub invariant-loop-j : goal.invariant-loop-j
 invariant-loop-j l = CombineLoop l.p l.w l.powers l.vals l.nodes l.k l.j l.sum
-
-abbrev pub decreases-loop-j : goal.decreases-loop-j
-decreases-loop-j l = l.k - l.j

@@ -1,4 +1,6 @@
-use mathlib.Core.Path.{sym, ap, ◌∙◌}
+use mathlib.Core.Path.{◌≡◌, sym, ap, ◌∙◌}
+use borrow.Author.Rules.{rules}
+use Rattle.std.specs.Prelude.{Err}
 use Rattle.expression.specs.Refusal.{refusal}
 use Rattle.logup_generation.proofs.Finishing.{refused_is, absent_is, rows_are}
 use Rattle.logup_column.specs.laws.Refusals.{accepted-answer, refused-answer}
@@ -7,21 +9,22 @@ use Rattle.logup_generation.proofs.generate_permutation.generate_permutation.Goa
 
 pub generate_rows-requires : goal.generate_rows-requires
 generate_rows-requires c =
-    let k = c.entry_refusal-verdict.ensures.1 (ap refusal c.in-Accepted.is) in
-    rows-ready _ c.requires.0 c.requires.1 k.0 (sym c.has_lookups.ensures ∙ c.if-has_lookups.true) k.1
+    let k = c.entry_refusal.ensures.1 (ap refusal c.in_ok-entry_refusal.was) in
+    rows-ready _ c.requires.0 c.requires.1 k.0 (sym c.has_lookups.ensures ∙ c.if-not-has_lookups.false) k.1
 
-pub returns-in-Refused : goal.returns-in-Refused
-returns-in-Refused c =
-    refused_is c.args.rule _ _ _ _ _ _ _ (sym (refused-answer _ c.in-Refused.is (c.entry_refusal-verdict.ensures.0 ∙ entry_is _
-    _ c.args.w _ c.args.challenges.now c.args.trace.now)))
+pub returns-in_err-entry_refusal : goal.returns-in_err-entry_refusal
+returns-in_err-entry_refusal c =
+    let e : c.from_residual.result ≡ Err c.in_err-entry_refusal.field-0.0 = search rules in
+    rw e (refused_is c.args.rule _ _ _ _ _ _ _ (sym (refused-answer _ c.in_err-entry_refusal.was (c.entry_refusal.ensures.0 ∙ entry_is _
+    _ c.args.w _ c.args.challenges.now c.args.trace.now))))
 
-pub returns-then-has_lookups : goal.returns-then-has_lookups
-returns-then-has_lookups c =
-    rows_are c.args.rule _ _ _ _ _ _ (sym (accepted-answer c.in-Accepted.is (c.entry_refusal-verdict.ensures.0 ∙ entry_is _ _ c.args.w _
-    c.args.challenges.now c.args.trace.now))) (sym c.has_lookups.ensures ∙ c.if-has_lookups.true)
+pub returns : goal.returns
+returns c =
+    rows_are c.args.rule _ _ _ _ _ _ (sym (accepted-answer c.in_ok-entry_refusal.was (c.entry_refusal.ensures.0 ∙ entry_is _ _ c.args.w _
+    c.args.challenges.now c.args.trace.now))) (sym c.has_lookups.ensures ∙ c.if-not-has_lookups.false)
     (c.generate_rows.ensures c.args.limits c.args.names.now)
 
-pub returns-else-has_lookups : goal.returns-else-has_lookups
-returns-else-has_lookups c =
-    absent_is c.args.rule _ _ _ _ _ _ (sym (accepted-answer c.in-Accepted.is (c.entry_refusal-verdict.ensures.0 ∙ entry_is _ _
-    c.args.w _ c.args.challenges.now c.args.trace.now))) (sym c.has_lookups.ensures ∙ c.if-has_lookups.false)
+pub returns-then-not-has_lookups : goal.returns-then-not-has_lookups
+returns-then-not-has_lookups c =
+    absent_is c.args.rule _ _ _ _ _ _ (sym (accepted-answer c.in_ok-entry_refusal.was (c.entry_refusal.ensures.0 ∙ entry_is _ _
+    c.args.w _ c.args.challenges.now c.args.trace.now))) (sym c.has_lookups.ensures ∙ c.if-not-has_lookups.true)

@@ -1,4 +1,5 @@
 use native.Mathlib.Omega.{arith}
+use Rattle.logup_column.specs.laws.Refusals.{and_refusal}
 use Rattle.logup_rows.proofs.PairLoops.{lent, first-row, one_row, two_rows}
 use Rattle.logup_rows.proofs.pair.write_pair.Goals as goal
 
@@ -15,4 +16,4 @@ returns c =
     (omega (arith, c.well_formed)) c.requires.4 c.requires.6 c.requires.7) c.requires.0.lists.fitting.tuples
     c.write_row_terms-fault.ensures in
     two_rows t c.if-n-lt2.false c.requires.5 _ c.write_row_terms-other.result c.write_row_terms-other.ensures c.write_row_terms-fault.result
-    c.first.result c.write_row_terms-fault.ensures.fault≡ c.first.ensures
+    c.and.result c.write_row_terms-fault.ensures.fault≡ (and_refusal c.write_row_terms-fault.result c.write_row_terms-other.result c.and.ensures)

@@ -1,9 +1,5 @@
 use Rattle.logup_rows.proofs.RowLoops.{LookupsLoop}
-use Prim.Native.Nat.{◌-◌}
 use Rattle.logup_rows.proofs.row.write_row_terms.Given as goal
 
 abbrev pub invariant-loop-i : goal.invariant-loop-i
 invariant-loop-i l = LookupsLoop l.p l.w l.lookups l.tuples l.multiplicities l.flags l.elements l.challenges l.vals l.r l.initial.term_multiplicities l.initial.term_denominators l.n l.term_multiplicities l.term_denominators l.verdict l.at l.i
-
-abbrev pub decreases-loop-i : goal.decreases-loop-i
-decreases-loop-i l = l.n - l.i

@@ -1,9 +1,5 @@
 use Rattle.logup_rows.proofs.SumLoops.{SumLoop}
-use Prim.Native.Nat.{◌-◌}
 use Rattle.logup_rows.proofs.writing.sum_of.Given as goal
 
 abbrev pub invariant-loop-k : goal.invariant-loop-k
 invariant-loop-k l = SumLoop l.p l.quotients l.at l.n l.sum l.k
-
-abbrev pub decreases-loop-k : goal.decreases-loop-k
-decreases-loop-k l = l.n - l.k

@@ -1,6 +1,6 @@
 use Rattle.logup_rows.proofs.SumLoops.{put_length, fractions_loop_begins, fractions_loop_room, fractions_loop_turn, fractions_loop_ends}
 use native.Mathlib.Omega.{arith}
-use mathlib.Core.Path.{refl, ◌∙◌}
+use mathlib.Core.Path.{refl}
 use borrow.Author.Rules.{rules}
 use Rattle.logup_rows.proofs.writing.write_row.Goals as goal
 
@@ -12,21 +12,20 @@ loop-i-init c =
 pub sum_of-fraction-requires : goal.sum_of-fraction-requires
 sum_of-fraction-requires c = (
   c.requires.0,
-  fractions_loop_room c.loop-i.invariant c.loop-i-test.true (c.to_usize-count.ensures.0 ∙
-      c.tuple_count.ensures),
+  fractions_loop_room c.loop-i.invariant c.loop-i-test.true c.tuple_count-count.ensures,
 )
 
 pub overflow_add-at : goal.overflow_add-at
 overflow_add-at c =
     omega (
       arith,
-      fractions_loop_room c.loop-i.invariant c.loop-i-test.true (c.to_usize-count.ensures.0 ∙ c.tuple_count.ensures),
+      fractions_loop_room c.loop-i.invariant c.loop-i-test.true c.tuple_count-count.ensures,
       c.loop-i.invariant.cap_q,
     )
 
 pub loop-i-preserved : goal.loop-i-preserved
 loop-i-preserved c =
-    fractions_loop_turn c.loop-i.invariant c.loop-i-test.true _ (c.to_usize-count.ensures.0 ∙ c.tuple_count.ensures)
+    fractions_loop_turn c.loop-i.invariant c.loop-i-test.true _ c.tuple_count-count.ensures
     c.sum_of-fraction.ensures.1 c.store-in-loop-i.ensures c.add-sum.ensures
 
 pub returns : goal.returns

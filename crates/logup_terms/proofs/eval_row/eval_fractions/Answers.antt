@@ -1,6 +1,7 @@
-use Rattle.logup_terms.proofs.EvalRowLoops.{lookups_loop_begins, lookups_loop_turn}
+use Rattle.logup_terms.proofs.EvalRowLoops.{lookups_loop_begins, lookups_loop_turn, lookups_loop_stops, lookups_loop_ends}
 use Rattle.logup_column.specs.laws.Lookup.{element-word}
-use mathlib.Core.Path.{refl}
+use Rattle.std.specs.Prelude.{Err}
+use mathlib.Core.Path.{◌≡◌, refl}
 use native.Mathlib.Omega.{arith}
 use borrow.Author.Rules.{rules}
 use Rattle.logup_terms.proofs.eval_row.eval_fractions.Goals as goal
@@ -22,12 +23,21 @@ eval_fraction-value-requires c = (
   element-word _ c.requires.2 c.load-cell.ensures,
 )
 
+pub returns-in_err-must_vanish : goal.returns-in_err-must_vanish
+returns-in_err-must_vanish c =
+    let e : c.from_residual.result ≡ Err c.in_err-must_vanish.field-0.0 = search rules in
+    rw e
+    (lookups_loop_stops c.loop-i.invariant c.loop-i-test.true c.load-cell.ensures c.eval_fraction-value.ensures
+    c.in_err-must_vanish.ensures refl)
+
 pub add-sum-requires : goal.add-sum-requires
 add-sum-requires c =
     (c.requires.0.field.modulus, c.loop-i.invariant.word4, element-word _ c.requires.2 c.load-cell.ensures)
 
 pub loop-i-preserved : goal.loop-i-preserved
 loop-i-preserved c =
-    lookups_loop_turn c.must_vanish.result c.loop-i.invariant c.loop-i-test.true c.next_starts-end.ensures.0
-    c.load-cell.ensures c.eval_fraction-value.ensures c.must_vanish.ensures
-    c.first-verdict.ensures c.add-sum.ensures
+    lookups_loop_turn c.loop-i.invariant c.loop-i-test.true c.load-cell.ensures c.eval_fraction-value.ensures
+    c.in_ok-must_vanish.ensures refl c.next_starts-end.ensures.0 c.add-sum.ensures
+
+pub returns : goal.returns
+returns c = lookups_loop_ends c.loop-i.invariant (search rules)

@@ -1,9 +1,5 @@
 use Rattle.logup_terms.proofs.EvalRowLoops.{LookupsLoop}
-use Prim.Native.Nat.{◌-◌}
 use Rattle.logup_terms.proofs.eval_row.eval_fractions.Given as goal
 
 abbrev pub invariant-loop-i : goal.invariant-loop-i
-invariant-loop-i l = LookupsLoop l.p l.w l.lookups l.tuples l.multiplicities l.flags l.elements l.challenges l.vals l.words l.base l.r l.n l.sum l.verdict l.at l.i
-
-abbrev pub decreases-loop-i : goal.decreases-loop-i
-decreases-loop-i l = l.n - l.i
+invariant-loop-i l = LookupsLoop l.p l.w l.lookups l.tuples l.multiplicities l.flags l.elements l.challenges l.vals l.words l.base l.r l.n l.sum l.at l.i

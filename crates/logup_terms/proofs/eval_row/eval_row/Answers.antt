@@ -1,4 +1,7 @@
-use mathlib.Core.Path.{refl, sym}
+use Rattle.std.specs.Prelude.{Err}
+use mathlib.Core.Path.{◌≡◌, refl, sym}
+use mathlib.Core.Option.{none, some}
+use borrow.Author.Rules.{rules}
 use Rattle.logup_column.specs.laws.Lookup.{element-word}
 use Rattle.expression.specs.Refusal.{refusal}
 use Rattle.logup_terms.proofs.EvalRowsLoops.{next_in, row_is}
@@ -11,13 +14,18 @@ eval_accumulator-requires c = (
   c.requires.2.below,
   next_in _ c.requires.2 c.requires.5,
   c.requires.3,
-  c.eval_fractions-fractions.ensures.below,
+  c.in_ok-sum.ensures.below,
   c.requires.4,
   c.requires.6,
 )
 
+pub returns-in_err-sum : goal.returns-in_err-sum
+returns-in_err-sum c values h =
+    let f = c.in_err-sum.field-0.0 in
+    let e : c.from_residual.result ≡ Err f = search rules in
+    rw e (row_is _ _ _ _ values _ _ _ _ _ (some f) _ c.requires.5 (sym h) refl c.in_err-sum.ensures refl refl refl refl)
+
 pub returns : goal.returns
 returns c values h =
-    row_is _ _ _ _ values _ _ _ _ _ (refusal c.eval_fractions-fractions.result.verdict) (refusal c.eval_accumulator.result) c.requires.5
-    (sym h) c.eval_fractions-fractions.ensures.sum≡ c.eval_fractions-fractions.ensures.verdict≡
-    c.load-accumulator.ensures refl c.eval_accumulator.ensures c.first.ensures
+    row_is _ _ _ _ values _ _ _ _ _ none (refusal c.eval_accumulator.result) c.requires.5 (sym h) c.in_ok-sum.ensures.sum≡
+    c.in_ok-sum.ensures.verdict≡ c.load-accumulator.ensures refl c.eval_accumulator.ensures refl

@@ -1,6 +1,5 @@
-use mathlib.Core.Path.{sym, ap, ◌∙◌}
-use Rattle.lists.specs.Count.{or_else}
-use Rattle.expression.specs.Refusal.{refusal}
+use Rattle.std.proofs.Common.{Err, rules}
+use mathlib.Core.Path.{◌≡◌, sym, ◌∙◌}
 use Rattle.lookup.proofs.TestedSizes.{form_few_nodes}
 use Rattle.lookup.specs.Lookups.{lent_lookups}
 use Rattle.lookup.specs.Refusals.{nodes_refusal, lists_refusal, form_refusal}
@@ -35,6 +34,20 @@ lists_refusal-requires c =
     let own = lent_lookups args.lookups.now args.names.now args.tuples.now args.multiplicities.now args.flags.now args.elements.now in
     form_few_nodes args.limits args.columns args.nodes.now own c.requires (sym c.form_sizes.ensures ∙ c.if-not-form_sizes.false)
 
+pub returns-in_err-nodes_refusal : goal.returns-in_err-nodes_refusal
+unfolding form_refusal nodes_refusal
+returns-in_err-nodes_refusal c =
+    let e : c.from_residual.result ≡ Err c.in_err-nodes_refusal.field-0.0 = search rules in
+    rw (
+      e,
+      ← c.form_sizes.ensures,
+      c.if-not-form_sizes.false,
+      ← c.constants_below.ensures,
+      c.if-not-constants_below.false,
+      ← c.shape_of.ensures,
+    )
+    (c.in_err-nodes_refusal.ensures _)
+
 pub returns : goal.returns
 unfolding form_refusal nodes_refusal lists_refusal
 returns c =
@@ -45,5 +58,4 @@ returns c =
       c.if-not-constants_below.false,
       ← c.shape_of.ensures,
     )
-    (c.first.ensures ∙ ap (or_else (refusal c.nodes_refusal.result)) (c.lists_refusal.ensures c.args.names.now
-    c.args.tuples.now) ∙ c.nodes_refusal.ensures _)
+    (c.lists_refusal.ensures c.args.names.now c.args.tuples.now ∙ c.in_ok-nodes_refusal.ensures _)

@@ -1,6 +1,5 @@
-use mathlib.Core.Path.{sym, ap, ◌∙◌}
-use Rattle.lists.specs.Count.{or_else}
-use Rattle.expression.specs.Refusal.{refusal}
+use Rattle.std.proofs.Common.{Err, rules}
+use mathlib.Core.Path.{◌≡◌, sym, ◌∙◌}
 use Rattle.lookup.specs.laws.Tested.{few_nodes}
 use Rattle.lookup.specs.Table.{lent_table}
 use Rattle.lookup.specs.Lookups.{lent_lookups}
@@ -40,6 +39,21 @@ lists_refusal-requires c =
     few_nodes args.limits (lent_table args.shape args.main.now args.preprocessed.now args.public_values.now args.nodes.now own)
     c.requires (sym c.sizes.ensures ∙ c.if-not-sizes.false)
 
+pub returns-in_err-nodes_refusal : goal.returns-in_err-nodes_refusal
+unfolding table_refusal nodes_refusal known
+returns-in_err-nodes_refusal c =
+    let args = c.args in
+    let own = lent_lookups args.lookups.now args.names.now args.tuples.now args.multiplicities.now args.flags.now args.elements.now in
+    let e : c.from_residual.result ≡ Err c.in_err-nodes_refusal.field-0.0 = search rules in
+    rw (
+      e,
+      ← c.sizes.ensures,
+      c.if-not-sizes.false,
+      ← (c.words_below.ensures args.shape own),
+      c.if-not-words_below.false,
+    )
+    (c.in_err-nodes_refusal.ensures _)
+
 pub returns : goal.returns
 unfolding table_refusal nodes_refusal lists_refusal known
 returns c =
@@ -51,5 +65,4 @@ returns c =
       ← (c.words_below.ensures args.shape own),
       c.if-not-words_below.false,
     )
-    (c.first.ensures ∙ ap (or_else (refusal c.nodes_refusal.result)) (c.lists_refusal.ensures args.names.now
-    args.tuples.now) ∙ c.nodes_refusal.ensures _)
+    (c.lists_refusal.ensures args.names.now args.tuples.now ∙ c.in_ok-nodes_refusal.ensures _)

@@ -1,10 +1,6 @@
-use Prim.Native.Nat.{◌-◌}
 use Rattle.lookup.specs.Tests.{lookup_within}
 use Rattle.lists.specs.laws.Turns.{Testing}
 use Rattle.lookup.proofs.tests.each_within.Given as goal
 
 abbrev pub invariant-loop-i : goal.invariant-loop-i
 invariant-loop-i l = Testing (lookup_within l.limits l.lookups) l.n l.i l.ok
-
-abbrev pub decreases-loop-i : goal.decreases-loop-i
-decreases-loop-i l = l.n - l.i

@@ -1,4 +1,3 @@
-use Prim.Native.Nat.{◌-◌}
 use lib.Dec.{eqb}
 use Rattle.lookup.specs.Lookups.{column}
 use Rattle.lists.specs.laws.Turns.{Testing}
@@ -6,6 +5,3 @@ use Rattle.lookup.proofs.tests.in_position.Given as goal
 
 abbrev pub invariant-loop-i : goal.invariant-loop-i
 invariant-loop-i l = Testing (λ j. eqb (column l.lookups j) j) l.n l.i l.ok
-
-abbrev pub decreases-loop-i : goal.decreases-loop-i
-decreases-loop-i l = l.n - l.i

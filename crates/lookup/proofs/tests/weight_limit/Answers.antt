@@ -8,4 +8,4 @@ returns-then-on_bus-tuples c = rw (sym c.on_bus.ensures, sym c.tuple_count-tuple
 
 pub returns : goal.returns
 unfolding weight_limit
-returns c = rw (sym c.on_bus.ensures, sym c.tuple_count-tuples.ensures, c.if-on_bus-tuples.false, c.to_u64.ensures.0)
+returns c = rw (sym c.on_bus.ensures, sym c.tuple_count-tuples.ensures, c.if-on_bus-tuples.false, c.from.ensures)

@@ -4,6 +4,4 @@ use Rattle.lookup_builder.proofs.builder.built_verdict.Goals as goal
 
 pub returns : goal.returns
 returns c =
-    let args = c.args in
-    let given = lent_interactions args.interactions.now args.weights.now args.names.now args.tuples.now args.multiplicities.now args.flags.now args.elements.now in
-    built-tested args.limits args.p args.columns args.nodes.now args.kinds given c.interaction_count-used.ensures c.write_lookups.ensures c.words_verdict.ensures
+    built-tested c.args.limits c.args.p c.args.columns c.args.nodes.now c.args.kinds (lent_interactions c.args.interactions.now c.args.weights.now c.args.names.now c.args.tuples.now c.args.multiplicities.now c.args.flags.now c.args.elements.now) c.interaction_count.ensures c.write_lookups.ensures c.words_verdict.ensures

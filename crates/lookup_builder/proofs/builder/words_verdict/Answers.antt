@@ -1,21 +1,17 @@
 use Rattle.lookup.specs.Lookups.{lent_lookups}
 use Rattle.lookup_builder.proofs.Answers.{locals_asks, form_refused, locals-tested}
+use Rattle.std.proofs.lemmas.Result.{err_from_is_err_and}
 use Rattle.lookup_builder.proofs.builder.words_verdict.Goals as goal
 
 pub locals_verdict-requires : goal.locals_verdict-requires
 locals_verdict-requires c =
-    let args = c.args in
-    let own = lent_lookups args.lookups.now args.names.now args.tuples.now args.multiplicities.now args.flags.now args.elements.now in
-    locals_asks args.limits args.p args.columns args.nodes.now args.locals own c.form_refusal-verdict.ensures c.requires.0 c.requires.1 c.in-Accepted.is
+    locals_asks c.args.limits c.args.p c.args.columns c.args.nodes.now c.args.locals (lent_lookups c.args.lookups.now c.args.names.now c.args.tuples.now c.args.multiplicities.now c.args.flags.now c.args.elements.now) c.form_refusal.ensures c.requires.0 c.requires.1 c.in_ok-form_refusal.was
 
-pub returns-in-Refused : goal.returns-in-Refused
-returns-in-Refused c =
-    let args = c.args in
-    let own = lent_lookups args.lookups.now args.names.now args.tuples.now args.multiplicities.now args.flags.now args.elements.now in
-    form_refused args.limits args.p args.columns args.nodes.now args.locals own c.form_refusal-verdict.ensures c.in-Refused.is
+pub returns-in_err-form_refusal : goal.returns-in_err-form_refusal
+returns-in_err-form_refusal c =
+    let p = err_from_is_err_and c.from_residual.result c.from_residual.ensures.1 in
+    rw (p.1, p.2) (form_refused c.args.limits c.args.p c.args.columns c.args.nodes.now c.args.locals (lent_lookups c.args.lookups.now c.args.names.now c.args.tuples.now c.args.multiplicities.now c.args.flags.now c.args.elements.now) c.form_refusal.ensures c.in_err-form_refusal.was)
 
-pub returns-in-Accepted : goal.returns-in-Accepted
-returns-in-Accepted c =
-    let args = c.args in
-    let own = lent_lookups args.lookups.now args.names.now args.tuples.now args.multiplicities.now args.flags.now args.elements.now in
-    locals-tested args.limits args.p args.columns args.nodes.now args.locals own c.form_refusal-verdict.ensures c.in-Accepted.is c.locals_verdict.ensures
+pub returns : goal.returns
+returns c =
+    locals-tested c.args.limits c.args.p c.args.columns c.args.nodes.now c.args.locals (lent_lookups c.args.lookups.now c.args.names.now c.args.tuples.now c.args.multiplicities.now c.args.flags.now c.args.elements.now) c.form_refusal.ensures c.in_ok-form_refusal.was c.locals_verdict.ensures

@@ -1,4 +1,4 @@
-use Prim.Native.Nat.{◌+◌, ◌-◌}
+use Prim.Native.Nat.{◌+◌}
 use lib.Dec.{eqb}
 use Rattle.lookup_builder.specs.Building.{tuple_number}
 use Rattle.lists.specs.laws.Turns.{Testing}
@@ -6,6 +6,3 @@ use Rattle.lookup_builder.proofs.fits.globals_single.Given as goal
 
 abbrev pub invariant-loop-j : goal.invariant-loop-j
 invariant-loop-j l = Testing (λ j. eqb (tuple_number l.interactions (l.kinds.locals + j)) 1) l.kinds.globals l.j l.ok
-
-abbrev pub decreases-loop-j : goal.decreases-loop-j
-decreases-loop-j l = l.kinds.globals - l.j

@@ -3,8 +3,8 @@ use Rattle.lookup_degree.specs.laws.Rising.{rise_begins, rise_turn}
 use borrow.Author.Rules.{rules}
 use Rattle.lookup_builder.proofs.weights.largest_of.Goals as goal
 
-pub loop-k-init : goal.loop-k-init
-loop-k-init c = rise_begins
+pub loop-weight-init : goal.loop-weight-init
+loop-weight-init c = rise_begins
 
-pub loop-k-preserved : goal.loop-k-preserved
-loop-k-preserved c = rise_turn _ c.loop-k.invariant (search rules) c.larger-top.ensures refl
+pub loop-weight-preserved : goal.loop-weight-preserved
+loop-weight-preserved c = rise_turn _ c.loop-weight.invariant (search rules) c.max-top.ensures refl

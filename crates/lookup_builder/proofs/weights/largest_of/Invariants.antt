@@ -1,10 +1,7 @@
-use Prim.Native.Nat.{◌+◌, ◌-◌}
+use Rattle.std.proofs.Common.{length}
 use Rattle.expression.specs.Words.{word}
 use Rattle.lookup_degree.specs.laws.Rising.{Rising}
 use Rattle.lookup_builder.proofs.weights.largest_of.Given as goal
 
-abbrev pub invariant-loop-k : goal.invariant-loop-k
-invariant-loop-k l = Rising (λ k. word l.weights (l.start + k)) l.n l.k l.top
-
-abbrev pub decreases-loop-k : goal.decreases-loop-k
-decreases-loop-k l = l.n - l.k
+abbrev pub invariant-loop-weight : goal.invariant-loop-weight
+invariant-loop-weight l = Rising (word l.weights) (length l.weights) l.weight-index l.top

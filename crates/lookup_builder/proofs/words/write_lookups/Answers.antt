@@ -11,9 +11,8 @@ loop-i-init c = begins (search rules)
 
 pub loop-i-preserved : goal.loop-i-preserved
 loop-i-preserved c =
-    turn c.loop-i.invariant (search rules) refl refl c.write_lookup.ensures (ap length c.write_lookup.ensures ∙
-    words-nine c.args.kinds c.args.interactions.now c.args.weights.now c.loop-i.i)
+    turn c.loop-i.invariant (search rules) refl refl c.write_lookup.ensures (ap length c.write_lookup.ensures ∙ words-nine c.args.kinds c.args.interactions.now c.args.weights.now c.loop-i.i)
 
 pub returns : goal.returns
 unfolding built
-returns c = rw (← c.interaction_count-n.ensures) (ends c.loop-i.invariant (search rules))
+returns c = rw (← c.interaction_count-i-end.ensures) (ends c.loop-i.invariant (search rules))

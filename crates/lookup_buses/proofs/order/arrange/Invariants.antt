@@ -1,9 +1,5 @@
 use Rattle.lookup_buses.proofs.Loops.{Arranging}
-use Prim.Native.Nat.{◌+◌, ◌-◌}
 use Rattle.lookup_buses.proofs.order.arrange.Given as goal
 
 abbrev pub invariant-loop-k : goal.invariant-loop-k
 invariant-loop-k l = Arranging l.places l.n l.k l.end l.initial.order l.order
-
-abbrev pub decreases-loop-k : goal.decreases-loop-k
-decreases-loop-k l = (l.n + 1) - l.k

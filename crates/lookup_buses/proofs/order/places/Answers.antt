@@ -6,4 +6,4 @@ pub loop-i-init : goal.loop-i-init
 loop-i-init c = placing_begins
 
 pub loop-i-preserved : goal.loop-i-preserved
-loop-i-preserved c = placing_turn c.loop-i.invariant (search rules) (search rules) c.place_of-place.ensures
+loop-i-preserved c = placing_turn c.loop-i.invariant (search rules) (search rules) c.place_of.ensures

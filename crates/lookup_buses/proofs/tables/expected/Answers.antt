@@ -1,67 +1,27 @@
-use native.Mathlib.Omega.{arith}
-use Rattle.lists.specs.laws.Turns.{find_begins, find_turn, find_ends}
-use Rattle.lookup_buses.specs.inner.Requires.{width_option}
+use Rattle.lookup_buses.proofs.Finds.{width_stops, width_turn}
+use Rattle.lookup_buses.specs.laws.NoneYet.{none_begins, none_ends}
 use Rattle.lookup_buses.specs.CheckBusWidths.{tables_of}
+use Rattle.lookup_buses.specs.laws.Tables.{owned}
 use Rattle.lookup_buses.specs.Widths.{width_in_table, expected}
-use Rattle.lookup_buses.specs.laws.Tables.{lies, owned}
-use mathlib.Core.Path.{◌∙◌, ap}
+use mathlib.Core.Path.{◌∙◌, sym, ap}
 use borrow.Author.Rules.{rules}
 use Rattle.lookup_buses.proofs.tables.expected.Goals as goal
 
 pub loop-t-init : goal.loop-t-init
-loop-t-init c = find_begins
-
-pub slice_bounds-width_in_table-count : goal.slice_bounds-width_in_table-count
-slice_bounds-width_in_table-count c =
-    (lies c.requires.spanned c.loop-t-test.true c.spans_of-s.ensures).lookups
-
-pub slice_bounds-width_in_table-start : goal.slice_bounds-width_in_table-start
-slice_bounds-width_in_table-start c =
-    (lies c.requires.spanned c.loop-t-test.true c.spans_of-s.ensures).lookups
-
-pub slice_bounds-width_in_table-end : goal.slice_bounds-width_in_table-end
-slice_bounds-width_in_table-end c =
-    (lies c.requires.spanned c.loop-t-test.true c.spans_of-s.ensures).lookups_end
-
-pub slice_bounds-width_in_table-count-in-loop-t : goal.slice_bounds-width_in_table-count-in-loop-t
-slice_bounds-width_in_table-count-in-loop-t c =
-    (lies c.requires.spanned c.loop-t-test.true c.spans_of-s.ensures).names
-
-pub slice_bounds-width_in_table-start-in-loop-t : goal.slice_bounds-width_in_table-start-in-loop-t
-slice_bounds-width_in_table-start-in-loop-t c =
-    (lies c.requires.spanned c.loop-t-test.true c.spans_of-s.ensures).names
-
-pub slice_bounds-width_in_table-end-in-loop-t : goal.slice_bounds-width_in_table-end-in-loop-t
-slice_bounds-width_in_table-end-in-loop-t c =
-    (lies c.requires.spanned c.loop-t-test.true c.spans_of-s.ensures).names_end
-
-pub slice_bounds-width_in_table-count-in-loop-t-2 : goal.slice_bounds-width_in_table-count-in-loop-t-2
-slice_bounds-width_in_table-count-in-loop-t-2 c =
-    (lies c.requires.spanned c.loop-t-test.true c.spans_of-s.ensures).tuples
-
-pub slice_bounds-width_in_table-start-in-loop-t-2 : goal.slice_bounds-width_in_table-start-in-loop-t-2
-slice_bounds-width_in_table-start-in-loop-t-2 c =
-    (lies c.requires.spanned c.loop-t-test.true c.spans_of-s.ensures).tuples
-
-pub slice_bounds-width_in_table-end-in-loop-t-2 : goal.slice_bounds-width_in_table-end-in-loop-t-2
-slice_bounds-width_in_table-end-in-loop-t-2 c =
-    (lies c.requires.spanned c.loop-t-test.true c.spans_of-s.ensures).tuples_end
+loop-t-init c = none_begins
 
 pub width_in_table-width-requires : goal.width_in_table-width-requires
-width_in_table-width-requires c =
-    owned c.requires c.loop-t-test.true c.spans_of-s.ensures
+width_in_table-width-requires c = owned c.requires c.loop-t-test.true c.table_at-own.ensures
 
-pub offset_bounds-lookups-lookups_start : goal.offset_bounds-lookups-lookups_start
-offset_bounds-lookups-lookups_start c = omega (arith, (lies c.requires.spanned c.loop-t-test.true c.spans_of-s.ensures).lookups, (lies c.requires.spanned c.loop-t-test.true c.spans_of-s.ensures).lookups_end)
-
-pub offset_bounds-tuples-tuples_start : goal.offset_bounds-tuples-tuples_start
-offset_bounds-tuples-tuples_start c = omega (arith, (lies c.requires.spanned c.loop-t-test.true c.spans_of-s.ensures).tuples, (lies c.requires.spanned c.loop-t-test.true c.spans_of-s.ensures).tuples_end)
+pub returns-then-is_some : goal.returns-then-is_some
+unfolding expected tables_of
+returns-then-is_some c =
+    width_stops c.width_in_table-width.result c.loop-t.invariant (search rules) (c.width_in_table-width.ensures ∙ ap (width_in_table c.args.bus.now) c.table_at-own.ensures) (sym c.is_some.ensures ∙ c.if-is_some.true)
 
 pub loop-t-preserved : goal.loop-t-preserved
 loop-t-preserved c =
-    find_turn (width_option c.width_in_table-width.result) c.loop-t.invariant (search rules) c.first_width-found.ensures (c.width_in_table-width.ensures
-    ∙ ap (width_in_table c.args.bus.now) (lies c.requires.spanned c.loop-t-test.true c.spans_of-s.ensures).table)
+    width_turn c.width_in_table-width.result c.loop-t.invariant (c.width_in_table-width.ensures ∙ ap (width_in_table c.args.bus.now) c.table_at-own.ensures) (sym c.is_some.ensures ∙ c.if-is_some.false)
 
 pub returns : goal.returns
 unfolding expected tables_of
-returns c = find_ends c.loop-t.invariant (search rules)
+returns c = none_ends c.loop-t.invariant (search rules) (search rules)

@@ -1,30 +1,29 @@
-use Rattle.lists.specs.laws.Turns.{find_begins, find_turn, find_ends}
-use Rattle.lookup_buses.proofs.Finds.{bus_at, bus-below}
+use Rattle.std.proofs.lemmas.List.{get_or-take}
+use Rattle.lookup_buses.proofs.Finds.{bus_verdict, bus-below}
+use Rattle.lookup_buses.specs.laws.NoneYet.{none_begins, none_ends, refused_stops, accepted_turn}
 use Rattle.lookup_buses.specs.CheckBusWidths.{lent_bus_tables, tables_of}
-use Rattle.lookup_buses.specs.Widths.{lookup_refusal, table_refusal}
-use Rattle.expression.specs.Refusal.{refusal}
-use Rattle.lookup.specs.Lookups.{bus_lookups}
-use mathlib.Core.Path.{◌∙◌, ap}
+use Rattle.lookup_buses.specs.Widths.{table_refusal}
 use borrow.Author.Rules.{rules}
+use Rattle.std.proofs.lemmas.Result.{err_from_is_err_and}
 use Rattle.lookup_buses.proofs.tables.table_verdict.Goals as goal
 
-pub loop-k-init : goal.loop-k-init
-loop-k-init c = find_begins
+pub loop-i-init : goal.loop-i-init
+loop-i-init c = none_begins
 
-pub lookup_verdict-other-requires : goal.lookup_verdict-other-requires
-lookup_verdict-other-requires c = (
-  c.requires.0,
-  c.requires.1,
-  bus-below c.args.own_lookups.now c.args.own_names.now c.args.own_tuples.now c.loop-k.k c.loop-k-test.true c.order-ordered.ensures c.to_usize-i.ensures.0,
-)
+pub lookup_verdict-requires : goal.lookup_verdict-requires
+lookup_verdict-requires c =
+    (c.requires.0, c.requires.1, bus-below c.args.own_lookups.now c.args.own_names.now c.args.own_tuples.now c.loop-i.i-index (search rules) c.order-ordered.ensures (get_or-take _ _ c.loop-i.i-index 0 (search rules)))
 
-pub loop-k-preserved : goal.loop-k-preserved
-loop-k-preserved c =
-    let args = c.args in
-    let tables = lent_bus_tables args.lookups.now args.names.now args.tuples.now args.sizes.now in
-    find_turn (refusal c.lookup_verdict-other.result) c.loop-k.invariant (search rules) c.first-verdict.ensures (c.lookup_verdict-other.ensures ∙
-    ap (lookup_refusal (tables_of tables) (bus_lookups args.own_lookups.now args.own_names.now args.own_tuples.now)) (bus_at args.own_lookups.now args.own_names.now args.own_tuples.now c.loop-k.k c.order-ordered.ensures c.to_usize-i.ensures.0))
+pub returns-in_err-lookup_verdict : goal.returns-in_err-lookup_verdict
+unfolding table_refusal
+returns-in_err-lookup_verdict c =
+    let p = err_from_is_err_and c.from_residual.result c.from_residual.ensures.1 in
+    rw (p.1, p.2) (refused_stops c.loop-i.invariant (search rules) (bus_verdict (tables_of (lent_bus_tables c.args.lookups.now c.args.names.now c.args.tuples.now c.args.sizes.now)) c.args.own_lookups.now c.args.own_names.now c.args.own_tuples.now c.loop-i.i-index c.order-ordered.ensures (get_or-take _ _ c.loop-i.i-index 0 (search rules)) c.lookup_verdict.ensures) c.in_err-lookup_verdict.was)
+
+pub loop-i-preserved : goal.loop-i-preserved
+loop-i-preserved c =
+    accepted_turn c.loop-i.invariant (bus_verdict (tables_of (lent_bus_tables c.args.lookups.now c.args.names.now c.args.tuples.now c.args.sizes.now)) c.args.own_lookups.now c.args.own_names.now c.args.own_tuples.now c.loop-i.i-index c.order-ordered.ensures (get_or-take _ _ c.loop-i.i-index 0 (search rules)) c.lookup_verdict.ensures) c.in_ok-lookup_verdict.was
 
 pub returns : goal.returns
 unfolding table_refusal
-returns c = find_ends c.loop-k.invariant (search rules)
+returns c = none_ends c.loop-i.invariant (search rules) (search rules)

@@ -7,7 +7,7 @@ pub loop-i-init : goal.loop-i-init
 loop-i-init c = rise_begins
 
 pub loop-i-preserved : goal.loop-i-preserved
-loop-i-preserved c = rise_turn c.widest_in_lookup-width.result c.loop-i.invariant (search rules) c.larger-top.ensures c.widest_in_lookup-width.ensures
+loop-i-preserved c = rise_turn c.widest_in_lookup.result c.loop-i.invariant (search rules) c.max-top.ensures c.widest_in_lookup.ensures
 
 pub returns : goal.returns
 unfolding widest_in_table

@@ -3,29 +3,20 @@ use borrow.Author.Tests.{le-ltb, lt-ltb}
 use Rattle.lookup_count.specs.Count.{negation_refusal}
 use Rattle.lookup_count.proofs.count.negation.Goals as goal
 
-pub returns-then-limits-used : goal.returns-then-limits-used
+pub returns-then-not-has_room : goal.returns-then-not-has_room
 unfolding negation_refusal
-returns-then-limits-used c = rw (le-ltb _ _ c.if-limits-used.true) (refl, refl)
+returns-then-not-has_room c = rw (← c.has_room.ensures, c.if-not-has_room.true) (refl, refl)
 
-pub returns-then-room-used : goal.returns-then-room-used
+pub returns-then-used-count : goal.returns-then-used-count
 unfolding negation_refusal
-returns-then-room-used c = rw (lt-ltb _ _ c.if-limits-used.false, le-ltb _ _ c.if-room-used.true) (refl, refl)
-
-pub returns-then-used-node : goal.returns-then-used-node
-unfolding negation_refusal
-returns-then-used-node c =
+returns-then-used-count c =
     rw (
-      lt-ltb _ _ c.if-limits-used.false,
-      lt-ltb _ _ c.if-room-used.false,
-      ← c.to_usize-node.ensures.0,
-      le-ltb _ _
-          c.if-used-node.true,
+      ← c.has_room.ensures,
+      c.if-not-has_room.false,
+      le-ltb _ _ c.if-used-count.true,
     ) (refl, refl)
 
 pub returns : goal.returns
 unfolding negation_refusal
 returns c =
-    rw (lt-ltb _ _ c.if-limits-used.false, lt-ltb _ _ c.if-room-used.false, c.bounded.ensures) (rw (
-      ← c.to_usize-node.ensures.0,
-      lt-ltb _ _ c.if-used-node.false,
-    ) (refl, rw c.to_usize-node.ensures.0 c.push.ensures))
+    rw (← c.has_room.ensures, c.if-not-has_room.false, c.bounded.ensures, lt-ltb _ _ c.if-used-count.false) (refl, c.push.ensures)

@@ -2,7 +2,8 @@ use Rattle.lookup_degree.proofs.Calls.{degree-size, degree_asked, degree-given, 
 use Rattle.lookup_degree.specs.laws.Formed.{formed}
 use Rattle.lookup.specs.Lookups.{lent_lookups}
 use Rattle.expression.specs.Refusal.{refusal}
-use mathlib.Core.Path.{◌∙◌, sym, ap}
+use Rattle.std.proofs.Common.{Err, rules}
+use mathlib.Core.Path.{◌≡◌, ◌∙◌, sym, ap}
 use Rattle.lookup_degree.proofs.constraint_degree.degree_within.Goals as goal
 
 pub returns-then-not-t-i : goal.returns-then-not-t-i
@@ -13,20 +14,21 @@ pub degree_of-requires : goal.degree_of-requires
 degree_of-requires c =
     let args = c.args in
     let own = lent_lookups args.lookups.now args.names.now args.tuples.now args.multiplicities.now args.flags.now args.elements.now in (
-      formed args.limits args.p args.columns args.nodes.now own c.requires (sym c.form_refusal-verdict.ensures ∙ ap refusal
-          c.in-Accepted.is),
+      formed args.limits args.p args.columns args.nodes.now own c.requires (sym c.form_refusal.ensures ∙ ap refusal
+          c.in_ok-form_refusal.was),
       (degree_asked args.limits args.p args.columns args.nodes.now own args.i args.t c.if-not-t-i.false).0,
       (degree_asked args.limits args.p args.columns args.nodes.now own args.i args.t c.if-not-t-i.false).1,
     )
 
-pub returns-in-Accepted : goal.returns-in-Accepted
-returns-in-Accepted c =
+pub returns : goal.returns
+returns c =
     let args = c.args in
     let own = lent_lookups args.lookups.now args.names.now args.tuples.now args.multiplicities.now args.flags.now args.elements.now in
-    degree-given args.limits args.p args.columns args.nodes.now own args.i args.t c.if-not-t-i.false c.form_refusal-verdict.ensures c.in-Accepted.is c.degree_of.ensures
+    degree-given args.limits args.p args.columns args.nodes.now own args.i args.t c.if-not-t-i.false c.form_refusal.ensures c.in_ok-form_refusal.was c.degree_of.ensures
 
-pub returns-in-Refused : goal.returns-in-Refused
-returns-in-Refused c =
+pub returns-in_err-form_refusal : goal.returns-in_err-form_refusal
+returns-in_err-form_refusal c =
     let args = c.args in
     let own = lent_lookups args.lookups.now args.names.now args.tuples.now args.multiplicities.now args.flags.now args.elements.now in
-    degree_refused args.limits args.p args.columns args.nodes.now own args.i args.t c.if-not-t-i.false c.form_refusal-verdict.ensures c.in-Refused.is
+    let e : c.from_residual.result ≡ Err c.in_err-form_refusal.field-0.0 = search rules in
+    e ∙ degree_refused args.limits args.p args.columns args.nodes.now own args.i args.t c.if-not-t-i.false c.form_refusal.ensures c.in_err-form_refusal.was

@@ -7,4 +7,4 @@ pub loop-k-init : goal.loop-k-init
 loop-k-init c = sum-begins
 
 pub loop-k-preserved : goal.loop-k-preserved
-loop-k-preserved c = sum_turn c.to_u64-tuple.result c.loop-k.invariant (search rules) c.to_u64-tuple.ensures.1 (c.to_u64-tuple.ensures.0 ∙ c.word_at.ensures)
+loop-k-preserved c = sum_turn c.from-sum.result c.loop-k.invariant (search rules) (search rules) (c.from-sum.ensures ∙ c.word_at.ensures)

@@ -10,4 +10,4 @@ loop-k-init c = rise_begins
 
 pub loop-k-preserved : goal.loop-k-preserved
 loop-k-preserved c =
-    rise_turn _ c.loop-k.invariant (search rules) c.largest-top.ensures (ap₂ ◌+◌ (c.to_u64-flag.ensures.0 ∙ c.word_at-in-loop-k-3.ensures ∙ ap (word c.args.nodes.now) (c.to_usize-in-loop-k.ensures.0 ∙ c.word_at-in-loop-k-2.ensures)) (c.to_u64-multiplicity.ensures.0 ∙ c.word_at-in-loop-k.ensures ∙ ap (word c.args.nodes.now) (c.to_usize.ensures.0 ∙ c.word_at.ensures)))
+    rise_turn _ c.loop-k.invariant (search rules) c.max-top.ensures (ap₂ ◌+◌ (c.from-flag.ensures ∙ c.word_at-in-loop-k-3.ensures ∙ ap (word c.args.nodes.now) c.word_at-in-loop-k-2.ensures) (c.from-multiplicity.ensures ∙ c.word_at-in-loop-k.ensures ∙ ap (word c.args.nodes.now) c.word_at.ensures))

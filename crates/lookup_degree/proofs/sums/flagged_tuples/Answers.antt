@@ -11,12 +11,10 @@ loop-k-init c = (rise_begins, search rules)
 
 pub loop-k-preserved : goal.loop-k-preserved
 loop-k-preserved c = (
-  rise_turn _ c.loop-k.invariant.0 (search rules) c.largest-top.ensures (ap₂ ◌+◌ (c.to_u64-flag.ensures.0 ∙ c.word_at-in-loop-k-2.ensures ∙ ap (word c.args.nodes.now) (c.to_usize.ensures.0 ∙ c.word_at-in-loop-k.ensures)) (c.to_u64-tuple.ensures.0 ∙ c.word_at.ensures)),
+  rise_turn _ c.loop-k.invariant.0 (search rules) c.max-top.ensures (ap₂ ◌+◌ (c.from-flag.ensures ∙ c.word_at-in-loop-k-2.ensures ∙ ap (word c.args.nodes.now) c.word_at-in-loop-k.ensures) (c.from-tuple.ensures ∙ c.word_at.ensures)),
   omega (
     arith,
-    c.largest-top.ensures,
+    c.max-top.ensures,
     c.loop-k.invariant.1,
-    c.to_u64-flag.ensures.1,
-    c.to_u64-tuple.ensures.1,
   ),
 )

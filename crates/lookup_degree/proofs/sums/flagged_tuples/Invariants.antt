@@ -1,10 +1,7 @@
 use Rattle.lookup_degree.specs.laws.Rising.{Rising}
 use Rattle.expression.specs.Words.{word}
-use Prim.Native.Nat.{◌+◌, ◌-◌, ◌≤◌}
+use Prim.Native.Nat.{◌+◌, ◌≤◌}
 use Rattle.lookup_degree.proofs.sums.flagged_tuples.Given as goal
 
 abbrev pub invariant-loop-k : goal.invariant-loop-k
 invariant-loop-k l = Rising (λ k. word l.nodes (word l.flags (l.start + k)) + word l.degrees (l.first + k)) l.n l.k l.top × (l.top ≤ 8589934590)
-
-abbrev pub decreases-loop-k : goal.decreases-loop-k
-decreases-loop-k l = l.n - l.k

@@ -14,10 +14,10 @@ pub overflow_sub-sum : goal.overflow_sub-sum
 overflow_sub-sum c =
     omega (
       arith,
-      one_of (λ k. word c.args.degrees.now (c.args.first + k)) c.args.n c.loop-k.k c.args.sum c.requires.4 c.loop-k-test.true (c.to_u64-tuple.ensures.0 ∙ c.word_at.ensures),
+      one_of (λ k. word c.args.degrees.now (c.args.first + k)) c.args.n c.loop-k.k c.args.sum c.requires.4 c.loop-k-test.true (c.from-tuple.ensures ∙ c.word_at.ensures),
     )
 
 pub loop-k-preserved : goal.loop-k-preserved
 loop-k-preserved c =
-    rise_turn _ c.loop-k.invariant (search rules) c.largest-top.ensures (ap₂ (λ (x y : ℕ). x + (c.args.sum - y)) (c.to_u64-multiplicity.ensures.0
-    ∙ c.word_at-in-loop-k-2.ensures ∙ ap (word c.args.nodes.now) (c.to_usize.ensures.0 ∙ c.word_at-in-loop-k.ensures)) (c.to_u64-tuple.ensures.0 ∙ c.word_at.ensures))
+    rise_turn _ c.loop-k.invariant (search rules) c.max-top.ensures (ap₂ (λ (x y : ℕ). x + (c.args.sum - y)) (c.from-multiplicity.ensures
+    ∙ c.word_at-in-loop-k-2.ensures ∙ ap (word c.args.nodes.now) c.word_at-in-loop-k.ensures) (c.from-tuple.ensures ∙ c.word_at.ensures))

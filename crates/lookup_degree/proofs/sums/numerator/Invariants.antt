@@ -5,6 +5,3 @@ use Rattle.lookup_degree.proofs.sums.numerator.Given as goal
 
 abbrev pub invariant-loop-k : goal.invariant-loop-k
 invariant-loop-k l = Rising (λ k. word l.nodes (word l.multiplicities (l.start + k)) + (l.sum - word l.degrees (l.first + k))) l.n l.k l.top
-
-abbrev pub decreases-loop-k : goal.decreases-loop-k
-decreases-loop-k l = l.n - l.k

@@ -1,11 +1,6 @@
 use Rattle.lookup_degree.proofs.Loops.{Degreed}
 use Rattle.expression.specs.Words.{word}
-use lib.ListN.{length}
-use Prim.Native.Nat.{◌-◌}
 use Rattle.lookup_degree.proofs.tuples.tuple_degrees.Given as goal
 
 abbrev pub invariant-loop-j : goal.invariant-loop-j
 invariant-loop-j l = Degreed (word l.degrees) l.tuples l.elements l.j l.start l.initial.out l.out
-
-abbrev pub decreases-loop-j : goal.decreases-loop-j
-decreases-loop-j l = length l.tuples - l.j

@@ -1,10 +1,5 @@
-use lib.ListN.{length}
-use Prim.Native.Nat.{◌-◌}
 use Rattle.lookup_protocol.proofs.laws.Height.{SmallSoFar}
 use Rattle.lookup_protocol.proofs.protocol.all_small.Given as goal
 
 abbrev pub invariant-loop-t : goal.invariant-loop-t
 invariant-loop-t l = SmallSoFar l.limits l.lookups l.counts l.t l.at l.ok
-
-abbrev pub decreases-loop-t : goal.decreases-loop-t
-decreases-loop-t l = length l.counts - l.t

@@ -22,28 +22,28 @@ height_sum-sum-requires c =
     let tested = counted-tested c.args.lookups.now c.args.counts.now c.args.heights.now c.requires c.tables_fit.ensures c.if-not-tables_fit.false in
     record { lookups_counted = tested.0; heights_len = tested.1 }
 
-pub returns-then-sum-to_u64 : goal.returns-then-sum-to_u64
+pub returns-then-sum-from : goal.returns-then-sum-from
 unfolding height_refusal
-returns-then-sum-to_u64 c =
+returns-then-sum-from c =
     rw (
       ← c.tables_fit.ensures,
       c.if-not-tables_fit.false,
       ← c.all_agree.ensures,
       c.if-not-all_agree.false,
       ← c.height_sum-sum.ensures,
-      ← c.to_u64.ensures.0,
-      lt-ltb _ _ c.if-sum-to_u64.true,
+      ← c.from.ensures,
+      lt-ltb _ _ c.if-sum-from.true,
     )
 
-pub returns-else-sum-to_u64 : goal.returns-else-sum-to_u64
+pub returns-else-sum-from : goal.returns-else-sum-from
 unfolding height_refusal
-returns-else-sum-to_u64 c =
+returns-else-sum-from c =
     rw (
       ← c.tables_fit.ensures,
       c.if-not-tables_fit.false,
       ← c.all_agree.ensures,
       c.if-not-all_agree.false,
       ← c.height_sum-sum.ensures,
-      ← c.to_u64.ensures.0,
-      le-ltb _ _ c.if-sum-to_u64.false,
+      ← c.from.ensures,
+      le-ltb _ _ c.if-sum-from.false,
     )

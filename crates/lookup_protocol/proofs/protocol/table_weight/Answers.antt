@@ -7,12 +7,12 @@ overflow_mul-result c =
     record {
       fits = omega (
         arith,
-        weight-fits {b = c.to_u64.result} c.weight_sum.ensures.1 (rw c.to_u64.ensures.0 c.requires.1),
+        weight-fits {b = c.from.result} c.weight_sum.ensures.1 (rw c.from.ensures c.requires.1),
       );
     }
 
 pub returns : goal.returns
 returns c = (
-  rw (c.weight_sum.ensures.0, c.to_u64.ensures.0),
-  weight-fits {b = c.to_u64.result} c.weight_sum.ensures.1 (rw c.to_u64.ensures.0 c.requires.1),
+  rw (c.weight_sum.ensures.0, c.from.ensures),
+  weight-fits {b = c.from.result} c.weight_sum.ensures.1 (rw c.from.ensures c.requires.1),
 )

@@ -17,21 +17,21 @@ part_start-words-requires c = (
   (few-tested c.args.counts.now c.args.heights.now c.requires c.tables_within.ensures c.if-not-tables_within.false).0.few_tables,
 )
 
-pub returns-then-given-words : goal.returns-then-given-words
+pub returns-then-lookups-words : goal.returns-then-lookups-words
 unfolding tables_fit
-returns-then-given-words c =
+returns-then-lookups-words c =
     rw (
       ← c.tables_within.ensures,
       c.if-not-tables_within.false,
       ← c.part_start-words.ensures.0,
-      ne_eqb _ _ c.if-given-words.true,
+      ne_eqb _ _ c.if-lookups-words.true,
     )
 
 pub all_small-requires : goal.all_small-requires
 all_small-requires c =
     record {
       few = (few-tested c.args.counts.now c.args.heights.now c.requires c.tables_within.ensures c.if-not-tables_within.false).0;
-      whole = c.if-given-words.false ∙ c.part_start-words.ensures.0;
+      whole = c.if-lookups-words.false ∙ c.part_start-words.ensures.0;
     }
 
 pub returns : goal.returns
@@ -41,6 +41,6 @@ returns c =
       ← c.tables_within.ensures,
       c.if-not-tables_within.false,
       ← c.part_start-words.ensures.0,
-      eq-eqb _ _ c.if-given-words.false,
+      eq-eqb _ _ c.if-lookups-words.false,
       ← c.all_small.ensures,
     )

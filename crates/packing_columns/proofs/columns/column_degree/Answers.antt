@@ -3,4 +3,4 @@ use Rattle.packing_columns.proofs.columns.column_degree.Goals as goal
 
 pub returns : goal.returns
 unfolding column_degree
-returns c = c.largest.ensures
+returns c = c.max.ensures

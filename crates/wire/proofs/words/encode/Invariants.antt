@@ -6,6 +6,3 @@ use Rattle.wire.proofs.words.encode.Given as goal
 
 abbrev pub invariant-loop-i : goal.invariant-loop-i
 invariant-loop-i l = Writing (λ j. word_bytes (get_or l.words j 0)) 4 (length l.words) l.initial.out l.i l.out
-
-abbrev pub decreases-loop-i : goal.decreases-loop-i
-decreases-loop-i l = l.n - l.i

@@ -1,6 +1,0 @@
-use Rattle.packing_columns.proofs.LookupListLoops.{copy_turn}
-use borrow.Author.Rules.{rules}
-use Rattle.packing_columns.proofs.lookup_lists.copy_bytes.Goals as goal
-
-pub loop-i-preserved : goal.loop-i-preserved
-loop-i-preserved c = copy_turn c.loop-i.invariant (search rules)
