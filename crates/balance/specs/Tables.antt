@@ -3,10 +3,11 @@ use Rattle.std.specs.Prelude.{ℕ, ◌%◌, Bool, ◌&&◌, List, eqb, leb, leng
 use Rattle.lists.specs.Tab.{tab}
 use Rattle.expression.specs.declared.sizes.Shape.{Shape}
 use Rattle.expression.specs.declared.sizes.Limits.{Limits}
-use Rattle.lookup.specs.Lookups.{Lookups, lent_lookups, lookup_words}
+use Rattle.lookup.specs.Lookups.{Lookups, lent_lookups, as_lookups, lookup_words}
 use Rattle.lookup.specs.Sizes as layout
 use Rattle.lookup.specs.Table.{Table, lent_table}
 use Rattle.expression.specs.Node.{node_words}
+use Rattle.balance.specs.declared.tables.LentTables.{LentTables}
 
 pub record TableLists : Type 0 where
   -- for each table: main width, height, preprocessed width, preprocessed height; then how many main words, preprocessed words, public
@@ -132,4 +133,16 @@ lent_tables sizes main preprocessed public_values nodes lookups names tuples mul
       public_values = public_values;
       nodes = nodes;
       lookups = lent_lookups lookups names tuples multiplicities flags elements;
+    }
+
+-- the tables, from what a caller lends
+abbrev pub as_tables : LentTables → TableLists
+as_tables t =
+    record {
+      sizes = t.sizes.now;
+      main = t.main.now;
+      preprocessed = t.preprocessed.now;
+      public_values = t.public_values.now;
+      nodes = t.nodes.now;
+      lookups = as_lookups t.lookups;
     }

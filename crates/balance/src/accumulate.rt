@@ -6,66 +6,55 @@ ghost use Rattle.balance_slots.specs.inner.Work.{work, step};
 ghost use Rattle.balance.specs.Entries.{member_entries};
 ghost use Rattle.balance.specs.Members.{member_at};
 ghost use Rattle.balance.specs.inner.Requires.{TablesTested};
-ghost use Rattle.balance.specs.Tables.{TableLists, lent_tables};
+ghost use Rattle.balance.specs.Tables.{TableLists, as_tables};
 ghost use Rattle.balance_slots.specs.Workspace.{slot_words};
 
 use crate::rows::accumulate_rows;
 use crate::starts::lookup_starts;
 use crate::tables::{
-    MAIN_COUNT_SIZE, NODE_COUNT_SIZE, PREPROCESSED_COUNT_SIZE, PUBLIC_VALUE_COUNT_SIZE,
+    LentTables, MAIN_COUNT_SIZE, NODE_COUNT_SIZE, PREPROCESSED_COUNT_SIZE, PUBLIC_VALUE_COUNT_SIZE,
     TABLE_SIZES, shape_of, table_of,
 };
 use balance_slots::hash::Seed;
 use expression::node::NODE_WORDS;
+use expression::table::LentTraces;
 use lookup::sizes::{part_end, part_start};
 
 // Lookup m, with its table's parts of the traces and nodes, and so many slots in use before; how many after, or none if one was missing.
 // The bytes of the names are none of its concern.
 pub fn accumulate_lookup(
     p: u32,
-    sizes: &[u32],
-    main: &[u32],
-    preprocessed: &[u32],
-    public_values: &[u32],
-    nodes: &[u32],
-    lookups: &[u32],
-    names: &[u8],
-    tuples: &[u32],
-    multiplicities: &[u32],
-    flags: &[u32],
-    elements: &[u32],
+    tables: &LentTables,
     m: usize,
     seed: Seed,
     workspace: &mut [u32],
     used: usize,
 ) -> Option<usize>
-    requires { let l : TableLists = lent_tables sizes.now main.now preprocessed.now public_values.now nodes.now lookups.now names.now tuples.now multiplicities.now flags.now elements.now in TablesTested p l × (m < lookup_count l.lookups.lookups) × (slot_words * used ≤ length workspace.old) }
-    ensures { let l : TableLists = lent_tables sizes.now main.now preprocessed.now public_values.now nodes.now lookups.now names.now tuples.now multiplicities.now flags.now elements.now in work workspace.new result ≡ fold (step p) (work workspace.old (Some used)) (member_entries p (member_at l m)) }
+    requires { let l : TableLists = as_tables tables.now in TablesTested p l × (m < lookup_count l.lookups.lookups) × (slot_words * used ≤ length workspace.old) }
+    ensures { work workspace.new result ≡ fold (step p) (work workspace.old (Some used)) (member_entries p (member_at (as_tables tables.now) m)) }
 {
     // The bounds have names: within the slices' brackets the calls are no plainer.
-    let t = table_of(sizes, m);
-    let shape = shape_of(sizes, t);
-    let main_start = part_start(sizes, TABLE_SIZES, MAIN_COUNT_SIZE, 1, t);
-    let main_end = part_end(sizes, TABLE_SIZES, MAIN_COUNT_SIZE, 1, t);
-    let preprocessed_start = part_start(sizes, TABLE_SIZES, PREPROCESSED_COUNT_SIZE, 1, t);
-    let preprocessed_end = part_end(sizes, TABLE_SIZES, PREPROCESSED_COUNT_SIZE, 1, t);
-    let public_values_start = part_start(sizes, TABLE_SIZES, PUBLIC_VALUE_COUNT_SIZE, 1, t);
-    let public_values_end = part_end(sizes, TABLE_SIZES, PUBLIC_VALUE_COUNT_SIZE, 1, t);
-    let nodes_start = part_start(sizes, TABLE_SIZES, NODE_COUNT_SIZE, NODE_WORDS, t);
-    let nodes_end = part_end(sizes, TABLE_SIZES, NODE_COUNT_SIZE, NODE_WORDS, t);
-    let starts = lookup_starts(lookups, tuples, m);
+    let t = table_of(tables.sizes, m);
+    let main_start = part_start(tables.sizes, TABLE_SIZES, MAIN_COUNT_SIZE, 1, t);
+    let main_end = part_end(tables.sizes, TABLE_SIZES, MAIN_COUNT_SIZE, 1, t);
+    let preprocessed_start = part_start(tables.sizes, TABLE_SIZES, PREPROCESSED_COUNT_SIZE, 1, t);
+    let preprocessed_end = part_end(tables.sizes, TABLE_SIZES, PREPROCESSED_COUNT_SIZE, 1, t);
+    let public_values_start = part_start(tables.sizes, TABLE_SIZES, PUBLIC_VALUE_COUNT_SIZE, 1, t);
+    let public_values_end = part_end(tables.sizes, TABLE_SIZES, PUBLIC_VALUE_COUNT_SIZE, 1, t);
+    let nodes_start = part_start(tables.sizes, TABLE_SIZES, NODE_COUNT_SIZE, NODE_WORDS, t);
+    let nodes_end = part_end(tables.sizes, TABLE_SIZES, NODE_COUNT_SIZE, NODE_WORDS, t);
+    let starts = lookup_starts(tables.lookups.records, tables.lookups.tuples, m);
     accumulate_rows(
         p,
-        shape,
-        &main[main_start..main_end],
-        &preprocessed[preprocessed_start..preprocessed_end],
-        &public_values[public_values_start..public_values_end],
-        &nodes[nodes_start..nodes_end],
+        &LentTraces {
+            shape: shape_of(tables.sizes, t),
+            main: &tables.main[main_start..main_end],
+            preprocessed: &tables.preprocessed[preprocessed_start..preprocessed_end],
+            public_values: &tables.public_values[public_values_start..public_values_end],
+        },
+        &tables.nodes[nodes_start..nodes_end],
         starts,
-        tuples,
-        multiplicities,
-        flags,
-        elements,
+        &tables.lookups,
         seed,
         workspace,
         used,

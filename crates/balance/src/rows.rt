@@ -3,12 +3,12 @@ ghost use Rattle.std.specs.Prelude.{◌≡◌, Some, ℕ, ◌++◌, map, ◌+◌
 ghost use Rattle.lists.specs.Fold.{fold};
 ghost use Rattle.field.specs.inner.Requires.{KnownPrime};
 ghost use Rattle.expression.specs.Words.{word};
-ghost use Rattle.expression.specs.Window.{lent_traces};
+ghost use Rattle.expression.specs.Window.{as_traces};
 ghost use Rattle.expression.specs.Values.{row_values};
 ghost use Rattle.expression.specs.Requires.{Below, Evaluable};
 ghost use Rattle.balance_slots.specs.inner.Work.{work, step};
 ghost use Rattle.balance_slots.specs.inner.Chain.{plain_work, ChainsLinked};
-ghost use Rattle.balance.specs.inner.LookupStarts.{PartLists, part_lists, Source, source, StartsWithin, count_from, entries_from, rows_entries};
+ghost use Rattle.balance.specs.inner.LookupStarts.{as_parts, Source, source, StartsWithin, count_from, entries_from, rows_entries};
 ghost use Rattle.balance_slots.specs.Workspace.{slot_words, tuple_words};
 
 use crate::starts::LookupStarts;
@@ -16,10 +16,11 @@ use balance_slots::add::{Linked, add};
 use balance_slots::hash::Seed;
 use balance_slots::link::{link_slots, unlink_slots};
 use expression::node::NODE_WORDS;
-use expression::sizes::Shape;
+use expression::table::LentTraces;
 use expression::words::word_at;
 use expression_eval::traits::row_values;
 use field::word;
+use lookup::table::LentLookups;
 
 // The words of a tuple, and zeros.
 fn tuple_values(vals: &[u32], nodes: &[u32]) -> [u32; 8]
@@ -52,20 +53,20 @@ fn add_tuple(
 }
 
 // How often tuple k counts: multiplicity × flag.
-fn entry_count(
-    p: u32,
-    starts: LookupStarts,
-    vals: &[u32],
-    multiplicities: &[u32],
-    flags: &[u32],
-    k: usize,
-) -> u32
-    requires { KnownPrime p × Below p vals.now × (starts.multiplicities + k < length multiplicities.now) × ((first : ℕ) → starts.flags ≡ Some first → first + k < length flags.now) }
-    ensures { result ≡ count_from p starts multiplicities.now flags.now vals.now k }
+fn entry_count(p: u32, starts: LookupStarts, vals: &[u32], lookups: &LentLookups, k: usize) -> u32
+    requires { KnownPrime p × Below p vals.now × (starts.multiplicities + k < length lookups.now.multiplicities.now) × ((first : ℕ) → starts.flags ≡ Some first → first + k < length lookups.now.flags.now) }
+    ensures { result ≡ count_from p starts lookups.now.multiplicities.now lookups.now.flags.now vals.now k }
 {
-    let multiplicity = word_at(vals, multiplicities[starts.multiplicities + k] as usize);
+    let multiplicity = word_at(
+        vals,
+        lookups.multiplicities[starts.multiplicities + k] as usize,
+    );
     match starts.flags {
-        Some(first) => word::mul(p, multiplicity, word_at(vals, flags[first + k] as usize)),
+        Some(first) => word::mul(
+            p,
+            multiplicity,
+            word_at(vals, lookups.flags[first + k] as usize),
+        ),
         None => multiplicity,
     }
 }
@@ -79,19 +80,16 @@ fn add_tuples(
     u: Linked,
     vals: &[u32],
     starts: LookupStarts,
-    tuples: &[u32],
-    multiplicities: &[u32],
-    flags: &[u32],
-    elements: &[u32],
+    lookups: &LentLookups,
 ) -> Option<Linked>
-    requires { let l : PartLists = part_lists tuples.now multiplicities.now flags.now elements.now in KnownPrime p × Below p vals.now × ChainsLinked seed heads.old workspace.old (Some u) × StartsWithin starts l }
-    ensures { let l : PartLists = part_lists tuples.now multiplicities.now flags.now elements.now in (plain_work workspace.new result ≡ fold (step p) (plain_work workspace.old (Some u)) (entries_from p starts l vals.now)) × ChainsLinked seed heads.new workspace.new result }
+    requires { KnownPrime p × Below p vals.now × ChainsLinked seed heads.old workspace.old (Some u) × StartsWithin starts (as_parts lookups.now) }
+    ensures { (plain_work workspace.new result ≡ fold (step p) (plain_work workspace.old (Some u)) (entries_from p starts (as_parts lookups.now) vals.now)) × ChainsLinked seed heads.new workspace.new result }
 {
     let mut v = u;
     let mut at = starts.elements;
     for k in 0..starts.count {
-        let end = at + tuples[starts.tuples + k] as usize;
-        let times = entry_count(p, starts, vals, multiplicities, flags, k);
+        let end = at + lookups.tuples[starts.tuples + k] as usize;
+        let times = entry_count(p, starts, vals, lookups, k);
         v = add_tuple(
             p,
             seed,
@@ -99,7 +97,7 @@ fn add_tuples(
             workspace,
             v,
             vals,
-            &elements[at..end],
+            &lookups.elements[at..end],
             times,
         )?;
         at = end;
@@ -110,92 +108,44 @@ fn add_tuples(
 // The lookup on row r. The values of the nodes are zero at the start of every row.
 fn accumulate_row(
     p: u32,
-    shape: Shape,
-    main: &[u32],
-    preprocessed: &[u32],
-    public_values: &[u32],
+    traces: &LentTraces,
     nodes: &[u32],
     r: usize,
     starts: LookupStarts,
-    tuples: &[u32],
-    multiplicities: &[u32],
-    flags: &[u32],
-    elements: &[u32],
+    lookups: &LentLookups,
     seed: Seed,
     heads: &mut [u32],
     workspace: &mut [u32],
     u: Linked,
 ) -> Option<Linked>
-    requires { let s : Source = source (lent_traces shape main.now preprocessed.now public_values.now) nodes.now (part_lists tuples.now multiplicities.now flags.now elements.now) in Evaluable p s.traces s.nodes × (r < s.traces.shape.height) × ChainsLinked seed heads.old workspace.old (Some u) × StartsWithin starts s.parts }
-    ensures { let s : Source = source (lent_traces shape main.now preprocessed.now public_values.now) nodes.now (part_lists tuples.now multiplicities.now flags.now elements.now) in (plain_work workspace.new result ≡ fold (step p) (plain_work workspace.old (Some u)) (entries_from p starts s.parts (row_values p s.nodes s.traces r))) × ChainsLinked seed heads.new workspace.new result }
+    requires { let s : Source = source (as_traces traces.now) nodes.now (as_parts lookups.now) in Evaluable p s.traces s.nodes × (r < s.traces.shape.height) × ChainsLinked seed heads.old workspace.old (Some u) × StartsWithin starts s.parts }
+    ensures { let s : Source = source (as_traces traces.now) nodes.now (as_parts lookups.now) in (plain_work workspace.new result ≡ fold (step p) (plain_work workspace.old (Some u)) (entries_from p starts s.parts (row_values p s.nodes s.traces r))) × ChainsLinked seed heads.new workspace.new result }
 {
     let mut vals = [0u32; 1024];
-    row_values(
-        p,
-        shape,
-        main,
-        preprocessed,
-        public_values,
-        nodes,
-        r,
-        &mut vals,
-    );
+    row_values(p, traces, nodes, r, &mut vals);
     let n = nodes.len() / NODE_WORDS;
-    add_tuples(
-        p,
-        seed,
-        heads,
-        workspace,
-        u,
-        &vals[0..n],
-        starts,
-        tuples,
-        multiplicities,
-        flags,
-        elements,
-    )
+    add_tuples(p, seed, heads, workspace, u, &vals[0..n], starts, lookups)
 }
 
 // The lookup on each row, into linked slots.
 fn accumulate_linked(
     p: u32,
-    shape: Shape,
-    main: &[u32],
-    preprocessed: &[u32],
-    public_values: &[u32],
+    traces: &LentTraces,
     nodes: &[u32],
     starts: LookupStarts,
-    tuples: &[u32],
-    multiplicities: &[u32],
-    flags: &[u32],
-    elements: &[u32],
+    lookups: &LentLookups,
     seed: Seed,
     heads: &mut [u32],
     workspace: &mut [u32],
     u: Linked,
 ) -> Option<Linked>
-    requires { let s : Source = source (lent_traces shape main.now preprocessed.now public_values.now) nodes.now (part_lists tuples.now multiplicities.now flags.now elements.now) in Evaluable p s.traces s.nodes × (s.traces.shape.height ≤ 1048576) × ChainsLinked seed heads.old workspace.old (Some u) × StartsWithin starts s.parts }
-    ensures { let s : Source = source (lent_traces shape main.now preprocessed.now public_values.now) nodes.now (part_lists tuples.now multiplicities.now flags.now elements.now) in (plain_work workspace.new result ≡ fold (step p) (plain_work workspace.old (Some u)) (rows_entries p starts s s.traces.shape.height)) × ChainsLinked seed heads.new workspace.new result }
+    requires { let s : Source = source (as_traces traces.now) nodes.now (as_parts lookups.now) in Evaluable p s.traces s.nodes × (s.traces.shape.height ≤ 1048576) × ChainsLinked seed heads.old workspace.old (Some u) × StartsWithin starts s.parts }
+    ensures { let s : Source = source (as_traces traces.now) nodes.now (as_parts lookups.now) in (plain_work workspace.new result ≡ fold (step p) (plain_work workspace.old (Some u)) (rows_entries p starts s s.traces.shape.height)) × ChainsLinked seed heads.new workspace.new result }
 {
     let mut v = u;
-    for r in 0..shape.height {
+    for r in 0..traces.shape.height {
         v = accumulate_row(
-            p,
-            shape,
-            main,
-            preprocessed,
-            public_values,
-            nodes,
-            r,
-            starts,
-            tuples,
-            multiplicities,
-            flags,
-            elements,
-            seed,
-            heads,
-            workspace,
-            v,
+            p, traces, nodes, r, starts, lookups, seed, heads, workspace, v,
         )?;
     }
     Some(v)
@@ -205,37 +155,25 @@ fn accumulate_linked(
 // the search, and unlinked at the end.
 pub fn accumulate_rows(
     p: u32,
-    shape: Shape,
-    main: &[u32],
-    preprocessed: &[u32],
-    public_values: &[u32],
+    traces: &LentTraces,
     nodes: &[u32],
     starts: LookupStarts,
-    tuples: &[u32],
-    multiplicities: &[u32],
-    flags: &[u32],
-    elements: &[u32],
+    lookups: &LentLookups,
     seed: Seed,
     workspace: &mut [u32],
     used: usize,
 ) -> Option<usize>
-    requires { let s : Source = source (lent_traces shape main.now preprocessed.now public_values.now) nodes.now (part_lists tuples.now multiplicities.now flags.now elements.now) in Evaluable p s.traces s.nodes × (s.traces.shape.height ≤ 1048576) × (slot_words * used ≤ length workspace.old) × StartsWithin starts s.parts }
-    ensures { let s : Source = source (lent_traces shape main.now preprocessed.now public_values.now) nodes.now (part_lists tuples.now multiplicities.now flags.now elements.now) in work workspace.new result ≡ fold (step p) (work workspace.old (Some used)) (rows_entries p starts s s.traces.shape.height) }
+    requires { let s : Source = source (as_traces traces.now) nodes.now (as_parts lookups.now) in Evaluable p s.traces s.nodes × (s.traces.shape.height ≤ 1048576) × (slot_words * used ≤ length workspace.old) × StartsWithin starts s.parts }
+    ensures { let s : Source = source (as_traces traces.now) nodes.now (as_parts lookups.now) in work workspace.new result ≡ fold (step p) (work workspace.old (Some used)) (rows_entries p starts s s.traces.shape.height) }
 {
     let mut heads = [0u32; 32768];
     let linked = link_slots(seed, &mut heads, workspace, used);
     let v = accumulate_linked(
         p,
-        shape,
-        main,
-        preprocessed,
-        public_values,
+        traces,
         nodes,
         starts,
-        tuples,
-        multiplicities,
-        flags,
-        elements,
+        lookups,
         seed,
         &mut heads,
         workspace,

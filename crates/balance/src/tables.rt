@@ -5,6 +5,7 @@ ghost use Rattle.balance.specs.Members.{table_of};
 
 use expression::sizes::Shape;
 use lookup::sizes::size;
+use lookup::table::LentLookups;
 
 // The sizes of a table, and the place of each among them.
 pub const TABLE_SIZES: usize = 14;
@@ -36,6 +37,17 @@ pub const MULTIPLICITY_COUNT_SIZE: usize = 11;
 pub const FLAG_COUNT_SIZE: usize = 12;
 
 pub const ELEMENT_COUNT_SIZE: usize = 13;
+
+// Several tables, one after the other in each list. `sizes` has fourteen words for each of them.
+#[derive(Clone, Copy)]
+pub struct LentTables<'a> {
+    pub sizes: &'a [u32],
+    pub main: &'a [u32],
+    pub preprocessed: &'a [u32],
+    pub public_values: &'a [u32],
+    pub nodes: &'a [u32],
+    pub lookups: LentLookups<'a>,
+}
 
 pub fn shape_of(sizes: &[u32], t: usize) -> Shape
     requires { (t < table_count sizes.now) × (table_count sizes.now ≤ 16) }

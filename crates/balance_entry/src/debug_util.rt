@@ -4,8 +4,9 @@ ghost use Rattle.field.specs.inner.Requires.{KnownPrime};
 ghost use Rattle.expression.specs.Limits.{Sane};
 ghost use Rattle.expression.specs.Refusal.{refusal};
 ghost use Rattle.balance.specs.Balance.{check, check_at, in_numbers};
-ghost use Rattle.balance.specs.Tables.{TableLists, lent_tables};
+ghost use Rattle.balance.specs.Tables.{as_tables};
 
+use balance::tables::LentTables;
 use balance_groups::check::check_groups;
 use balance_groups::tests::{lists_fit, tables_verdict};
 use balance_slots::hash::{Seed, seed_of};
@@ -18,98 +19,33 @@ use field::modulus::prime_of;
 pub fn check_within(
     limits: Limits,
     p: u32,
-    sizes: &[u32],
-    main: &[u32],
-    preprocessed: &[u32],
-    public_values: &[u32],
-    nodes: &[u32],
-    lookups: &[u32],
-    names: &[u8],
-    tuples: &[u32],
-    multiplicities: &[u32],
-    flags: &[u32],
-    elements: &[u32],
+    tables: &LentTables,
     seed: Seed,
     workspace: &mut [u32],
 ) -> Result<(), Refusal>
     requires { Sane limits × KnownPrime p }
-    ensures { let l : TableLists = lent_tables sizes.now main.now preprocessed.now public_values.now nodes.now lookups.now names.now tuples.now multiplicities.now flags.now elements.now in record { refusal = refusal result; workspace = workspace.new } ≡ check limits p l workspace.old }
+    ensures { record { refusal = refusal result; workspace = workspace.new } ≡ check limits p (as_tables tables.now) workspace.old }
 {
-    if !lists_fit(
-        limits,
-        sizes,
-        main,
-        preprocessed,
-        public_values,
-        nodes,
-        lookups,
-        names,
-        tuples,
-        multiplicities,
-        flags,
-        elements,
-    ) {
+    if !lists_fit(limits, tables) {
         return Err(Refusal::SizeAtOdds);
     }
-    tables_verdict(
-        limits,
-        p,
-        sizes,
-        main,
-        preprocessed,
-        public_values,
-        nodes,
-        lookups,
-        names,
-        tuples,
-        multiplicities,
-        flags,
-        elements,
-    )?;
-    check_groups(
-        p,
-        sizes,
-        main,
-        preprocessed,
-        public_values,
-        nodes,
-        lookups,
-        names,
-        tuples,
-        multiplicities,
-        flags,
-        elements,
-        seed,
-        workspace,
-    )
+    tables_verdict(limits, p, tables)?;
+    check_groups(p, tables, seed, workspace)
 }
 
-// Several tables, one after the other in each list; `sizes` has fourteen words for each of them: main width, height,
+// Several tables, one after the other in each list; `tables.sizes` has fourteen words for each of them: main width, height,
 // preprocessed width, preprocessed height, then how many main words, preprocessed words, public values, nodes, lookups,
 // bytes of names, tuples, multiplicities, flags and elements it has. A slot of the workspace has ten words. The seed is any number,
 // drawn where traces come from others: it decides in which chain a tuple is searched. `check_at`, the right side of the contract, takes
 // no seed: so it changes the time and never the answer.
 pub fn check_lookups(
     choices: Choices,
-    sizes: &[u32],
-    main: &[u32],
-    preprocessed: &[u32],
-    public_values: &[u32],
-    nodes: &[u32],
-    lookups: &[u32],
-    names: &[u8],
-    tuples: &[u32],
-    multiplicities: &[u32],
-    flags: &[u32],
-    elements: &[u32],
+    tables: &LentTables,
     seed: u64,
     workspace: &mut [u32],
 ) -> Result<(), Refusal>
     ensures { in_numbers (record { refusal = refusal result; workspace = workspace.new })
-        ≡ in_numbers (check_at choices
-        (lent_tables sizes.now main.now preprocessed.now public_values.now nodes.now
-        lookups.now names.now tuples.now multiplicities.now flags.now elements.now)
-        workspace.old) }
+        ≡ in_numbers (check_at choices (as_tables tables.now) workspace.old) }
 {
     if !known(choices) {
         return Err(Refusal::SizeAtOdds);
@@ -117,17 +53,7 @@ pub fn check_lookups(
     check_within(
         limits_of(choices.profile),
         prime_of(choices.field),
-        sizes,
-        main,
-        preprocessed,
-        public_values,
-        nodes,
-        lookups,
-        names,
-        tuples,
-        multiplicities,
-        flags,
-        elements,
+        tables,
         seed_of(seed),
         workspace,
     )

@@ -7,12 +7,13 @@ ghost use Rattle.expression.specs.Refusal.{refusal};
 ghost use Rattle.lookup.specs.Lookups.{lookup_count};
 ghost use Rattle.balance.specs.Balance.{visit, unvisited, outcome};
 ghost use Rattle.balance.specs.inner.Requires.{TablesTested};
-ghost use Rattle.balance.specs.Tables.{TableLists, lent_tables};
+ghost use Rattle.balance.specs.Tables.{TableLists, as_tables};
 ghost use Rattle.balance_groups.specs.inner.ByNumber.{group_at, groups_to};
 ghost use Rattle.balance_groups.specs.inner.Visits.{at_group, IsVisited, group_visited};
 
 use crate::accumulate::accumulate_group;
 use crate::buses::starts_group;
+use balance::tables::LentTables;
 use balance_slots::group_refusal::group_refusal;
 use balance_slots::hash::Seed;
 use expression::refusal::Refusal;
@@ -22,44 +23,17 @@ use lookup::types::LOOKUP_WORDS;
 // The group of lookup m, in a workspace of zeros: the refusal that it has, or the number of the next group.
 fn check_group(
     p: u32,
-    sizes: &[u32],
-    main: &[u32],
-    preprocessed: &[u32],
-    public_values: &[u32],
-    nodes: &[u32],
-    lookups: &[u32],
-    names: &[u8],
-    tuples: &[u32],
-    multiplicities: &[u32],
-    flags: &[u32],
-    elements: &[u32],
+    tables: &LentTables,
     m: usize,
     seed: Seed,
     workspace: &mut [u32],
     g: u64,
 ) -> Result<u64, Refusal>
-    requires { let l : TableLists = lent_tables sizes.now main.now preprocessed.now public_values.now nodes.now lookups.now names.now tuples.now multiplicities.now flags.now elements.now in TablesTested p l × (m < lookup_count l.lookups.lookups) × (g ≤ 4294967295) }
-    ensures { let l : TableLists = lent_tables sizes.now main.now preprocessed.now public_values.now nodes.now lookups.now names.now tuples.now multiplicities.now flags.now elements.now in IsVisited workspace.new result (group_visited p (length workspace.old) g (group_at l m)) }
+    requires { let l : TableLists = as_tables tables.now in TablesTested p l × (m < lookup_count l.lookups.lookups) × (g ≤ 4294967295) }
+    ensures { IsVisited workspace.new result (group_visited p (length workspace.old) g (group_at (as_tables tables.now) m)) }
 {
     clear(workspace);
-    let u = accumulate_group(
-        p,
-        sizes,
-        main,
-        preprocessed,
-        public_values,
-        nodes,
-        lookups,
-        names,
-        tuples,
-        multiplicities,
-        flags,
-        elements,
-        m,
-        seed,
-        workspace,
-        0,
-    );
+    let u = accumulate_group(p, tables, m, seed, workspace, 0);
     group_refusal(workspace, u, g)?;
     Ok(g + 1)
 }
@@ -67,47 +41,20 @@ fn check_group(
 // The groups of the locals, or of the buses, from group g on, up to the first refusal; answers the number of the next group.
 fn check_kind(
     p: u32,
-    sizes: &[u32],
-    main: &[u32],
-    preprocessed: &[u32],
-    public_values: &[u32],
-    nodes: &[u32],
-    lookups: &[u32],
-    names: &[u8],
-    tuples: &[u32],
-    multiplicities: &[u32],
-    flags: &[u32],
-    elements: &[u32],
+    tables: &LentTables,
     buses: bool,
     seed: Seed,
     workspace: &mut [u32],
     g: u64,
 ) -> Result<u64, Refusal>
-    requires { let l : TableLists = lent_tables sizes.now main.now preprocessed.now public_values.now nodes.now lookups.now names.now tuples.now multiplicities.now flags.now elements.now in TablesTested p l × (g ≤ 1024) }
-    ensures { let l : TableLists = lent_tables sizes.now main.now preprocessed.now public_values.now nodes.now lookups.now names.now tuples.now multiplicities.now flags.now elements.now in IsVisited workspace.new result (fold (visit p (length workspace.old)) (at_group workspace.old g) (groups_to l buses (lookup_count l.lookups.lookups))) × IfOk result (λ n. n ≤ g + 1024) }
+    requires { TablesTested p (as_tables tables.now) × (g ≤ 1024) }
+    ensures { let l : TableLists = as_tables tables.now in IsVisited workspace.new result (fold (visit p (length workspace.old)) (at_group workspace.old g) (groups_to l buses (lookup_count l.lookups.lookups))) × IfOk result (λ n. n ≤ g + 1024) }
 {
-    let n = lookups.len() / LOOKUP_WORDS;
+    let n = tables.lookups.records.len() / LOOKUP_WORDS;
     let mut next = g;
     for m in 0..n {
-        if starts_group(lookups, names, buses, m) {
-            next = check_group(
-                p,
-                sizes,
-                main,
-                preprocessed,
-                public_values,
-                nodes,
-                lookups,
-                names,
-                tuples,
-                multiplicities,
-                flags,
-                elements,
-                m,
-                seed,
-                workspace,
-                next,
-            )?;
+        if starts_group(tables.lookups.records, tables.lookups.names, buses, m) {
+            next = check_group(p, tables, m, seed, workspace, next)?;
         }
     }
     Ok(next)
@@ -116,59 +63,14 @@ fn check_kind(
 // All groups of tables that have none of refusals 1 to 12.
 pub fn check_groups(
     p: u32,
-    sizes: &[u32],
-    main: &[u32],
-    preprocessed: &[u32],
-    public_values: &[u32],
-    nodes: &[u32],
-    lookups: &[u32],
-    names: &[u8],
-    tuples: &[u32],
-    multiplicities: &[u32],
-    flags: &[u32],
-    elements: &[u32],
+    tables: &LentTables,
     seed: Seed,
     workspace: &mut [u32],
 ) -> Result<(), Refusal>
-    requires { let l : TableLists = lent_tables sizes.now main.now preprocessed.now public_values.now nodes.now lookups.now names.now tuples.now multiplicities.now flags.now elements.now in TablesTested p l }
-    ensures { let l : TableLists = lent_tables sizes.now main.now preprocessed.now public_values.now nodes.now lookups.now names.now tuples.now multiplicities.now flags.now elements.now in record { refusal = refusal result; workspace = workspace.new } ≡ outcome none (fold (visit p (length workspace.old)) (unvisited (length workspace.old)) (groups_to l false (lookup_count l.lookups.lookups) ++ groups_to l true (lookup_count l.lookups.lookups))) workspace.old }
+    requires { TablesTested p (as_tables tables.now) }
+    ensures { let l : TableLists = as_tables tables.now in record { refusal = refusal result; workspace = workspace.new } ≡ outcome none (fold (visit p (length workspace.old)) (unvisited (length workspace.old)) (groups_to l false (lookup_count l.lookups.lookups) ++ groups_to l true (lookup_count l.lookups.lookups))) workspace.old }
 {
     clear(workspace);
-    let locals = check_kind(
-        p,
-        sizes,
-        main,
-        preprocessed,
-        public_values,
-        nodes,
-        lookups,
-        names,
-        tuples,
-        multiplicities,
-        flags,
-        elements,
-        false,
-        seed,
-        workspace,
-        0,
-    )?;
-    check_kind(
-        p,
-        sizes,
-        main,
-        preprocessed,
-        public_values,
-        nodes,
-        lookups,
-        names,
-        tuples,
-        multiplicities,
-        flags,
-        elements,
-        true,
-        seed,
-        workspace,
-        locals,
-    )
-    .and(Ok(()))
+    let locals = check_kind(p, tables, false, seed, workspace, 0)?;
+    check_kind(p, tables, true, seed, workspace, locals).and(Ok(()))
 }

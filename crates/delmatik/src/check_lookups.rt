@@ -5,9 +5,11 @@ ghost use Rattle.balance.specs.Balance.{check_at};
 ghost use Rattle.balance.specs.Tables.{lent_tables};
 ghost use Rattle.delmatik.specs.Exports.{exported_balance};
 
+use balance::tables::LentTables;
 use balance_entry::debug_util::check_lookups;
 use delmatik_answers::answer::write_answer;
 use expression::choices::Choices;
+use lookup::table::LentLookups;
 
 // `check_lookups`: the lists of all tables, one table after the other, and fourteen words of sizes for each table: main width, height,
 // preprocessed width, preprocessed height, then how many main words, preprocessed words, public values, nodes, lookups, bytes of names,
@@ -39,17 +41,21 @@ pub fn delmatik_balance(
 {
     let v = check_lookups(
         Choices { field, profile },
-        sizes,
-        main,
-        preprocessed,
-        public_values,
-        nodes,
-        lookups,
-        names,
-        tuples,
-        multiplicities,
-        flags,
-        elements,
+        &LentTables {
+            sizes,
+            main,
+            preprocessed,
+            public_values,
+            nodes,
+            lookups: LentLookups {
+                records: lookups,
+                names,
+                tuples,
+                multiplicities,
+                flags,
+                elements,
+            },
+        },
         seed,
         workspace,
     );

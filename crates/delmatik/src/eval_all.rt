@@ -12,7 +12,9 @@ use delmatik_answers::answer::write_answer;
 use delmatik_answers::terminal::marked_terminal;
 use expression::choices::Choices;
 use expression::sizes::Shape;
+use expression::table::LentTraces;
 use logup_constraints::eval_all::eval_all;
+use lookup::table::{LentLookups, LentTable};
 
 // `eval_all`: the number of the refusal is returned, 0 where every constraint is zero on every row; its details are written. The terminal
 // is a mark, 0 where it is absent, and its four words.
@@ -54,22 +56,28 @@ pub fn delmatik_constraints(
     let v = eval_all(
         Choices { field, profile },
         rule,
-        Shape {
-            main_width,
-            height,
-            pre_width,
-            pre_height,
+        &LentTable {
+            traces: LentTraces {
+                shape: Shape {
+                    main_width,
+                    height,
+                    pre_width,
+                    pre_height,
+                },
+                main,
+                preprocessed,
+                public_values,
+            },
+            nodes,
+            lookups: LentLookups {
+                records: lookups,
+                names,
+                tuples,
+                multiplicities,
+                flags,
+                elements,
+            },
         },
-        main,
-        preprocessed,
-        public_values,
-        nodes,
-        lookups,
-        names,
-        tuples,
-        multiplicities,
-        flags,
-        elements,
         challenges,
         trace_width,
         trace,

@@ -10,7 +10,7 @@ use delmatik_answers::answer::{verdict, write_answer};
 use delmatik_answers::built::write_built;
 use expression::choices::Choices;
 use lookup::refusals::Columns;
-use lookup_builder::answer::Kinds;
+use lookup_builder::answer::{Kinds, LentInteractions};
 use lookup_builder::builder::from_interactions;
 
 // `from_interactions` of one table: the lookups' words into the front of a lent list, and how many are used. `interactions` has two words for
@@ -56,13 +56,15 @@ pub fn delmatik_build(
             globals,
             exclusives,
         },
-        interactions,
-        weights,
-        names,
-        tuples,
-        multiplicities,
-        flags,
-        elements,
+        &LentInteractions {
+            records: interactions,
+            weights,
+            names,
+            tuples,
+            multiplicities,
+            flags,
+            elements,
+        },
         lookups_out,
     );
     write_built(a, used);

@@ -14,7 +14,9 @@ use delmatik_answers::generated::write_terminal;
 use delmatik_answers::row::write_part;
 use expression::choices::Choices;
 use expression::sizes::Shape;
+use expression::table::LentTraces;
 use logup_generation::generate_permutation::{generate, row};
+use lookup::table::{LentLookups, LentTable};
 
 // `generate_permutation`: the number of the refusal is returned, 0 where there is none; its details, the terminal and the trace are written.
 // Refusals 1 to 12 leave terminal and trace as they were; after 13 to 15 the terminal is five zeros.
@@ -51,22 +53,28 @@ pub fn delmatik_generate(
     let g = generate(
         Choices { field, profile },
         rule,
-        Shape {
-            main_width,
-            height,
-            pre_width,
-            pre_height,
+        &LentTable {
+            traces: LentTraces {
+                shape: Shape {
+                    main_width,
+                    height,
+                    pre_width,
+                    pre_height,
+                },
+                main,
+                preprocessed,
+                public_values,
+            },
+            nodes,
+            lookups: LentLookups {
+                records: lookups,
+                names,
+                tuples,
+                multiplicities,
+                flags,
+                elements,
+            },
         },
-        main,
-        preprocessed,
-        public_values,
-        nodes,
-        lookups,
-        names,
-        tuples,
-        multiplicities,
-        flags,
-        elements,
         challenges,
         trace,
     );

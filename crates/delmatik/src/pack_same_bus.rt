@@ -10,6 +10,7 @@ use delmatik_answers::answer::{verdict, write_answer};
 use delmatik_answers::packed::write_used;
 use expression::choices::Choices;
 use lookup::refusals::Columns;
+use lookup::table::LentLookups;
 use packing_entry::pack_same_bus::pack_same_bus;
 
 // `pack_same_bus` of one table: its columns into the front of six lent lists, each as long as the table's own at least, and how much of each is
@@ -59,12 +60,14 @@ pub fn delmatik_pack(
             public_values,
         },
         nodes,
-        lookups,
-        names,
-        tuples,
-        multiplicities,
-        flags,
-        elements,
+        &LentLookups {
+            records: lookups,
+            names,
+            tuples,
+            multiplicities,
+            flags,
+            elements,
+        },
         lookups_out,
         names_out,
         tuples_out,

@@ -11,6 +11,7 @@ use delmatik_answers::answer::{verdict, write_answer};
 use delmatik_answers::values::write_number;
 use expression::choices::Choices;
 use lookup::refusals::Columns;
+use lookup::table::LentLookups;
 use lookup_buses::check_bus_widths::check_bus_widths;
 use lookup_degree::constraint_degree::constraint_degree;
 
@@ -46,12 +47,14 @@ pub fn delmatik_degree(
             public_values,
         },
         nodes,
-        lookups,
-        names,
-        tuples,
-        multiplicities,
-        flags,
-        elements,
+        &LentLookups {
+            records: lookups,
+            names,
+            tuples,
+            multiplicities,
+            flags,
+            elements,
+        },
         lookup,
         transition,
     );

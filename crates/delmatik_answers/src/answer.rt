@@ -3,7 +3,6 @@ ghost use Rattle.std.specs.Prelude.{◌≡◌};
 ghost use Rattle.expression.specs.Refusal.{the_details, refusal, answer_number, answer_details};
 ghost use Rattle.delmatik_answers.specs.Refused.{refused};
 
-use expression::numbers;
 use expression::refusal::{Refusal, ThreeDetails};
 
 // What an answer refuses, whatever it else holds.
@@ -25,7 +24,7 @@ pub fn number(v: Result<(), Refusal>) -> u32
 {
     match v {
         Ok(()) => 0,
-        Err(f) => numbers::number(f),
+        Err(f) => f.number(),
     }
 }
 
@@ -38,7 +37,7 @@ pub fn details(v: Result<(), Refusal>) -> ThreeDetails
             second: 0,
             third: 0,
         },
-        Err(f) => numbers::details(f),
+        Err(f) => f.details(),
     }
 }
 

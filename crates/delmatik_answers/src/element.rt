@@ -3,7 +3,6 @@ ghost use Rattle.std.specs.Prelude.{◌≡◌, length};
 ghost use Rattle.expression.specs.Refusal.{refusal};
 ghost use Rattle.delmatik_answers.specs.Element.{four_below, element_refusal, exported_power, exported_inverse};
 
-use expression::numbers;
 use expression::refusal::Refusal;
 use field::extension;
 use field::modulus::{known_field, prime_of, w_of};
@@ -34,7 +33,7 @@ pub fn power(field: u32, a: &[u32], n: u32, out: &mut [u32]) -> u32
     ensures { record { number = result; out = out.new } ≡ exported_power field a.now n out.old }
 {
     if let Err(f) = test(field, a, out) {
-        return numbers::number(f);
+        return f.number();
     }
     extension::store(
         out,
@@ -48,7 +47,7 @@ pub fn inverse(field: u32, a: &[u32], out: &mut [u32]) -> u32
     ensures { record { number = result; out = out.new } ≡ exported_inverse field a.now out.old }
 {
     if let Err(f) = test(field, a, out) {
-        return numbers::number(f);
+        return f.number();
     }
     extension::store(
         out,

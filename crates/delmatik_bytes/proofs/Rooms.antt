@@ -1,4 +1,4 @@
--- The tests of two rooms by what is left of them: the lists fit both.
+-- The tests of two rooms by what is left of them: the lists fit both. And the lookups' parts, after five others.
 use mathlib.Core.Path.{◌≡◌, refl, sym, ap, ap₂, ◌∙◌}
 use mathlib.Core.Bool.{Bool, true, ◌&&◌}
 use mathlib.Core.List.{List, [], ◌∷◌, ◌++◌, map}
@@ -6,7 +6,8 @@ use Prim.Native.Nat.{ℕ}
 use Rattle.std.specs.Prelude.{Option, Some}
 use lib.ListN.{length}
 use Rattle.wire.specs.Room.{fit}
-use Rattle.wire.specs.inner.Place.{all_less, filled}
+use Rattle.wire.specs.inner.Place.{all_less, filled, Ordered, After}
+use Rattle.wire.specs.declared.room.Ends.{Ends}
 use Rattle.wire.specs.laws.Room.{fit-told}
 
 -- what the first lists leave, and what the others leave of it
@@ -20,3 +21,23 @@ pub both_told : (xs ys zs : List (List ℕ)) (room other : List ℕ) {l m k : Op
 both_told xs ys zs room other e f g h q =
     let more = f ∙ ap (λ (l : Option ℕ). all_less l (map length ys)) e ∙ sym (less_more _ xs ys) in
     ap₂ ◌&&◌ (fit-told (xs ++ ys) room more g) (fit-told zs other h q)
+
+-- the second five parts, as five parts after a first
+pub back_after : {x y : Ends} {n : ℕ} → Ordered x y n → After x.fifth y n
+back_after o =
+    record {
+      first = o.sixth;
+      first_in = o.fifth_in;
+      rest =
+          record {
+            second = o.seventh;
+            third = o.eighth;
+            fourth = o.ninth;
+            fifth = o.tenth;
+            first_in = o.sixth_in;
+            second_in = o.seventh_in;
+            third_in = o.eighth_in;
+            fourth_in = o.ninth_in;
+            fifth_in = o.tenth_in;
+          };
+    }

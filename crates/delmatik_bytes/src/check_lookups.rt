@@ -7,6 +7,8 @@ ghost use Rattle.wire.specs.inner.Place.{parts, Ordered, both_ends};
 ghost use Rattle.delmatik_bytes.specs.Balance.{balance_on_bytes};
 ghost use Rattle.delmatik_bytes.specs.inner.Words.{balance_on_words};
 
+use crate::lookups::lookups_in;
+use balance::tables::LentTables;
 use balance_entry::debug_util::check_lookups;
 use delmatik_answers::answer::write_answer;
 use expression::choices::{Choices, known};
@@ -29,17 +31,14 @@ fn check_in(
 {
     check_lookups(
         choices,
-        &room[front.fourth..front.fifth],
-        &room[0..front.first],
-        &room[front.first..front.second],
-        &room[front.second..front.third],
-        &room[front.third..front.fourth],
-        &room[front.fifth..back.first],
-        names,
-        &room[back.first..back.second],
-        &room[back.second..back.third],
-        &room[back.third..back.fourth],
-        &room[back.fourth..back.fifth],
+        &LentTables {
+            sizes: &room[front.fourth..front.fifth],
+            main: &room[0..front.first],
+            preprocessed: &room[front.first..front.second],
+            public_values: &room[front.second..front.third],
+            nodes: &room[front.third..front.fourth],
+            lookups: lookups_in(room, front.fifth, back, names),
+        },
         seed,
         workspace,
     )

@@ -9,12 +9,15 @@ ghost use Rattle.wire.specs.inner.Place.{parts, Ordered, both_ends};
 ghost use Rattle.delmatik_bytes.specs.Generate.{generation_on_bytes};
 ghost use Rattle.delmatik_bytes.specs.inner.Words.{generation_on_words};
 
+use crate::lookups::lookups_in;
 use delmatik_answers::answer::write_details;
 use delmatik_answers::generated::{generation_details, generation_number, write_terminal};
 use expression::choices::{Choices, known, known_rule};
 use expression::refusal::Refusal;
 use expression::sizes::Shape;
+use expression::table::LentTraces;
 use logup_generation::generate_permutation::generate;
+use lookup::table::LentTable;
 use lookup::types::LookupTerminal;
 use wire::room::{Ends, fill, fill_five, filled, less, less_five};
 use wire::words::encode;
@@ -49,17 +52,16 @@ fn generate_in(
     generate(
         choices,
         rule,
-        shape,
-        &room[0..front.first],
-        &room[front.first..front.second],
-        &room[front.second..front.third],
-        &room[front.third..front.fourth],
-        &room[front.fifth..back.first],
-        names,
-        &room[back.first..back.second],
-        &room[back.second..back.third],
-        &room[back.third..back.fourth],
-        &room[back.fourth..back.fifth],
+        &LentTable {
+            traces: LentTraces {
+                shape,
+                main: &room[0..front.first],
+                preprocessed: &room[front.first..front.second],
+                public_values: &room[front.second..front.third],
+            },
+            nodes: &room[front.third..front.fourth],
+            lookups: lookups_in(room, front.fifth, back, names),
+        },
         &room[front.fourth..front.fifth],
         trace,
     )

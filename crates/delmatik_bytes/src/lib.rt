@@ -6,4 +6,5 @@
 
 pub mod check_lookups;
 pub mod generate_permutation;
+pub mod lookups;
 pub mod pack_same_bus;

@@ -2,7 +2,7 @@
 // `pack_same_bus` of words uses for its six lists.
 ghost use Rattle.std.specs.Prelude.{◌≡◌, true, ◌-◌, ◌≤◌, [], ◌∷◌, map, length, take, drop};
 ghost use Rattle.expression.specs.Choices.{choices_of};
-ghost use Rattle.lookup.specs.Lookups.{lent_lookups, lookup_count};
+ghost use Rattle.lookup.specs.Lookups.{lent_lookups, as_lookups, lookup_count};
 ghost use Rattle.packing_columns.specs.inner.LookupLists.{list_start, list_parts};
 ghost use Rattle.packing_columns.specs.inner.LookupListsRequires.{LookupNumbers, FewTuples};
 ghost use Rattle.packing.specs.Written.{written};
@@ -18,6 +18,7 @@ ghost use Rattle.delmatik_bytes.specs.Pack.{packing_on_bytes};
 ghost use Rattle.delmatik_bytes.specs.inner.Words.{lookups_in, packing_on_words};
 ghost use Rattle.delmatik_bytes.specs.inner.Sized.{Sized};
 
+use crate::lookups::lookups_in;
 use delmatik_answers::answer::write_answer;
 use delmatik_answers::packed::{packing_verdict, write_used};
 use expression::choices::{Choices, known, limits_of};
@@ -25,6 +26,7 @@ use expression::refusal::Refusal;
 use expression::sizes::Limits;
 use field::modulus::prime_of;
 use lookup::refusals::{Columns, form_refusal};
+use lookup::table::LentLookups;
 use lookup::types::LOOKUP_WORDS;
 use packing::answer::Counts;
 use packing_columns::columns::Plan;
@@ -53,72 +55,61 @@ fn write_at(
 }
 
 // The words of the packed table at the front of the five parts of a room, and its names.
-fn write_in(
-    plan: Plan,
-    lookups: &[u32],
-    names: &[u8],
-    tuples: &[u32],
-    multiplicities: &[u32],
-    flags: &[u32],
-    elements: &[u32],
-    ends: Ends,
-    names_out: &mut [u8],
-    room: &mut [u32],
-)
-    requires { OutputsHold plan (lent_lookups lookups.now names.now tuples.now multiplicities.now flags.now elements.now)
+fn write_in(plan: Plan, lookups: &LentLookups, ends: Ends, names_out: &mut [u8], room: &mut [u32])
+    requires { OutputsHold plan (as_lookups lookups.now)
         (lookups_in names_out.old (parts room.old 0 (five_ends ends))) × Split ends (length room.old) }
     ensures { lookups_in names_out.new (parts room.new 0 (five_ends ends))
-        ≡ all_written (plan_words plan (lent_lookups lookups.now names.now tuples.now multiplicities.now flags.now elements.now))
+        ≡ all_written (plan_words plan (as_lookups lookups.now))
         (lookups_in names_out.old (parts room.old 0 (five_ends ends))) }
 {
-    let n = lookups.len() / LOOKUP_WORDS;
+    let n = lookups.records.len() / LOOKUP_WORDS;
     let used = LOOKUP_WORDS * plan.columns;
     let order = &plan.order[0..n];
     copy(&plan.words[0..used], &mut room[0..ends.first]);
     write_list(
         LookupList::Names,
-        lookups,
+        lookups.records,
         &[],
         &plan.heads[0..plan.columns],
-        names,
+        lookups.names,
         names_out,
     );
     write_at(
         LookupList::Tuples,
-        lookups,
-        tuples,
+        lookups.records,
+        lookups.tuples,
         order,
-        tuples,
+        lookups.tuples,
         room,
         ends.first,
         ends.second,
     );
     write_at(
         LookupList::Multiplicities,
-        lookups,
-        tuples,
+        lookups.records,
+        lookups.tuples,
         order,
-        multiplicities,
+        lookups.multiplicities,
         room,
         ends.second,
         ends.third,
     );
     write_at(
         LookupList::Flags,
-        lookups,
-        tuples,
+        lookups.records,
+        lookups.tuples,
         order,
-        flags,
+        lookups.flags,
         room,
         ends.third,
         ends.fourth,
     );
     write_at(
         LookupList::Elements,
-        lookups,
-        tuples,
+        lookups.records,
+        lookups.tuples,
         order,
-        elements,
+        lookups.elements,
         room,
         ends.fourth,
         ends.fifth,
@@ -130,49 +121,23 @@ fn pack_formed(
     limits: Limits,
     limit: u64,
     nodes: &[u32],
-    lookups: &[u32],
-    names: &[u8],
-    tuples: &[u32],
-    multiplicities: &[u32],
-    flags: &[u32],
-    elements: &[u32],
+    lookups: &LentLookups,
     ends: Ends,
     names_out: &mut [u8],
     room: &mut [u32],
 ) -> Result<Counts, Refusal>
-    requires { Formed limits nodes.now (lent_lookups lookups.now names.now tuples.now multiplicities.now flags.now elements.now)
-        × ListsExact lookups.now names.now tuples.now × Split ends (length room.old)
-        × (holds (lookups_in names_out.old (parts room.old 0 (five_ends ends))) (lent_lookups lookups.now names.now tuples.now multiplicities.now flags.now elements.now) ≡ true) }
+    requires { Formed limits nodes.now (as_lookups lookups.now)
+        × ListsExact lookups.now.records.now lookups.now.names.now lookups.now.tuples.now × Split ends (length room.old)
+        × (holds (lookups_in names_out.old (parts room.old 0 (five_ends ends))) (as_lookups lookups.now) ≡ true) }
     ensures { record { answer = result; lists = lookups_in names_out.new (parts room.new 0 (five_ends ends)) }
         ≡ formed_outcome limit nodes.now
-        (lent_lookups lookups.now names.now tuples.now multiplicities.now flags.now elements.now)
+        (as_lookups lookups.now)
         (lookups_in names_out.old (parts room.old 0 (five_ends ends))) }
 {
-    let plan = plan_of(
-        limits,
-        limit,
-        nodes,
-        lookups,
-        names,
-        tuples,
-        multiplicities,
-        flags,
-        elements,
-    );
-    let counts = counts_of(plan, lookups, tuples);
-    plan_refusal(plan.over, lookups, names, tuples)?;
-    write_in(
-        plan,
-        lookups,
-        names,
-        tuples,
-        multiplicities,
-        flags,
-        elements,
-        ends,
-        names_out,
-        room,
-    );
+    let plan = plan_of(limits, limit, nodes, lookups);
+    let counts = counts_of(plan, lookups.records, lookups.tuples);
+    plan_refusal(plan.over, lookups.records, lookups.names, lookups.tuples)?;
+    write_in(plan, lookups, ends, names_out, room);
     Ok(counts)
 }
 
@@ -195,18 +160,14 @@ fn pack_in(
         (lookups_in names_out.old (parts out_room.old 0 (five_ends out_ends))) }
 {
     let nodes = &room[0..nodes_end];
-    let lookups = &room[nodes_end..ends.first];
-    let tuples = &room[ends.first..ends.second];
-    let multiplicities = &room[ends.second..ends.third];
-    let flags = &room[ends.third..ends.fourth];
-    let elements = &room[ends.fourth..ends.fifth];
+    let lookups = lookups_in(room, nodes_end, ends, names);
     let own = Counts {
-        lookups: lookups.len(),
-        names: names.len(),
-        tuples: tuples.len(),
-        multiplicities: multiplicities.len(),
-        flags: flags.len(),
-        elements: elements.len(),
+        lookups: lookups.records.len(),
+        names: lookups.names.len(),
+        tuples: lookups.tuples.len(),
+        multiplicities: lookups.multiplicities.len(),
+        flags: lookups.flags.len(),
+        elements: lookups.elements.len(),
     };
     let lent = Counts {
         lookups: out_ends.first,
@@ -220,31 +181,9 @@ fn pack_in(
         return Err(Refusal::SizeAtOdds);
     }
     let limits = limits_of(choices.profile);
-    form_refusal(
-        limits,
-        prime_of(choices.field),
-        columns,
-        nodes,
-        lookups,
-        names,
-        tuples,
-        multiplicities,
-        flags,
-        elements,
-    )?;
+    form_refusal(limits, prime_of(choices.field), columns, nodes, &lookups)?;
     pack_formed(
-        limits,
-        limit,
-        nodes,
-        lookups,
-        names,
-        tuples,
-        multiplicities,
-        flags,
-        elements,
-        out_ends,
-        names_out,
-        out_room,
+        limits, limit, nodes, &lookups, out_ends, names_out, out_room,
     )
 }
 

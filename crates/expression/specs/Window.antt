@@ -1,6 +1,7 @@
 -- The traces of a table and the window on them. SPECIFICATION, sections 2.2 and 3.2.
 use Rattle.std.specs.Prelude.{ℕ, ◌+◌, ◌*◌, ◌%◌, List, take, drop}
 use Rattle.expression.specs.declared.sizes.Shape.{Shape}
+use Rattle.expression.specs.declared.table.LentTraces.{LentTraces}
 
 -- the traces and public values of a table (SPECIFICATION, section 2.2)
 pub record Traces : Type 0 where
@@ -12,6 +13,10 @@ pub record Traces : Type 0 where
 -- the traces of a table from the lists that are lent
 abbrev pub lent_traces : Shape → List ℕ → List ℕ → List ℕ → Traces
 lent_traces s main preprocessed public_values = record { shape = s; main = main; preprocessed = preprocessed; public_values = public_values }
+
+-- the traces of a table, from what a caller lends
+abbrev pub as_traces : LentTraces → Traces
+as_traces t = lent_traces t.shape t.main.now t.preprocessed.now t.public_values.now
 
 -- What a row is evaluated from: the rows of main and of the preprocessed trace at each offset, 0 the current row.
 pub record Window : Type 0 where

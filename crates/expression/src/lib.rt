@@ -9,4 +9,5 @@ pub mod node;
 pub mod numbers;
 pub mod refusal;
 pub mod sizes;
+pub mod table;
 pub mod words;

@@ -1,20 +1,22 @@
 // Refusals 2 and 3: the words are below p, and the nodes are known. The loops go by number and not by chunks of three words: a node's operands
 // are compared with its number.
 ghost use Rattle.std.specs.Prelude.{◌≡◌};
-ghost use Rattle.expression.specs.Window.{lent_traces};
+ghost use Rattle.expression.specs.Window.{as_traces};
 ghost use Rattle.expression.specs.Tests.{traces_below, constant_below, constants_below, node_known, nodes_known};
-ghost use Rattle.expression.specs.declared.sizes.Shape as Sizes;
 
 use expression::node::{NODE_WORDS, Node, ROW_OFFSETS, node_at};
 use expression::sizes::Shape;
+use expression::table::LentTraces;
 use expression::words::all_below;
 
 // Each word of the traces and of the public values is below p, whatever their sizes.
 #[tactic(auto, unfolding(expression::specs::Tests::traces_below))]
-pub fn traces_below(p: u32, main: &[u32], preprocessed: &[u32], public_values: &[u32]) -> bool
-    ensures { (s : Sizes.Shape) → result ≡ traces_below p (lent_traces s main.now preprocessed.now public_values.now) }
+pub fn traces_below(p: u32, traces: &LentTraces) -> bool
+    ensures { result ≡ traces_below p (as_traces traces.now) }
 {
-    all_below(p, main) & all_below(p, preprocessed) & all_below(p, public_values)
+    all_below(p, traces.main)
+        & all_below(p, traces.preprocessed)
+        & all_below(p, traces.public_values)
 }
 
 fn constant_below(p: u32, n: Node) -> bool

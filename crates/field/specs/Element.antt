@@ -86,9 +86,6 @@ inverse4 p w a = mul4 p w (cofactor p w a) (lift (inverse1 p (norm p w a)))
 unfoldable pub is_zero : List ℕ → Bool
 is_zero a = eqb (at a 0) 0 && eqb (at a 1) 0 && eqb (at a 2) 0 && eqb (at a 3) 0
 
-unfoldable pub same4 : List ℕ → List ℕ → Bool
-same4 a b = eqb (at a 0) (at b 0) && eqb (at a 1) (at b 1) && eqb (at a 2) (at b 2) && eqb (at a 3) (at b 3)
-
 -- element i of a list of words, four to an element
 unfoldable pub element : List ℕ → ℕ → List ℕ
 element l i = at l (4 * i) ∷ at l (4 * i + 1) ∷ at l (4 * i + 2) ∷ at l (4 * i + 3) ∷ []

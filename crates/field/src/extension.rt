@@ -2,7 +2,7 @@
 ghost use Rattle.std.specs.Prelude.{◌≡◌, ◌<◌, ◌≤◌, ◌+◌, ◌*◌, length};
 ghost use Rattle.field.specs.Modulus.{Certificate};
 ghost use Rattle.field.specs.inner.Requires.{KnownPrime};
-ghost use Rattle.field.specs.Element.{at, Word4, add4, sub4, neg4, mul4, scale4, power4, norm2, norm, cofactor, lift, inverse4, is_zero, same4, element};
+ghost use Rattle.field.specs.Element.{at, Word4, add4, sub4, neg4, mul4, scale4, power4, norm2, norm, cofactor, lift, inverse4, is_zero, element};
 ghost use Rattle.field.specs.Ext.{ext_words};
 
 use crate::word;
@@ -175,12 +175,6 @@ pub fn is_zero(a: Ext) -> bool
     ensures { result ≡ is_zero (ext_words a) }
 {
     a == Ext::ZERO
-}
-
-pub fn same(a: Ext, b: Ext) -> bool
-    ensures { result ≡ same4 (ext_words a) (ext_words b) }
-{
-    a == b
 }
 
 // Element i of a slice of words.

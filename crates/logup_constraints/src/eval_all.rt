@@ -6,12 +6,12 @@ ghost use Rattle.field.specs.Ext.{ext_words};
 ghost use Rattle.expression.specs.Limits.{Sane};
 ghost use Rattle.expression.specs.Refusal.{refusal, numbers};
 ghost use Rattle.expression.specs.Requires.{Below, Evaluable};
-ghost use Rattle.lookup.specs.Lookups.{lent_lookups, lookup_count};
-ghost use Rattle.lookup.specs.Table.{Table, lent_table};
+ghost use Rattle.lookup.specs.Lookups.{lookup_count};
+ghost use Rattle.lookup.specs.Table.{Table, as_table};
 ghost use Rattle.logup.specs.Rule.{lookups_under, table_under};
 ghost use Rattle.logup.specs.Constraints.{present_below, rows_verdict, verdict, verdict_at};
 ghost use Rattle.logup_column.specs.inner.Requires.{Listed, Field};
-ghost use Rattle.logup_column.specs.inner.Source.{Source, lent_source, node_values, named};
+ghost use Rattle.logup_column.specs.inner.Source.{Source, as_source, node_values, named};
 ghost use Rattle.logup_terms.specs.inner.ConstraintRow.{TraceInputs};
 ghost use Rattle.logup_constraints.specs.Refusals.{terminal_of};
 ghost use Rattle.logup_constraints.specs.inner.Refusals.{trace_tests, entry_tests, EntryPassed};
@@ -24,6 +24,7 @@ use field::modulus::{prime_of, w_of};
 use logup_column::rule::write_elements;
 use logup_column::{powers, refusals};
 use logup_terms::eval_row;
+use lookup::table::{LentLookups, LentTable};
 use lookup::tests;
 use lookup::types::{LOOKUP_WORDS, LookupTerminal};
 
@@ -78,46 +79,27 @@ fn trace_refusal(
 fn entry_refusal(
     limits: Limits,
     p: u32,
-    shape: Shape,
-    main: &[u32],
-    preprocessed: &[u32],
-    public_values: &[u32],
-    nodes: &[u32],
-    lookups: &[u32],
-    names: &[u8],
-    tuples: &[u32],
-    multiplicities: &[u32],
-    flags: &[u32],
-    elements: &[u32],
+    table: &LentTable,
     challenges: &[u32],
     width: usize,
     words: &[u32],
     terminal: Option<LookupTerminal>,
 ) -> Result<(), Refusal>
     requires { Sane limits }
-    ensures { let t : Table = lent_table shape main.now preprocessed.now public_values.now nodes.now (lent_lookups lookups.now names.now tuples.now multiplicities.now flags.now elements.now) in (refusal result ≡ entry_tests limits p t challenges.now width words.now (terminal_of terminal))
+    ensures { let t : Table = as_table table.now in (refusal result ≡ entry_tests limits p t challenges.now width words.now (terminal_of terminal))
         × (refusal result ≡ none → EntryPassed limits p t challenges.now width words.now (terminal_of terminal)) }
 {
-    let fit = (challenges.len() % 4 == 0) & trace_fits(shape.height, width, words.len());
+    let fit = (challenges.len() % 4 == 0)
+        & trace_fits(table.traces.shape.height, width, words.len());
     let low = all_below(p, challenges) & (all_below(p, words) & terminal_below(p, terminal));
-    refusals::table_refusal(
-        limits,
-        p,
-        shape,
-        main,
-        preprocessed,
-        public_values,
-        nodes,
-        lookups,
-        names,
-        tuples,
-        multiplicities,
-        flags,
-        elements,
-        fit,
-        low,
-    )?;
-    trace_refusal(shape, lookups, challenges.len(), width, terminal.is_some())
+    refusals::table_refusal(limits, p, table, fit, low)?;
+    trace_refusal(
+        table.traces.shape,
+        table.lookups.records,
+        challenges.len(),
+        width,
+        terminal.is_some(),
+    )
 }
 
 // The rows of a trace that passed the tests, with beta's powers computed and the elements put in order once.
@@ -125,48 +107,41 @@ fn rows_verdict(
     p: u32,
     w: u32,
     rule: u32,
-    shape: Shape,
-    main: &[u32],
-    preprocessed: &[u32],
-    public_values: &[u32],
-    nodes: &[u32],
-    lookups: &[u32],
-    tuples: &[u32],
-    multiplicities: &[u32],
-    flags: &[u32],
-    elements: &[u32],
+    table: &LentTable,
     challenges: &[u32],
     width: usize,
     words: &[u32],
     terminal: LookupTerminal,
 ) -> Result<(), Refusal>
-    requires { let s : Source = lent_source shape main.now preprocessed.now public_values.now nodes.now lookups.now tuples.now multiplicities.now flags.now elements.now challenges.now in Field p w × Listed s.lookups
+    requires { let s : Source = as_source table.now challenges.now in Field p w × Listed s.lookups
         × Evaluable p s.traces s.nodes × Below p s.challenges × (8 * lookup_count s.lookups.lookups ≤ length s.challenges) × (lookup_count s.lookups.lookups ≤ 64)
-        × (length s.lookups.tuples ≤ 64) × TraceInputs p shape.height width (lookup_count s.lookups.lookups) words.now × Word4 p (ext_words terminal.0) }
-    ensures { let s : Source = lent_source shape main.now preprocessed.now public_values.now nodes.now lookups.now tuples.now multiplicities.now flags.now elements.now challenges.now in (names : List ℕ) → refusal result ≡ rows_verdict p w (named (lookups_under rule s.lookups) names) s.challenges (node_values p s) width words.now (ext_words terminal.0) shape.height }
+        × (length s.lookups.tuples ≤ 64) × TraceInputs p table.now.traces.shape.height width (lookup_count s.lookups.lookups) words.now × Word4 p (ext_words terminal.0) }
+    ensures { let s : Source = as_source table.now challenges.now in (names : List ℕ) → refusal result ≡ rows_verdict p w (named (lookups_under rule s.lookups) names) s.challenges (node_values p s) width words.now (ext_words terminal.0) table.now.traces.shape.height }
 {
-    let n = lookups.len() / LOOKUP_WORDS;
+    let n = table.lookups.records.len() / LOOKUP_WORDS;
     // The powers of 64 betas.
-    let mut table = [0u32; 2048];
-    powers::write_table(p, w, challenges, n, &mut table);
+    let mut beta_powers = [0u32; 2048];
+    powers::write_table(p, w, challenges, n, &mut beta_powers);
     // The elements of 64 tuples of 8.
     let mut ordered = [0u32; 512];
-    write_elements(rule, tuples, elements, &mut ordered);
+    write_elements(
+        rule,
+        table.lookups.tuples,
+        table.lookups.elements,
+        &mut ordered,
+    );
     eval_row::eval_rows(
         p,
         w,
-        shape,
-        main,
-        preprocessed,
-        public_values,
-        nodes,
-        lookups,
-        tuples,
-        multiplicities,
-        flags,
-        &ordered[0..elements.len()],
+        &LentTable {
+            lookups: LentLookups {
+                elements: &ordered[0..table.lookups.elements.len()],
+                ..table.lookups
+            },
+            ..*table
+        },
         challenges,
-        &table,
+        &beta_powers,
         width,
         words,
         terminal,
@@ -179,92 +154,33 @@ pub fn eval_trace(
     p: u32,
     w: u32,
     rule: u32,
-    shape: Shape,
-    main: &[u32],
-    preprocessed: &[u32],
-    public_values: &[u32],
-    nodes: &[u32],
-    lookups: &[u32],
-    names: &[u8],
-    tuples: &[u32],
-    multiplicities: &[u32],
-    flags: &[u32],
-    elements: &[u32],
+    table: &LentTable,
     challenges: &[u32],
     width: usize,
     words: &[u32],
     terminal: Option<LookupTerminal>,
 ) -> Result<(), Refusal>
     requires { Sane limits × Field p w }
-    ensures { let t : Table = lent_table shape main.now preprocessed.now public_values.now nodes.now (lent_lookups lookups.now names.now tuples.now multiplicities.now flags.now elements.now) in refusal result ≡ verdict limits p w (table_under rule t) challenges.now width words.now (terminal_of terminal) }
+    ensures { refusal result ≡ verdict limits p w (table_under rule (as_table table.now)) challenges.now width words.now (terminal_of terminal) }
 {
-    entry_refusal(
-        limits,
-        p,
-        shape,
-        main,
-        preprocessed,
-        public_values,
-        nodes,
-        lookups,
-        names,
-        tuples,
-        multiplicities,
-        flags,
-        elements,
-        challenges,
-        width,
-        words,
-        terminal,
-    )?;
+    entry_refusal(limits, p, table, challenges, width, words, terminal)?;
     let Some(t) = terminal else {
         return Ok(());
     };
-    rows_verdict(
-        p,
-        w,
-        rule,
-        shape,
-        main,
-        preprocessed,
-        public_values,
-        nodes,
-        lookups,
-        tuples,
-        multiplicities,
-        flags,
-        elements,
-        challenges,
-        width,
-        words,
-        t,
-    )
+    rows_verdict(p, w, rule, table, challenges, width, words, t)
 }
 
 // `eval_all` over a whole trace, at the choices of the call.
 pub fn eval_all(
     choices: Choices,
     rule: u32,
-    shape: Shape,
-    main: &[u32],
-    preprocessed: &[u32],
-    public_values: &[u32],
-    nodes: &[u32],
-    lookups: &[u32],
-    names: &[u8],
-    tuples: &[u32],
-    multiplicities: &[u32],
-    flags: &[u32],
-    elements: &[u32],
+    table: &LentTable,
     challenges: &[u32],
     width: usize,
     words: &[u32],
     terminal: Option<LookupTerminal>,
 ) -> Result<(), Refusal>
-    ensures { numbers (refusal result) ≡ numbers (verdict_at choices rule
-        (lent_table shape main.now preprocessed.now public_values.now nodes.now
-        (lent_lookups lookups.now names.now tuples.now multiplicities.now flags.now
-        elements.now)) challenges.now width words.now (terminal_of terminal)) }
+    ensures { numbers (refusal result) ≡ numbers (verdict_at choices rule (as_table table.now) challenges.now width words.now (terminal_of terminal)) }
 {
     if !(known(choices) & known_rule(rule)) {
         return Err(Refusal::SizeAtOdds);
@@ -274,17 +190,7 @@ pub fn eval_all(
         prime_of(choices.field),
         w_of(choices.field),
         rule,
-        shape,
-        main,
-        preprocessed,
-        public_values,
-        nodes,
-        lookups,
-        names,
-        tuples,
-        multiplicities,
-        flags,
-        elements,
+        table,
         challenges,
         width,
         words,

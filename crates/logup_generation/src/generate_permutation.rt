@@ -6,14 +6,14 @@ ghost use Rattle.expression.specs.Requires.{Below, Evaluable};
 ghost use Rattle.expression.specs.Limits.{Sane};
 ghost use Rattle.expression.specs.Refusal.{refusal};
 ghost use Rattle.expression.specs.declared.sizes.Limits as Declared;
-ghost use Rattle.lookup.specs.Lookups.{lent_lookups, lookup_count};
-ghost use Rattle.lookup.specs.Table.{Table, lent_table};
+ghost use Rattle.lookup.specs.Lookups.{lookup_count};
+ghost use Rattle.lookup.specs.Table.{Table, as_table};
 ghost use Rattle.logup.specs.Rule.{table_under};
 ghost use Rattle.logup.specs.Rows.{used};
 ghost use Rattle.logup.specs.Generation.{answer_of, generation, generation_at};
 ghost use Rattle.logup.specs.Reader.{IsRowOf};
 ghost use Rattle.logup_column.specs.inner.Requires.{Listed, Field};
-ghost use Rattle.logup_column.specs.inner.Source.{Source, lent_source, source_under};
+ghost use Rattle.logup_column.specs.inner.Source.{Source, as_source, source_under};
 ghost use Rattle.logup_generation.specs.inner.Refusals.{trace_tests, entry_tests, EntryPassed};
 ghost use Rattle.logup_generation.specs.inner.Outcome.{rows_answer, cleared, rows_result};
 
@@ -26,6 +26,7 @@ use logup_column::rule::write_elements;
 use logup_column::{powers, refusals};
 use logup_rows::block::Progress;
 use logup_rows::trace::all_rows;
+use lookup::table::{LentLookups, LentTable};
 use lookup::tests;
 use lookup::types::{LOOKUP_WORDS, LookupTerminal};
 
@@ -83,91 +84,73 @@ fn generate_rows(
     p: u32,
     w: u32,
     rule: u32,
-    shape: Shape,
-    main: &[u32],
-    preprocessed: &[u32],
-    public_values: &[u32],
-    nodes: &[u32],
-    lookups: &[u32],
-    tuples: &[u32],
-    multiplicities: &[u32],
-    flags: &[u32],
-    elements: &[u32],
+    table: &LentTable,
     challenges: &[u32],
     trace: &mut [u32],
 ) -> Result<Option<LookupTerminal>, Refusal>
-    requires { let s : Source = lent_source shape main.now preprocessed.now public_values.now nodes.now lookups.now tuples.now multiplicities.now flags.now elements.now challenges.now in Field p w × Listed s.lookups
+    requires { let s : Source = as_source table.now challenges.now in Field p w × Listed s.lookups
         × Evaluable p s.traces s.nodes × Below p s.challenges × (8 * lookup_count s.lookups.lookups ≤ length s.challenges)
-        × (shape.height ≤ 1048576) × (lookup_count s.lookups.lookups ≤ 64) × (length s.lookups.tuples ≤ 64) × (used s.lookups.lookups shape.height ≤ length trace.old) }
-    ensures { let s : Source = lent_source shape main.now preprocessed.now public_values.now nodes.now lookups.now tuples.now multiplicities.now flags.now elements.now challenges.now in (m : Declared.Limits) (names : List ℕ) → (answer_of result ≡ (rows_result m p w (source_under rule s) names trace.old).answer)
+        × (table.now.traces.shape.height ≤ 1048576) × (lookup_count s.lookups.lookups ≤ 64) × (length s.lookups.tuples ≤ 64) × (used s.lookups.lookups table.now.traces.shape.height ≤ length trace.old) }
+    ensures { let s : Source = as_source table.now challenges.now in (m : Declared.Limits) (names : List ℕ) → (answer_of result ≡ (rows_result m p w (source_under rule s) names trace.old).answer)
         × (trace.new ≡ (rows_result m p w (source_under rule s) names trace.old).buffer) }
 {
-    let n = lookups.len() / LOOKUP_WORDS;
+    let n = table.lookups.records.len() / LOOKUP_WORDS;
     // The powers of 64 betas.
-    let mut table = [0u32; 2048];
-    powers::write_table(p, w, challenges, n, &mut table);
+    let mut beta_powers = [0u32; 2048];
+    powers::write_table(p, w, challenges, n, &mut beta_powers);
     // The elements of 64 tuples of 8.
     let mut ordered = [0u32; 512];
-    write_elements(rule, tuples, elements, &mut ordered);
+    write_elements(
+        rule,
+        table.lookups.tuples,
+        table.lookups.elements,
+        &mut ordered,
+    );
     let progress = all_rows(
         p,
         w,
-        shape,
-        main,
-        preprocessed,
-        public_values,
-        nodes,
-        lookups,
-        tuples,
-        multiplicities,
-        flags,
-        &ordered[0..elements.len()],
+        &LentTable {
+            lookups: LentLookups {
+                elements: &ordered[0..table.lookups.elements.len()],
+                ..table.lookups
+            },
+            ..*table
+        },
         challenges,
-        &table,
+        &beta_powers,
         trace,
     );
-    finish(progress, used_words(shape, lookups), trace)
+    finish(
+        progress,
+        used_words(table.traces.shape, table.lookups.records),
+        trace,
+    )
 }
 
 // The first of refusals 1 to 5, 8, 9 and 10; the trace has `trace_len` words.
 fn entry_refusal(
     limits: Limits,
     p: u32,
-    shape: Shape,
-    main: &[u32],
-    preprocessed: &[u32],
-    public_values: &[u32],
-    nodes: &[u32],
-    lookups: &[u32],
-    names: &[u8],
-    tuples: &[u32],
-    multiplicities: &[u32],
-    flags: &[u32],
-    elements: &[u32],
+    table: &LentTable,
     challenges: &[u32],
     trace_len: usize,
 ) -> Result<(), Refusal>
     requires { Sane limits }
-    ensures { let t : Table = lent_table shape main.now preprocessed.now public_values.now nodes.now (lent_lookups lookups.now names.now tuples.now multiplicities.now flags.now elements.now) in (refusal result ≡ entry_tests limits p t challenges.now trace_len) × (refusal result ≡ none → EntryPassed limits p t challenges.now trace_len) }
+    ensures { let t : Table = as_table table.now in (refusal result ≡ entry_tests limits p t challenges.now trace_len) × (refusal result ≡ none → EntryPassed limits p t challenges.now trace_len) }
 {
     refusals::table_refusal(
         limits,
         p,
-        shape,
-        main,
-        preprocessed,
-        public_values,
-        nodes,
-        lookups,
-        names,
-        tuples,
-        multiplicities,
-        flags,
-        elements,
+        table,
         challenges.len() % 4 == 0,
         all_below(p, challenges),
     )?;
-    trace_refusal(shape, lookups, challenges, trace_len)
+    trace_refusal(
+        table.traces.shape,
+        table.lookups.records,
+        challenges,
+        trace_len,
+    )
 }
 
 // Generation for any limits and field that the code takes, and any rule number: all but 2 are taken as 1.
@@ -176,86 +159,31 @@ pub fn generate_permutation(
     p: u32,
     w: u32,
     rule: u32,
-    shape: Shape,
-    main: &[u32],
-    preprocessed: &[u32],
-    public_values: &[u32],
-    nodes: &[u32],
-    lookups: &[u32],
-    names: &[u8],
-    tuples: &[u32],
-    multiplicities: &[u32],
-    flags: &[u32],
-    elements: &[u32],
+    table: &LentTable,
     challenges: &[u32],
     trace: &mut [u32],
 ) -> Result<Option<LookupTerminal>, Refusal>
     requires { Sane limits × Field p w }
-    ensures { let t : Table = lent_table shape main.now preprocessed.now public_values.now nodes.now (lent_lookups lookups.now names.now tuples.now multiplicities.now flags.now elements.now) in (answer_of result ≡ (generation limits p w (table_under rule t) challenges.now trace.old).answer)
+    ensures { let t : Table = as_table table.now in (answer_of result ≡ (generation limits p w (table_under rule t) challenges.now trace.old).answer)
         × (trace.new ≡ (generation limits p w (table_under rule t) challenges.now trace.old).buffer) }
 {
-    entry_refusal(
-        limits,
-        p,
-        shape,
-        main,
-        preprocessed,
-        public_values,
-        nodes,
-        lookups,
-        names,
-        tuples,
-        multiplicities,
-        flags,
-        elements,
-        challenges,
-        trace.len(),
-    )?;
-    if !tests::has_lookups(lookups) {
+    entry_refusal(limits, p, table, challenges, trace.len())?;
+    if !tests::has_lookups(table.lookups.records) {
         return Ok(None);
     }
-    generate_rows(
-        p,
-        w,
-        rule,
-        shape,
-        main,
-        preprocessed,
-        public_values,
-        nodes,
-        lookups,
-        tuples,
-        multiplicities,
-        flags,
-        elements,
-        challenges,
-        trace,
-    )
+    generate_rows(p, w, rule, table, challenges, trace)
 }
 
 // `LogUpGadget::generate_permutation`, at the choices of the call.
 pub fn generate(
     choices: Choices,
     rule: u32,
-    shape: Shape,
-    main: &[u32],
-    preprocessed: &[u32],
-    public_values: &[u32],
-    nodes: &[u32],
-    lookups: &[u32],
-    names: &[u8],
-    tuples: &[u32],
-    multiplicities: &[u32],
-    flags: &[u32],
-    elements: &[u32],
+    table: &LentTable,
     challenges: &[u32],
     trace: &mut [u32],
 ) -> Result<Option<LookupTerminal>, Refusal>
     ensures { record { answer = answer_of result; buffer = trace.new }
-        ≡ generation_at choices rule
-        (lent_table shape main.now preprocessed.now public_values.now nodes.now
-        (lent_lookups lookups.now names.now tuples.now multiplicities.now flags.now
-        elements.now)) challenges.now trace.old }
+        ≡ generation_at choices rule (as_table table.now) challenges.now trace.old }
 {
     if !(known(choices) & known_rule(rule)) {
         return Err(Refusal::SizeAtOdds);
@@ -265,17 +193,7 @@ pub fn generate(
         prime_of(choices.field),
         w_of(choices.field),
         rule,
-        shape,
-        main,
-        preprocessed,
-        public_values,
-        nodes,
-        lookups,
-        names,
-        tuples,
-        multiplicities,
-        flags,
-        elements,
+        table,
         challenges,
         trace,
     )

@@ -1,7 +1,7 @@
 -- The turns of the loop over the lookups of a row.
 use Rattle.std.specs.Prelude.{Result, Ok, Err}
 use mathlib.Core.Path.{◌≡◌, refl, sym, ap, ap₂, ◌∙◌}
-use mathlib.Core.List.{List, [], ◌++◌}
+use mathlib.Core.List.{List, ◌++◌}
 use mathlib.Core.Option.{Option, none, some}
 use Prim.Native.Nat.{ℕ, ◌+◌, ◌*◌, ◌-◌, ◌<◌, ◌≤◌, zero-le}
 use native.Mathlib.Nat.{zero-add}
@@ -16,59 +16,57 @@ use Rattle.lists.specs.laws.Parts.{part_length}
 use Rattle.expression.specs.Refusal.{refusal}
 use Rattle.expression.specs.declared.refusal.Refusal.{Refusal}
 use Rattle.expression.specs.Refusal.{Verdict}
-use Rattle.lookup.specs.Lookups.{Lookups, lent_lookups, lookup_count, tuple_count, tuple_start}
+use Rattle.lookup.specs.Lookups.{lookup_count, tuple_count, tuple_start}
 use Rattle.logup.specs.Column.{branches}
 use Rattle.logup.specs.Rows.{fault_refusal, place, fault_at, row_fault}
 use Rattle.logup_column.specs.inner.Kinds.{fault_number}
-use Rattle.logup_column.specs.inner.Requires.{LookupLists, StartsOf, StartsWithin}
+use Rattle.logup_column.specs.inner.Requires.{Listed, StartsOf, StartsWithin}
 use Rattle.logup_column.specs.inner.Results.{LookupTerms}
+use Rattle.logup_column.specs.inner.Source.{RowSource}
 use Rattle.logup_column.specs.laws.Lookup.{stands-zero}
 use Rattle.logup_column.specs.declared.column.Fault.{Fault}
 use Rattle.logup_column.specs.declared.starts.Starts.{Starts}
 use Rattle.logup_rows.specs.inner.Terms.{lookup_multiplicities, lookup_denominators, row_multiplicities, row_denominators, RowTerms}
 use Rattle.logup_rows.specs.laws.Lengths.{multiplicities-length, denominators_length}
 
-pub record LookupsLoop (p w : ℕ) (lookups tuples mults flags elements cs vals : List ℕ) (r : ℕ) (dm dd : List ℕ) (n : ℕ) (ms ds : List ℕ) (verdict : Verdict) (at : Starts) (i : ℕ) : Type 0 where
-  pub lists : LookupLists lookups tuples mults flags elements
+pub record LookupsLoop (p w : ℕ) (row : RowSource) (r : ℕ) (dm dd : List ℕ) (n : ℕ) (ms ds : List ℕ) (verdict : Verdict) (at : Starts) (i : ℕ) : Type 0 where
+  pub lists : Listed row.lookups
   pub cap : 4 * length dd < 18446744073709551616
   pub few : n < 4611686018427387904
-  pub count : n ≡ lookup_count lookups
+  pub count : n ≡ lookup_count row.lookups.lookups
   pub within : i ≤ n
-  pub stands : StartsOf lookups tuples i at
-  pub ms_size : length dm ≡ length tuples
-  pub ds_size : length dd ≡ 4 * length tuples
-  pub ms_len : length ms ≡ length tuples
-  pub ds_len : length ds ≡ 4 * length tuples
-  pub ms≡ : Filled dm (joined (lookup_multiplicities p w (lent_lookups lookups [] tuples mults flags elements) cs (λ _. vals) r) 0 i) at.tuple ms
-  pub ds≡ : Filled dd (joined (lookup_denominators p w (lent_lookups lookups [] tuples mults flags elements) cs (λ _. vals) r) 0 i) (4 * at.tuple) ds
-  pub verdict≡ : refusal verdict ≡ first (fault_at p w (lent_lookups lookups [] tuples mults flags elements) cs (λ _. vals) r) i
+  pub stands : StartsOf row.lookups.lookups row.lookups.tuples i at
+  pub ms_size : length dm ≡ length row.lookups.tuples
+  pub ds_size : length dd ≡ 4 * length row.lookups.tuples
+  pub ms_len : length ms ≡ length row.lookups.tuples
+  pub ds_len : length ds ≡ 4 * length row.lookups.tuples
+  pub ms≡ : Filled dm (joined (lookup_multiplicities p w row.lookups row.challenges (λ _. row.vals) r) 0 i) at.tuple ms
+  pub ds≡ : Filled dd (joined (lookup_denominators p w row.lookups row.challenges (λ _. row.vals) r) 0 i) (4 * at.tuple) ds
+  pub verdict≡ : refusal verdict ≡ first (fault_at p w row.lookups row.challenges (λ _. row.vals) r) i
 
-pub lookups_loop_begins : {p w : ℕ} {lookups tuples mults flags elements cs vals : List ℕ} {r n : ℕ} {dm dd : List ℕ} → LookupLists lookups tuples mults flags elements → 4 * length dd < 18446744073709551616
-    → 4 * length lookups < 18446744073709551616 → n ≡ lookup_count lookups → length dm ≡ length tuples → length dd ≡ 4 * length tuples
-    → LookupsLoop p w lookups tuples mults flags elements cs vals r dm dd n dm dd (Ok tt) (record { tuple = 0; multiplicity = 0; flag = 0; element = 0 }) 0
+pub lookups_loop_begins : {p w : ℕ} {row : RowSource} {r n : ℕ} {dm dd : List ℕ} → Listed row.lookups → 4 * length dd < 18446744073709551616
+    → 4 * length row.lookups.lookups < 18446744073709551616 → n ≡ lookup_count row.lookups.lookups → length dm ≡ length row.lookups.tuples → length dd ≡ 4 * length row.lookups.tuples
+    → LookupsLoop p w row r dm dd n dm dd (Ok tt) (record { tuple = 0; multiplicity = 0; flag = 0; element = 0 }) 0
 unfolding joined first
-lookups_loop_begins {lookups = lookups} {tuples} s c b e em ed =
-    record { lists = s; cap = c; few = omega arith; count = e; within = zero-le; stands = stands-zero lookups tuples; ms_size = em; ds_size = ed; ms_len = em; ds_len = ed; ms≡ = filled_none; ds≡ = filled_none; verdict≡ = refl }
+lookups_loop_begins {row = row} s c b e em ed =
+    record { lists = s; cap = c; few = omega arith; count = e; within = zero-le; stands = stands-zero row.lookups.lookups row.lookups.tuples; ms_size = em; ds_size = ed; ms_len = em; ds_len = ed; ms≡ = filled_none; ds≡ = filled_none; verdict≡ = refl }
 
-module _ {p w : ℕ} {lookups tuples mults flags elements cs vals : List ℕ} {r n : ℕ} {dm dd ms ds : List ℕ} {verdict : Verdict} {at end : Starts} {i : ℕ}
-    (s : LookupsLoop p w lookups tuples mults flags elements cs vals r dm dd n ms ds verdict at i) (st : StartsOf lookups tuples (i + 1) end × StartsWithin tuples mults flags elements at end) where
-  abbrev l : Lookups
-  l = lent_lookups lookups [] tuples mults flags elements
-
-  next : end.tuple ≡ at.tuple + tuple_count lookups i
+module _ {p w : ℕ} {row : RowSource} {r n : ℕ} {dm dd ms ds : List ℕ} {verdict : Verdict} {at end : Starts} {i : ℕ}
+    (s : LookupsLoop p w row r dm dd n ms ds verdict at i) (st : StartsOf row.lookups.lookups row.lookups.tuples (i + 1) end × StartsWithin row.lookups.tuples row.lookups.multiplicities row.lookups.flags row.lookups.elements at end) where
+  next : end.tuple ≡ at.tuple + tuple_count row.lookups.lookups i
   unfolding tuple_start
-  next = st.0.tuple≡ ∙ total-one (tuple_count lookups) i ∙ ap (λ (x : ℕ). x + tuple_count lookups i) (sym s.stands.tuple≡)
+  next = st.0.tuple≡ ∙ total-one (tuple_count row.lookups.lookups) i ∙ ap (λ (x : ℕ). x + tuple_count row.lookups.lookups i) (sym s.stands.tuple≡)
 
-  pub ms_part : length (take (end.tuple - at.tuple) (drop at.tuple ms)) ≡ tuple_count lookups i
+  pub ms_part : length (take (end.tuple - at.tuple) (drop at.tuple ms)) ≡ tuple_count row.lookups.lookups i
   ms_part = part_length ms at.tuple end.tuple (omega (arith, next)) (omega (arith, st.1.tuple_in, s.ms_len)) ∙ omega (arith, next)
 
-  pub ds_part : length (take (4 * end.tuple - 4 * at.tuple) (drop (4 * at.tuple) ds)) ≡ 4 * tuple_count lookups i
+  pub ds_part : length (take (4 * end.tuple - 4 * at.tuple) (drop (4 * at.tuple) ds)) ≡ 4 * tuple_count row.lookups.lookups i
   ds_part = part_length ds (4 * at.tuple) (4 * end.tuple) (omega (arith, next)) (omega (arith, st.1.tuple_in, s.ds_len)) ∙ omega (arith, next)
 
   pub lookups_loop_turn : {verdict' : Verdict} {f : ℕ} (ys zs : List ℕ) → i < n
-      → LookupTerms p w (place p w l cs (λ _. vals) 0 i) f ys zs
+      → LookupTerms p w (place p w row.lookups row.challenges (λ _. row.vals) 0 i) f ys zs
       → refusal verdict' ≡ or_else (refusal verdict) (fault_refusal f r i)
-      → LookupsLoop p w lookups tuples mults flags elements cs vals r dm dd n (put_mid at.tuple (end.tuple - at.tuple) ms ys) (put_mid (4 * at.tuple) (4 * end.tuple - 4 * at.tuple) ds zs) verdict' end (i + 1)
+      → LookupsLoop p w row r dm dd n (put_mid at.tuple (end.tuple - at.tuple) ms ys) (put_mid (4 * at.tuple) (4 * end.tuple - 4 * at.tuple) ds zs) verdict' end (i + 1)
   unfolding first fault_at place branches lookup_multiplicities lookup_denominators
   lookups_loop_turn {verdict'} {f} ys zs h t eo =
       record {
@@ -88,19 +86,19 @@ module _ {p w : ℕ} {lookups tuples mults flags elements cs vals : List ℕ} {r
       }
     where
       fm : ℕ → List ℕ
-      fm = lookup_multiplicities p w l cs (λ _. vals) r
+      fm = lookup_multiplicities p w row.lookups row.challenges (λ _. row.vals) r
 
       fd : ℕ → List ℕ
-      fd = lookup_denominators p w l cs (λ _. vals) r
+      fd = lookup_denominators p w row.lookups row.challenges (λ _. row.vals) r
 
       more : Filled dm (joined fm 0 (i + 1)) end.tuple (put_mid at.tuple (end.tuple - at.tuple) ms ys)
       more =
-          filled-part ys s.ms≡ (omega (arith, next)) (omega (arith, st.1.tuple_in, s.ms_size)) (ap length t.multiplicities≡ ∙ multiplicities-length p w l cs (λ _. vals) 0 i ∙ omega (arith, next))
+          filled-part ys s.ms≡ (omega (arith, next)) (omega (arith, st.1.tuple_in, s.ms_size)) (ap length t.multiplicities≡ ∙ multiplicities-length p w row.lookups row.challenges (λ _. row.vals) 0 i ∙ omega (arith, next))
           (joined-one fm 0 i ∙ ap (λ (y : List ℕ). joined fm 0 i ++ y) (ap fm (zero-add i) ∙ sym t.multiplicities≡))
 
       grown : Filled dd (joined fd 0 (i + 1)) (4 * end.tuple) (put_mid (4 * at.tuple) (4 * end.tuple - 4 * at.tuple) ds zs)
       grown =
-          filled-part zs s.ds≡ (omega (arith, next)) (omega (arith, st.1.tuple_in, s.ds_size)) (ap length t.denominators≡ ∙ denominators_length p w l cs (λ _. vals) 0 i ∙ omega (arith, next))
+          filled-part zs s.ds≡ (omega (arith, next)) (omega (arith, st.1.tuple_in, s.ds_size)) (ap length t.denominators≡ ∙ denominators_length p w row.lookups row.challenges (λ _. row.vals) 0 i ∙ omega (arith, next))
           (joined-one fd 0 i ∙ ap (λ (y : List ℕ). joined fd 0 i ++ y) (ap fd (zero-add i) ∙ sym t.denominators≡))
 
 -- a verdict after a lookup without a fault, and after one with a fault
@@ -116,15 +114,15 @@ pub with_fault : {x : Result (Unit {0}) Fault} {f : Fault} {e : Refusal} (v : Op
     → or_else v (some e) ≡ or_else v (fault_refusal (fault_number x) r i)
 with_fault v r i ex ee = ap (or_else v) (ee ∙ ap (λ (x : Result (Unit {0}) Fault). fault_refusal (fault_number x) r i) (sym ex))
 
-pub lookups_loop_ends : {p w : ℕ} {lookups tuples mults flags elements cs vals : List ℕ} {r n : ℕ} {dm dd ms ds : List ℕ} {verdict : Verdict} {at : Starts} {i : ℕ}
-    → LookupsLoop p w lookups tuples mults flags elements cs vals r dm dd n ms ds verdict at i → n ≤ i
-    → RowTerms p w (lent_lookups lookups [] tuples mults flags elements) cs (λ _. vals) r verdict ms ds
+pub lookups_loop_ends : {p w : ℕ} {row : RowSource} {r n : ℕ} {dm dd ms ds : List ℕ} {verdict : Verdict} {at : Starts} {i : ℕ}
+    → LookupsLoop p w row r dm dd n ms ds verdict at i → n ≤ i
+    → RowTerms p w row.lookups row.challenges (λ _. row.vals) r verdict ms ds
 unfolding row_fault row_multiplicities row_denominators
-lookups_loop_ends {p} {w} {lookups} {tuples} {mults} {flags} {elements} {cs} {vals} {r} {n} {at = at} {i = i} s h =
-    let e : i ≡ lookup_count lookups = omega (arith, s.within, s.count) in
-    let a : at.tuple ≡ length tuples = s.stands.tuple≡ ∙ ap (tuple_start lookups) e ∙ sym s.lists.fitting.tuples in
+lookups_loop_ends {p} {w} {row} {r} {n} {at = at} {i = i} s h =
+    let e : i ≡ lookup_count row.lookups.lookups = omega (arith, s.within, s.count) in
+    let a : at.tuple ≡ length row.lookups.tuples = s.stands.tuple≡ ∙ ap (tuple_start row.lookups.lookups) e ∙ sym s.lists.fitting.tuples in
     record {
       fault≡ = s.verdict≡ ∙ ap (first _) e;
-      multiplicities≡ = filled-whole s.ms≡ (omega (arith, a, s.ms_size)) ∙ ap (joined (lookup_multiplicities p w (lent_lookups lookups [] tuples mults flags elements) cs (λ _. vals) r) 0) e;
-      denominators≡ = filled-whole s.ds≡ (omega (arith, a, s.ds_size)) ∙ ap (joined (lookup_denominators p w (lent_lookups lookups [] tuples mults flags elements) cs (λ _. vals) r) 0) e;
+      multiplicities≡ = filled-whole s.ms≡ (omega (arith, a, s.ms_size)) ∙ ap (joined (lookup_multiplicities p w row.lookups row.challenges (λ _. row.vals) r) 0) e;
+      denominators≡ = filled-whole s.ds≡ (omega (arith, a, s.ds_size)) ∙ ap (joined (lookup_denominators p w row.lookups row.challenges (λ _. row.vals) r) 0) e;
     }

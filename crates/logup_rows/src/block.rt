@@ -6,7 +6,7 @@ ghost use Rattle.expression.specs.Refusal.{refusal};
 ghost use Rattle.lookup.specs.Lookups.{lookup_count};
 ghost use Rattle.logup.specs.Rows.{row_words, row_fault};
 ghost use Rattle.logup_column.specs.inner.Requires.{ColumnInputs};
-ghost use Rattle.logup_column.specs.inner.Source.{Source, lent_source, node_values};
+ghost use Rattle.logup_column.specs.inner.Source.{Source, as_source, node_values};
 ghost use Rattle.logup_rows.specs.inner.Terms.{RunTerms};
 ghost use Rattle.logup_rows.specs.inner.Progress.{Reached};
 
@@ -14,11 +14,11 @@ use crate::pair::write_pair;
 use crate::writing::write_rows;
 use expression::node::NODE_WORDS;
 use expression::refusal::Refusal;
-use expression::sizes::Shape;
 use expression::words::clear;
 use expression_eval::traits::pair_values;
 use field::extension::Ext;
 use field_batch::division::divide_all;
+use lookup::table::LentTable;
 
 // The accumulator after a run of rows, and the first fault so far.
 #[derive(Clone, Copy)]
@@ -31,32 +31,24 @@ pub struct Progress {
 fn fill(
     p: u32,
     w: u32,
-    shape: Shape,
-    main: &[u32],
-    preprocessed: &[u32],
-    public_values: &[u32],
-    nodes: &[u32],
-    lookups: &[u32],
-    tuples: &[u32],
-    multiplicities: &[u32],
-    flags: &[u32],
-    elements: &[u32],
+    table: &LentTable,
     challenges: &[u32],
-    table: &[u32],
+    beta_powers: &[u32],
     from: usize,
     k: usize,
     before: Result<(), Refusal>,
     term_multiplicities: &mut [u32],
     term_denominators: &mut [u32],
 ) -> Result<(), Refusal>
-    requires { let s : Source = lent_source shape main.now preprocessed.now public_values.now nodes.now lookups.now tuples.now multiplicities.now flags.now elements.now challenges.now in ColumnInputs p w s.lookups s.challenges table.now × Evaluable p s.traces s.nodes × (from + k ≤ shape.height) × (shape.height ≤ 1048576)
+    requires { let s : Source = as_source table.now challenges.now in ColumnInputs p w s.lookups s.challenges beta_powers.now × Evaluable p s.traces s.nodes
+        × (from + k ≤ s.traces.shape.height) × (s.traces.shape.height ≤ 1048576)
         × (refusal before ≡ first (row_fault p w s.lookups s.challenges (node_values p s)) from)
         × (length term_multiplicities.old ≡ k * length s.lookups.tuples) × (length term_denominators.old ≡ 4 * (k * length s.lookups.tuples)) }
-    ensures { let s : Source = lent_source shape main.now preprocessed.now public_values.now nodes.now lookups.now tuples.now multiplicities.now flags.now elements.now challenges.now in (refusal result ≡ first (row_fault p w s.lookups s.challenges (node_values p s)) (from + k))
+    ensures { let s : Source = as_source table.now challenges.now in (refusal result ≡ first (row_fault p w s.lookups s.challenges (node_values p s)) (from + k))
         × RunTerms p w s.lookups s.challenges (node_values p s) from k term_multiplicities.new term_denominators.new }
 {
-    let size = tuples.len();
-    let count = nodes.len() / NODE_WORDS;
+    let size = table.lookups.tuples.len();
+    let count = table.nodes.len() / NODE_WORDS;
     let mut vals = [0u32; 1024];
     let mut next_vals = [0u32; 1024];
     let mut verdict = before;
@@ -67,27 +59,13 @@ fn fill(
         let n = (k - j).min(2);
         let end = at + n * size;
         let r = from + j;
-        pair_values(
-            p,
-            shape,
-            main,
-            preprocessed,
-            public_values,
-            nodes,
-            r,
-            &mut vals,
-            &mut next_vals,
-        );
+        pair_values(p, &table.traces, table.nodes, r, &mut vals, &mut next_vals);
         let fault = write_pair(
             p,
             w,
-            lookups,
-            tuples,
-            multiplicities,
-            flags,
-            elements,
+            &table.lookups,
             challenges,
-            table,
+            beta_powers,
             &vals[0..count],
             &next_vals[0..count],
             r,
@@ -112,48 +90,31 @@ fn fill(
 pub fn block(
     p: u32,
     w: u32,
-    shape: Shape,
-    main: &[u32],
-    preprocessed: &[u32],
-    public_values: &[u32],
-    nodes: &[u32],
-    lookups: &[u32],
-    tuples: &[u32],
-    multiplicities: &[u32],
-    flags: &[u32],
-    elements: &[u32],
+    table: &LentTable,
     challenges: &[u32],
-    table: &[u32],
+    beta_powers: &[u32],
     from: usize,
     k: usize,
     before: Progress,
     out: &mut [u32],
 ) -> Progress
-    requires { let s : Source = lent_source shape main.now preprocessed.now public_values.now nodes.now lookups.now tuples.now multiplicities.now flags.now elements.now challenges.now in ColumnInputs p w s.lookups s.challenges table.now × Evaluable p s.traces s.nodes × (from + k ≤ shape.height) × (shape.height ≤ 1048576)
+    requires { let s : Source = as_source table.now challenges.now in ColumnInputs p w s.lookups s.challenges beta_powers.now × Evaluable p s.traces s.nodes
+        × (from + k ≤ s.traces.shape.height) × (s.traces.shape.height ≤ 1048576)
         × (length out.old ≡ k * (4 * lookup_count s.lookups.lookups + 4)) × Reached p w s.lookups s.challenges (node_values p s) from before
         × (k * length s.lookups.tuples ≤ 256) }
-    ensures { let s : Source = lent_source shape main.now preprocessed.now public_values.now nodes.now lookups.now tuples.now multiplicities.now flags.now elements.now challenges.now in Reached p w s.lookups s.challenges (node_values p s) (from + k) result
+    ensures { let s : Source = as_source table.now challenges.now in Reached p w s.lookups s.challenges (node_values p s) (from + k) result
         × (out.new ≡ joined (row_words p w s.lookups s.challenges (node_values p s)) from k) }
 {
-    let size = tuples.len();
+    let size = table.lookups.tuples.len();
     let count = k * size;
     let mut term_multiplicities = [0u32; 256];
     let mut term_denominators = [0u32; 1024];
     let verdict = fill(
         p,
         w,
-        shape,
-        main,
-        preprocessed,
-        public_values,
-        nodes,
-        lookups,
-        tuples,
-        multiplicities,
-        flags,
-        elements,
-        challenges,
         table,
+        challenges,
+        beta_powers,
         from,
         k,
         before.verdict,
@@ -169,7 +130,7 @@ pub fn block(
     );
     let accumulator = write_rows(
         p,
-        lookups,
+        table.lookups.records,
         &term_denominators[0..4 * count],
         size,
         k,

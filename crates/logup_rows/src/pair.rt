@@ -5,11 +5,12 @@ ghost use Rattle.expression.specs.Requires.{Below};
 ghost use Rattle.expression.specs.Refusal.{refusal};
 ghost use Rattle.logup.specs.Rows.{row_fault};
 ghost use Rattle.logup_column.specs.inner.Requires.{ColumnInputs};
-ghost use Rattle.logup_column.specs.inner.Source.{RowSource, lent_row};
+ghost use Rattle.logup_column.specs.inner.Source.{RowSource, as_row};
 ghost use Rattle.logup_rows.specs.inner.Terms.{RunTerms};
 
 use crate::row::write_row_terms;
 use expression::refusal::Refusal;
+use lookup::table::LentLookups;
 
 // The terms of n rows from row r on, one or two, and their first fault; `vals` and `next_vals` are their node values. A function of its own
 // for the compiler's sake: it puts a function with one call into its caller, and all loops in one have too few registers; with a call for
@@ -17,13 +18,9 @@ use expression::refusal::Refusal;
 pub fn write_pair(
     p: u32,
     w: u32,
-    lookups: &[u32],
-    tuples: &[u32],
-    multiplicities: &[u32],
-    flags: &[u32],
-    elements: &[u32],
+    lookups: &LentLookups,
     challenges: &[u32],
-    table: &[u32],
+    beta_powers: &[u32],
     vals: &[u32],
     next_vals: &[u32],
     r: usize,
@@ -31,23 +28,20 @@ pub fn write_pair(
     term_multiplicities: &mut [u32],
     term_denominators: &mut [u32],
 ) -> Result<(), Refusal>
-    requires { let s : RowSource = lent_row lookups.now tuples.now multiplicities.now flags.now elements.now challenges.now vals.now in ColumnInputs p w s.lookups s.challenges table.now × Below p s.vals × Below p next_vals.now × (r < 1048576) × (0 < n) × (n ≤ 2)
+    requires { let s : RowSource = as_row lookups.now challenges.now vals.now in ColumnInputs p w s.lookups s.challenges beta_powers.now
+        × Below p s.vals × Below p next_vals.now × (r < 1048576) × (0 < n) × (n ≤ 2)
         × (length term_multiplicities.old ≡ n * length s.lookups.tuples) × (length term_denominators.old ≡ 4 * (n * length s.lookups.tuples)) }
-    ensures { let s : RowSource = lent_row lookups.now tuples.now multiplicities.now flags.now elements.now challenges.now vals.now in (values : ℕ → List ℕ) → values r ≡ s.vals → (1 < n → values (r + 1) ≡ next_vals.now)
+    ensures { let s : RowSource = as_row lookups.now challenges.now vals.now in (values : ℕ → List ℕ) → values r ≡ s.vals → (1 < n → values (r + 1) ≡ next_vals.now)
         → (or_else (first (row_fault p w s.lookups s.challenges values) r) (refusal result) ≡ first (row_fault p w s.lookups s.challenges values) (r + n))
         × RunTerms p w s.lookups s.challenges values r n term_multiplicities.new term_denominators.new }
 {
-    let size = tuples.len();
+    let size = lookups.tuples.len();
     let fault = write_row_terms(
         p,
         w,
         lookups,
-        tuples,
-        multiplicities,
-        flags,
-        elements,
         challenges,
-        table,
+        beta_powers,
         vals,
         r,
         &mut term_multiplicities[0..size],
@@ -61,12 +55,8 @@ pub fn write_pair(
         p,
         w,
         lookups,
-        tuples,
-        multiplicities,
-        flags,
-        elements,
         challenges,
-        table,
+        beta_powers,
         next_vals,
         r + 1,
         &mut term_multiplicities[size..end],

@@ -5,7 +5,7 @@ ghost use Rattle.expression.specs.Requires.{Below};
 ghost use Rattle.lookup.specs.Lookups.{tuple_count};
 ghost use Rattle.logup.specs.Rows.{fault_refusal, place};
 ghost use Rattle.logup_column.specs.inner.Requires.{ColumnInputs, PartsOf};
-ghost use Rattle.logup_column.specs.inner.Source.{RowSource, lent_row};
+ghost use Rattle.logup_column.specs.inner.Source.{RowSource, as_row};
 ghost use Rattle.logup_column.specs.inner.Kinds.{fault_number};
 ghost use Rattle.logup_column.specs.inner.Results.{LookupTerms};
 ghost use Rattle.logup_rows.specs.inner.Terms.{RowTerms};
@@ -15,6 +15,7 @@ use field::extension;
 use logup_column::column::Fault;
 use logup_column::starts::{Starts, next_starts};
 use logup_column::{column, tuple};
+use lookup::table::LentLookups;
 use lookup::types::LOOKUP_WORDS;
 
 // The refusal of a fault on a row, at a lookup.
@@ -33,13 +34,9 @@ fn refusal_of(fault: Fault, row: usize, lookup: usize) -> Refusal
 fn lookup_terms(
     p: u32,
     w: u32,
-    lookups: &[u32],
-    tuples: &[u32],
-    multiplicities: &[u32],
-    flags: &[u32],
-    elements: &[u32],
+    lookups: &LentLookups,
     challenges: &[u32],
-    table: &[u32],
+    beta_powers: &[u32],
     vals: &[u32],
     i: usize,
     at: Starts,
@@ -47,11 +44,12 @@ fn lookup_terms(
     term_multiplicities: &mut [u32],
     term_denominators: &mut [u32],
 ) -> Result<(), Fault>
-    requires { let s : RowSource = lent_row lookups.now tuples.now multiplicities.now flags.now elements.now challenges.now vals.now in ColumnInputs p w s.lookups s.challenges table.now × Below p s.vals × PartsOf s.lookups i at end
+    requires { let s : RowSource = as_row lookups.now challenges.now vals.now in ColumnInputs p w s.lookups s.challenges beta_powers.now
+        × Below p s.vals × PartsOf s.lookups i at end
         × (length term_multiplicities.old ≡ tuple_count s.lookups.lookups i) × (length term_denominators.old ≡ 4 * tuple_count s.lookups.lookups i) }
-    ensures { let s : RowSource = lent_row lookups.now tuples.now multiplicities.now flags.now elements.now challenges.now vals.now in LookupTerms p w (place p w s.lookups s.challenges (λ _. s.vals) 0 i) (fault_number result) term_multiplicities.new term_denominators.new }
+    ensures { let s : RowSource = as_row lookups.now challenges.now vals.now in LookupTerms p w (place p w s.lookups s.challenges (λ _. s.vals) 0 i) (fault_number result) term_multiplicities.new term_denominators.new }
 {
-    let powers = tuple::load_powers(table, i);
+    let powers = tuple::load_powers(beta_powers, i);
     let alpha = extension::load(challenges, 2 * i);
     let own = LOOKUP_WORDS * i;
     column::lookup(
@@ -59,11 +57,11 @@ fn lookup_terms(
         w,
         powers,
         alpha,
-        &lookups[own..own + LOOKUP_WORDS],
-        &tuples[at.tuple..end.tuple],
-        &multiplicities[at.multiplicity..end.multiplicity],
-        &flags[at.flag..end.flag],
-        &elements[at.element..end.element],
+        &lookups.records[own..own + LOOKUP_WORDS],
+        &lookups.tuples[at.tuple..end.tuple],
+        &lookups.multiplicities[at.multiplicity..end.multiplicity],
+        &lookups.flags[at.flag..end.flag],
+        &lookups.elements[at.element..end.element],
         vals,
         term_multiplicities,
         term_denominators,
@@ -74,23 +72,19 @@ fn lookup_terms(
 pub fn write_row_terms(
     p: u32,
     w: u32,
-    lookups: &[u32],
-    tuples: &[u32],
-    multiplicities: &[u32],
-    flags: &[u32],
-    elements: &[u32],
+    lookups: &LentLookups,
     challenges: &[u32],
-    table: &[u32],
+    beta_powers: &[u32],
     vals: &[u32],
     r: usize,
     term_multiplicities: &mut [u32],
     term_denominators: &mut [u32],
 ) -> Result<(), Refusal>
-    requires { let s : RowSource = lent_row lookups.now tuples.now multiplicities.now flags.now elements.now challenges.now vals.now in ColumnInputs p w s.lookups s.challenges table.now × Below p s.vals
-        × (length term_multiplicities.old ≡ length s.lookups.tuples) × (length term_denominators.old ≡ 4 * length s.lookups.tuples) }
-    ensures { let s : RowSource = lent_row lookups.now tuples.now multiplicities.now flags.now elements.now challenges.now vals.now in RowTerms p w s.lookups s.challenges (λ _. s.vals) r result term_multiplicities.new term_denominators.new }
+    requires { let s : RowSource = as_row lookups.now challenges.now vals.now in ColumnInputs p w s.lookups s.challenges beta_powers.now
+        × Below p s.vals × (length term_multiplicities.old ≡ length s.lookups.tuples) × (length term_denominators.old ≡ 4 * length s.lookups.tuples) }
+    ensures { let s : RowSource = as_row lookups.now challenges.now vals.now in RowTerms p w s.lookups s.challenges (λ _. s.vals) r result term_multiplicities.new term_denominators.new }
 {
-    let n = lookups.len() / LOOKUP_WORDS;
+    let n = lookups.records.len() / LOOKUP_WORDS;
     let mut verdict = Ok(());
     let mut at = Starts {
         tuple: 0,
@@ -99,17 +93,13 @@ pub fn write_row_terms(
         element: 0,
     };
     for i in 0..n {
-        let end = next_starts(lookups, tuples, multiplicities, flags, elements, i, at);
+        let end = next_starts(lookups, i, at);
         let found = lookup_terms(
             p,
             w,
             lookups,
-            tuples,
-            multiplicities,
-            flags,
-            elements,
             challenges,
-            table,
+            beta_powers,
             vals,
             i,
             at,

@@ -5,12 +5,12 @@ ghost use Rattle.expression.specs.Requires.{Evaluable};
 ghost use Rattle.lookup.specs.Lookups.{lookup_count};
 ghost use Rattle.logup.specs.Rows.{row_words, trace, used};
 ghost use Rattle.logup_column.specs.inner.Requires.{ColumnInputs};
-ghost use Rattle.logup_column.specs.inner.Source.{Source, lent_source, node_values};
+ghost use Rattle.logup_column.specs.inner.Source.{Source, as_source, node_values};
 ghost use Rattle.logup_rows.specs.inner.Progress.{Reached};
 
 use crate::block::{Progress, block};
-use expression::sizes::Shape;
 use field::extension::Ext;
+use lookup::table::LentTable;
 use lookup::types::LOOKUP_WORDS;
 
 // How many rows of so many tuples go in a block: at most 256 tuples.
@@ -25,31 +25,23 @@ fn block_rows(tuples: usize) -> usize
 pub fn rows(
     p: u32,
     w: u32,
-    shape: Shape,
-    main: &[u32],
-    preprocessed: &[u32],
-    public_values: &[u32],
-    nodes: &[u32],
-    lookups: &[u32],
-    tuples: &[u32],
-    multiplicities: &[u32],
-    flags: &[u32],
-    elements: &[u32],
+    table: &LentTable,
     challenges: &[u32],
-    table: &[u32],
+    beta_powers: &[u32],
     from: usize,
     k: usize,
     before: Progress,
     out: &mut [u32],
 ) -> Progress
-    requires { let s : Source = lent_source shape main.now preprocessed.now public_values.now nodes.now lookups.now tuples.now multiplicities.now flags.now elements.now challenges.now in ColumnInputs p w s.lookups s.challenges table.now × Evaluable p s.traces s.nodes × (from + k ≤ shape.height) × (shape.height ≤ 1048576)
+    requires { let s : Source = as_source table.now challenges.now in ColumnInputs p w s.lookups s.challenges beta_powers.now × Evaluable p s.traces s.nodes
+        × (from + k ≤ s.traces.shape.height) × (s.traces.shape.height ≤ 1048576)
         × (length s.lookups.tuples ≤ 64) × (length out.old ≡ k * (4 * lookup_count s.lookups.lookups + 4))
         × Reached p w s.lookups s.challenges (node_values p s) from before }
-    ensures { let s : Source = lent_source shape main.now preprocessed.now public_values.now nodes.now lookups.now tuples.now multiplicities.now flags.now elements.now challenges.now in Reached p w s.lookups s.challenges (node_values p s) (from + k) result
+    ensures { let s : Source = as_source table.now challenges.now in Reached p w s.lookups s.challenges (node_values p s) (from + k) result
         × (out.new ≡ joined (row_words p w s.lookups s.challenges (node_values p s)) from k) }
 {
-    let width = 4 * (lookups.len() / LOOKUP_WORDS) + 4;
-    let most = block_rows(tuples.len());
+    let width = 4 * (table.lookups.records.len() / LOOKUP_WORDS) + 4;
+    let most = block_rows(table.lookups.tuples.len());
     let mut progress = before;
     let mut at = 0;
     let mut j = 0;
@@ -60,18 +52,9 @@ pub fn rows(
         progress = block(
             p,
             w,
-            shape,
-            main,
-            preprocessed,
-            public_values,
-            nodes,
-            lookups,
-            tuples,
-            multiplicities,
-            flags,
-            elements,
-            challenges,
             table,
+            challenges,
+            beta_powers,
             from + j,
             n,
             progress,
@@ -87,26 +70,17 @@ pub fn rows(
 pub fn all_rows(
     p: u32,
     w: u32,
-    shape: Shape,
-    main: &[u32],
-    preprocessed: &[u32],
-    public_values: &[u32],
-    nodes: &[u32],
-    lookups: &[u32],
-    tuples: &[u32],
-    multiplicities: &[u32],
-    flags: &[u32],
-    elements: &[u32],
+    table: &LentTable,
     challenges: &[u32],
-    table: &[u32],
+    beta_powers: &[u32],
     out: &mut [u32],
 ) -> Progress
-    requires { let s : Source = lent_source shape main.now preprocessed.now public_values.now nodes.now lookups.now tuples.now multiplicities.now flags.now elements.now challenges.now in ColumnInputs p w s.lookups s.challenges table.now × Evaluable p s.traces s.nodes
-        × (shape.height ≤ 1048576) × (length s.lookups.tuples ≤ 64) × (used s.lookups.lookups shape.height ≤ length out.old) }
-    ensures { let s : Source = lent_source shape main.now preprocessed.now public_values.now nodes.now lookups.now tuples.now multiplicities.now flags.now elements.now challenges.now in Reached p w s.lookups s.challenges (node_values p s) shape.height result
-        × (out.new ≡ trace p w s.lookups s.challenges (node_values p s) shape.height ++ drop (used s.lookups.lookups shape.height) out.old) }
+    requires { let s : Source = as_source table.now challenges.now in ColumnInputs p w s.lookups s.challenges beta_powers.now × Evaluable p s.traces s.nodes
+        × (s.traces.shape.height ≤ 1048576) × (length s.lookups.tuples ≤ 64) × (used s.lookups.lookups s.traces.shape.height ≤ length out.old) }
+    ensures { let s : Source = as_source table.now challenges.now in Reached p w s.lookups s.challenges (node_values p s) s.traces.shape.height result
+        × (out.new ≡ trace p w s.lookups s.challenges (node_values p s) s.traces.shape.height ++ drop (used s.lookups.lookups s.traces.shape.height) out.old) }
 {
-    let width = 4 * (lookups.len() / LOOKUP_WORDS) + 4;
+    let width = 4 * (table.lookups.records.len() / LOOKUP_WORDS) + 4;
     let mut progress = Progress {
         accumulator: Ext::ZERO,
         verdict: Ok(()),
@@ -114,24 +88,15 @@ pub fn all_rows(
     let mut at = 0;
     let mut r = 0;
     // The step is not one row: a part has up to 1,024.
-    while r < shape.height {
-        let k = (shape.height - r).min(1024);
+    while r < table.traces.shape.height {
+        let k = (table.traces.shape.height - r).min(1024);
         let end = at + k * width;
         progress = rows(
             p,
             w,
-            shape,
-            main,
-            preprocessed,
-            public_values,
-            nodes,
-            lookups,
-            tuples,
-            multiplicities,
-            flags,
-            elements,
-            challenges,
             table,
+            challenges,
+            beta_powers,
             r,
             k,
             progress,

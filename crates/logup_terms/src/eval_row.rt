@@ -10,20 +10,20 @@ ghost use Rattle.lookup.specs.Lookups.{lookup_count};
 ghost use Rattle.logup.specs.Rows.{place};
 ghost use Rattle.logup.specs.Constraints.{must_vanish, row_verdict, rows_verdict};
 ghost use Rattle.logup_column.specs.inner.Requires.{ColumnInputs, PartsOf};
-ghost use Rattle.logup_column.specs.inner.Source.{Source, lent_source, node_values, RowSource, lent_row};
+ghost use Rattle.logup_column.specs.inner.Source.{Source, as_source, node_values, RowSource, as_row};
 ghost use Rattle.logup_terms.specs.inner.Constraint.{vanishing};
 ghost use Rattle.logup_terms.specs.inner.ConstraintRow.{next_accumulator, accumulator_verdict, TraceInputs, FractionsEvaluated};
 
 use crate::compute;
 use expression::node::NODE_WORDS;
 use expression::refusal::Refusal;
-use expression::sizes::Shape;
 use expression::words::clear;
 use expression_eval::traits;
 use field::extension;
 use field::extension::Ext;
 use logup_column::starts::{Starts, next_starts};
 use logup_column::tuple;
+use lookup::table::{LentLookups, LentTable};
 use lookup::types::{LOOKUP_WORDS, LookupTerminal};
 
 // Refusal 17 with row and place, unless the value is zero.
@@ -42,23 +42,20 @@ fn must_vanish(x: Ext, row: usize, place: usize) -> Result<(), Refusal>
 fn eval_fraction(
     p: u32,
     w: u32,
-    lookups: &[u32],
-    tuples: &[u32],
-    multiplicities: &[u32],
-    flags: &[u32],
-    elements: &[u32],
+    lookups: &LentLookups,
     challenges: &[u32],
-    table: &[u32],
+    beta_powers: &[u32],
     vals: &[u32],
     i: usize,
     at: Starts,
     end: Starts,
     cell: Ext,
 ) -> Ext
-    requires { let s : RowSource = lent_row lookups.now tuples.now multiplicities.now flags.now elements.now challenges.now vals.now in ColumnInputs p w s.lookups s.challenges table.now × Below p s.vals × PartsOf s.lookups i at end × Word4 p (ext_words cell) }
-    ensures { let s : RowSource = lent_row lookups.now tuples.now multiplicities.now flags.now elements.now challenges.now vals.now in ext_words result ≡ vanishing p w (place p w s.lookups s.challenges (λ _. s.vals) 0 i) (ext_words cell) }
+    requires { let s : RowSource = as_row lookups.now challenges.now vals.now in ColumnInputs p w s.lookups s.challenges beta_powers.now
+        × Below p s.vals × PartsOf s.lookups i at end × Word4 p (ext_words cell) }
+    ensures { let s : RowSource = as_row lookups.now challenges.now vals.now in ext_words result ≡ vanishing p w (place p w s.lookups s.challenges (λ _. s.vals) 0 i) (ext_words cell) }
 {
-    let powers = tuple::load_powers(table, i);
+    let powers = tuple::load_powers(beta_powers, i);
     let alpha = extension::load(challenges, 2 * i);
     let own = LOOKUP_WORDS * i;
     compute::lookup_constraint(
@@ -66,11 +63,11 @@ fn eval_fraction(
         w,
         powers,
         alpha,
-        &lookups[own..own + LOOKUP_WORDS],
-        &tuples[at.tuple..end.tuple],
-        &multiplicities[at.multiplicity..end.multiplicity],
-        &flags[at.flag..end.flag],
-        &elements[at.element..end.element],
+        &lookups.records[own..own + LOOKUP_WORDS],
+        &lookups.tuples[at.tuple..end.tuple],
+        &lookups.multiplicities[at.multiplicity..end.multiplicity],
+        &lookups.flags[at.flag..end.flag],
+        &lookups.elements[at.element..end.element],
         vals,
         cell,
     )
@@ -80,23 +77,19 @@ fn eval_fraction(
 fn eval_fractions(
     p: u32,
     w: u32,
-    lookups: &[u32],
-    tuples: &[u32],
-    multiplicities: &[u32],
-    flags: &[u32],
-    elements: &[u32],
+    lookups: &LentLookups,
     challenges: &[u32],
-    table: &[u32],
+    beta_powers: &[u32],
     vals: &[u32],
     words: &[u32],
     base: usize,
     r: usize,
 ) -> Result<Ext, Refusal>
-    requires { let s : RowSource = lent_row lookups.now tuples.now multiplicities.now flags.now elements.now challenges.now vals.now in ColumnInputs p w s.lookups s.challenges table.now × Below p s.vals × Below p words.now
-        × (4 * (base + (lookup_count s.lookups.lookups + 1)) ≤ length words.now) }
-    ensures { let s : RowSource = lent_row lookups.now tuples.now multiplicities.now flags.now elements.now challenges.now vals.now in FractionsEvaluated p w s words.now base r result }
+    requires { let s : RowSource = as_row lookups.now challenges.now vals.now in ColumnInputs p w s.lookups s.challenges beta_powers.now
+        × Below p s.vals × Below p words.now × (4 * (base + (lookup_count s.lookups.lookups + 1)) ≤ length words.now) }
+    ensures { FractionsEvaluated p w (as_row lookups.now challenges.now vals.now) words.now base r result }
 {
-    let n = lookups.len() / LOOKUP_WORDS;
+    let n = lookups.records.len() / LOOKUP_WORDS;
     let mut sum = Ext::ZERO;
     let mut at = Starts {
         tuple: 0,
@@ -105,18 +98,14 @@ fn eval_fractions(
         element: 0,
     };
     for i in 0..n {
-        let end = next_starts(lookups, tuples, multiplicities, flags, elements, i, at);
+        let end = next_starts(lookups, i, at);
         let cell = extension::load(words, base + (i + 1));
         let value = eval_fraction(
             p,
             w,
             lookups,
-            tuples,
-            multiplicities,
-            flags,
-            elements,
             challenges,
-            table,
+            beta_powers,
             vals,
             i,
             at,
@@ -193,13 +182,9 @@ fn eval_accumulator(
 fn eval_row(
     p: u32,
     w: u32,
-    lookups: &[u32],
-    tuples: &[u32],
-    multiplicities: &[u32],
-    flags: &[u32],
-    elements: &[u32],
+    lookups: &LentLookups,
     challenges: &[u32],
-    table: &[u32],
+    beta_powers: &[u32],
     vals: &[u32],
     width: usize,
     words: &[u32],
@@ -208,29 +193,15 @@ fn eval_row(
     r: usize,
     height: usize,
 ) -> Result<(), Refusal>
-    requires { let s : RowSource = lent_row lookups.now tuples.now multiplicities.now flags.now elements.now challenges.now vals.now in ColumnInputs p w s.lookups s.challenges table.now × Below p s.vals
-        × TraceInputs p height width (lookup_count s.lookups.lookups) words.now × Word4 p (ext_words terminal.0)
+    requires { let s : RowSource = as_row lookups.now challenges.now vals.now in ColumnInputs p w s.lookups s.challenges beta_powers.now
+        × Below p s.vals × TraceInputs p height width (lookup_count s.lookups.lookups) words.now × Word4 p (ext_words terminal.0)
         × (r < height) × (base ≡ r * width) × (lookup_count s.lookups.lookups ≤ 64) }
-    ensures { let s : RowSource = lent_row lookups.now tuples.now multiplicities.now flags.now elements.now challenges.now vals.now in (values : ℕ → List ℕ) → values r ≡ s.vals
+    ensures { let s : RowSource = as_row lookups.now challenges.now vals.now in (values : ℕ → List ℕ) → values r ≡ s.vals
         → refusal result ≡ row_verdict p w s.lookups s.challenges values width words.now (ext_words terminal.0) height r }
 {
-    let sum = eval_fractions(
-        p,
-        w,
-        lookups,
-        tuples,
-        multiplicities,
-        flags,
-        elements,
-        challenges,
-        table,
-        vals,
-        words,
-        base,
-        r,
-    )?;
+    let sum = eval_fractions(p, w, lookups, challenges, beta_powers, vals, words, base, r)?;
     let accumulator = extension::load(words, base);
-    let n = lookups.len() / LOOKUP_WORDS;
+    let n = lookups.records.len() / LOOKUP_WORDS;
     eval_accumulator(
         p,
         accumulator,
@@ -248,52 +219,30 @@ fn eval_row(
 pub fn eval_rows(
     p: u32,
     w: u32,
-    shape: Shape,
-    main: &[u32],
-    preprocessed: &[u32],
-    public_values: &[u32],
-    nodes: &[u32],
-    lookups: &[u32],
-    tuples: &[u32],
-    multiplicities: &[u32],
-    flags: &[u32],
-    elements: &[u32],
+    table: &LentTable,
     challenges: &[u32],
-    table: &[u32],
+    beta_powers: &[u32],
     width: usize,
     words: &[u32],
     terminal: LookupTerminal,
 ) -> Result<(), Refusal>
-    requires { let s : Source = lent_source shape main.now preprocessed.now public_values.now nodes.now lookups.now tuples.now multiplicities.now flags.now elements.now challenges.now in ColumnInputs p w s.lookups s.challenges table.now × Evaluable p s.traces s.nodes
-        × TraceInputs p shape.height width (lookup_count s.lookups.lookups) words.now × Word4 p (ext_words terminal.0)
+    requires { let s : Source = as_source table.now challenges.now in ColumnInputs p w s.lookups s.challenges beta_powers.now × Evaluable p s.traces s.nodes
+        × TraceInputs p s.traces.shape.height width (lookup_count s.lookups.lookups) words.now × Word4 p (ext_words terminal.0)
         × (lookup_count s.lookups.lookups ≤ 64) }
-    ensures { let s : Source = lent_source shape main.now preprocessed.now public_values.now nodes.now lookups.now tuples.now multiplicities.now flags.now elements.now challenges.now in refusal result ≡ rows_verdict p w s.lookups s.challenges (node_values p s) width words.now (ext_words terminal.0) shape.height }
+    ensures { let s : Source = as_source table.now challenges.now in refusal result ≡ rows_verdict p w s.lookups s.challenges (node_values p s) width words.now (ext_words terminal.0) s.traces.shape.height }
 {
-    let height = shape.height;
-    let count = nodes.len() / NODE_WORDS;
+    let height = table.traces.shape.height;
+    let count = table.nodes.len() / NODE_WORDS;
     let mut vals = [0u32; 1024];
     let mut base = 0;
     for r in 0..height {
-        traits::row_values(
-            p,
-            shape,
-            main,
-            preprocessed,
-            public_values,
-            nodes,
-            r,
-            &mut vals,
-        );
+        traits::row_values(p, &table.traces, table.nodes, r, &mut vals);
         eval_row(
             p,
             w,
-            lookups,
-            tuples,
-            multiplicities,
-            flags,
-            elements,
+            &table.lookups,
             challenges,
-            table,
+            beta_powers,
             &vals[0..count],
             width,
             words,

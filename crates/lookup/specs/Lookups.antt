@@ -3,6 +3,7 @@ use Rattle.std.specs.Prelude.{ℕ, ◌+◌, ◌*◌, ◌/◌, Bool, cond, not, L
 use Rattle.lists.specs.Count.{total}
 use Rattle.lists.specs.Tab.{tab}
 use Rattle.expression.specs.Words.{word}
+use Rattle.lookup.specs.declared.table.LentLookups.{LentLookups}
 
 pub record Lookups : Type 0 where
   -- for each lookup: scope, name length, weight, column, exclusive, tuples, multiplicities, flags, and the weight's high half
@@ -22,6 +23,10 @@ pub record Lookups : Type 0 where
 abbrev pub lent_lookups : List ℕ → List ℕ → List ℕ → List ℕ → List ℕ → List ℕ → Lookups
 lent_lookups lookups names tuples multiplicities flags elements =
     record { lookups = lookups; names = names; tuples = tuples; multiplicities = multiplicities; flags = flags; elements = elements }
+
+-- the lookups, from what a caller lends
+abbrev pub as_lookups : LentLookups → Lookups
+as_lookups l = lent_lookups l.records.now l.names.now l.tuples.now l.multiplicities.now l.flags.now l.elements.now
 
 -- the lookups of which just these lists are lent: what the buses are read from
 abbrev pub bus_lookups : List ℕ → List ℕ → List ℕ → Lookups

@@ -6,5 +6,6 @@ pub mod buses;
 pub mod refusals;
 pub mod sizes;
 pub mod starts;
+pub mod table;
 pub mod tests;
 pub mod types;

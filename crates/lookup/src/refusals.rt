@@ -1,17 +1,17 @@
 // The first of refusals 1 to 5 that a whole table has.
-ghost use Rattle.std.specs.Prelude.{◌≡◌, List, ℕ, ◌≤◌};
+ghost use Rattle.std.specs.Prelude.{◌≡◌, ◌≤◌};
 ghost use Rattle.std.proofs.Math.Option.{Option};
 ghost use Rattle.lists.specs.Count.{or_else};
 ghost use Rattle.expression.specs.Limits.{Sane};
 ghost use Rattle.expression.specs.Refusal.{refusal};
 ghost use Rattle.expression.specs.Node.{node_count};
 ghost use Rattle.expression.specs.declared.refusal.Refusal as Refusals;
-ghost use Rattle.expression.specs.declared.sizes.Shape as Sizes;
-ghost use Rattle.lookup.specs.Lookups.{Lookups, lent_lookups};
-ghost use Rattle.lookup.specs.Table.{lent_table};
+ghost use Rattle.lookup.specs.Lookups.{as_lookups};
+ghost use Rattle.lookup.specs.Table.{as_table};
 ghost use Rattle.lookup.specs.Tests.{sizes, words_below};
 ghost use Rattle.lookup.specs.Refusals.{shape_of, columns_within, form_sizes, nodes_refusal, lists_refusal, table_refusal, form_refusal};
 
+use crate::table::{LentLookups, LentTable};
 use crate::tests::{lists_agree, lookups_fit, lookups_within};
 use expression::node::NODE_WORDS;
 use expression::refusal::Refusal;
@@ -29,42 +29,21 @@ pub struct Columns {
 }
 
 // Refusal 1 of a table. What follows `&&` may be asked only of sizes within the limits.
-pub fn sizes(
-    limits: Limits,
-    shape: Shape,
-    main: &[u32],
-    preprocessed: &[u32],
-    public_values: &[u32],
-    nodes: &[u32],
-    lookups: &[u32],
-    names: &[u8],
-    tuples: &[u32],
-    multiplicities: &[u32],
-    flags: &[u32],
-    elements: &[u32],
-) -> bool
+pub fn sizes(limits: Limits, table: &LentTable) -> bool
     requires { Sane limits }
-    ensures { result ≡ sizes limits (lent_table shape main.now preprocessed.now public_values.now nodes.now (lent_lookups lookups.now names.now tuples.now multiplicities.now flags.now elements.now)) }
+    ensures { result ≡ sizes limits (as_table table.now) }
 {
-    (traces_within(limits, shape, public_values)
-        & nodes_within(limits, nodes)
-        & lookups_within(limits, lookups, tuples))
-        && (traces_fit(shape, main, preprocessed)
-            & nodes_fit(nodes)
-            & lookups_fit(lookups, names, tuples, multiplicities, flags, elements))
+    (traces_within(limits, &table.traces)
+        & nodes_within(limits, table.nodes)
+        & lookups_within(limits, table.lookups.records, table.lookups.tuples))
+        && (traces_fit(&table.traces) & nodes_fit(table.nodes) & lookups_fit(&table.lookups))
 }
 
 // Refusal 2 of a table, whatever its sizes and its lookups.
-pub fn words_below(
-    p: u32,
-    main: &[u32],
-    preprocessed: &[u32],
-    public_values: &[u32],
-    nodes: &[u32],
-) -> bool
-    ensures { (s : Sizes.Shape) (l : Lookups) → result ≡ words_below p (lent_table s main.now preprocessed.now public_values.now nodes.now l) }
+pub fn words_below(p: u32, table: &LentTable) -> bool
+    ensures { result ≡ words_below p (as_table table.now) }
 {
-    traces_below(p, main, preprocessed, public_values) & constants_below(p, nodes)
+    traces_below(p, &table.traces) & constants_below(p, table.nodes)
 }
 
 // A table of these columns, as far as its nodes see it.
@@ -89,24 +68,14 @@ pub fn columns_within(limits: Limits, columns: Columns) -> bool
 }
 
 // Refusal 1 of a table without its traces.
-pub fn form_sizes(
-    limits: Limits,
-    columns: Columns,
-    nodes: &[u32],
-    lookups: &[u32],
-    names: &[u8],
-    tuples: &[u32],
-    multiplicities: &[u32],
-    flags: &[u32],
-    elements: &[u32],
-) -> bool
+pub fn form_sizes(limits: Limits, columns: Columns, nodes: &[u32], lookups: &LentLookups) -> bool
     requires { Sane limits }
-    ensures { result ≡ form_sizes limits columns nodes.now (lent_lookups lookups.now names.now tuples.now multiplicities.now flags.now elements.now) }
+    ensures { result ≡ form_sizes limits columns nodes.now (as_lookups lookups.now) }
 {
     (columns_within(limits, columns)
         & nodes_within(limits, nodes)
-        & lookups_within(limits, lookups, tuples))
-        && (nodes_fit(nodes) & lookups_fit(lookups, names, tuples, multiplicities, flags, elements))
+        & lookups_within(limits, lookups.records, lookups.tuples))
+        && (nodes_fit(nodes) & lookups_fit(lookups))
 }
 
 // Refusals 3 and 4 of the nodes, where there are so many public values.
@@ -129,68 +98,34 @@ pub fn nodes_refusal(
 }
 
 // Refusal 5 of every entry point.
-fn lists_refusal(
-    nodes: &[u32],
-    lookups: &[u32],
-    multiplicities: &[u32],
-    flags: &[u32],
-    elements: &[u32],
-) -> Result<(), Refusal>
+fn lists_refusal(nodes: &[u32], lookups: &LentLookups) -> Result<(), Refusal>
     requires { node_count nodes.now ≤ 1024 }
-    ensures { (names tuples : List ℕ) → refusal result ≡ lists_refusal (node_count nodes.now) (lent_lookups lookups.now names tuples multiplicities.now flags.now elements.now) }
+    ensures { refusal result ≡ lists_refusal (node_count nodes.now) (as_lookups lookups.now) }
 {
-    if lists_agree(
-        (nodes.len() / NODE_WORDS) as u32,
-        lookups,
-        multiplicities,
-        flags,
-        elements,
-    ) {
+    if lists_agree((nodes.len() / NODE_WORDS) as u32, lookups) {
         Ok(())
     } else {
         Err(Refusal::LookupInvalid)
     }
 }
 
-pub fn table_refusal(
-    limits: Limits,
-    p: u32,
-    shape: Shape,
-    main: &[u32],
-    preprocessed: &[u32],
-    public_values: &[u32],
-    nodes: &[u32],
-    lookups: &[u32],
-    names: &[u8],
-    tuples: &[u32],
-    multiplicities: &[u32],
-    flags: &[u32],
-    elements: &[u32],
-) -> Result<(), Refusal>
+pub fn table_refusal(limits: Limits, p: u32, table: &LentTable) -> Result<(), Refusal>
     requires { Sane limits }
-    ensures { refusal result ≡ table_refusal limits p (lent_table shape main.now preprocessed.now public_values.now nodes.now (lent_lookups lookups.now names.now tuples.now multiplicities.now flags.now elements.now)) }
+    ensures { refusal result ≡ table_refusal limits p (as_table table.now) }
 {
-    if !sizes(
-        limits,
-        shape,
-        main,
-        preprocessed,
-        public_values,
-        nodes,
-        lookups,
-        names,
-        tuples,
-        multiplicities,
-        flags,
-        elements,
-    ) {
+    if !sizes(limits, table) {
         return Err(Refusal::SizeAtOdds);
     }
-    if !words_below(p, main, preprocessed, public_values, nodes) {
+    if !words_below(p, table) {
         return Err(Refusal::WordTooLarge);
     }
-    nodes_refusal(limits, shape, public_values.len(), nodes)?;
-    lists_refusal(nodes, lookups, multiplicities, flags, elements)
+    nodes_refusal(
+        limits,
+        table.traces.shape,
+        table.traces.public_values.len(),
+        table.nodes,
+    )?;
+    lists_refusal(table.nodes, &table.lookups)
 }
 
 // The same of a table without its traces.
@@ -199,32 +134,17 @@ pub fn form_refusal(
     p: u32,
     columns: Columns,
     nodes: &[u32],
-    lookups: &[u32],
-    names: &[u8],
-    tuples: &[u32],
-    multiplicities: &[u32],
-    flags: &[u32],
-    elements: &[u32],
+    lookups: &LentLookups,
 ) -> Result<(), Refusal>
     requires { Sane limits }
-    ensures { refusal result ≡ form_refusal limits p columns nodes.now (lent_lookups lookups.now names.now tuples.now multiplicities.now flags.now elements.now) }
+    ensures { refusal result ≡ form_refusal limits p columns nodes.now (as_lookups lookups.now) }
 {
-    if !form_sizes(
-        limits,
-        columns,
-        nodes,
-        lookups,
-        names,
-        tuples,
-        multiplicities,
-        flags,
-        elements,
-    ) {
+    if !form_sizes(limits, columns, nodes, lookups) {
         return Err(Refusal::SizeAtOdds);
     }
     if !constants_below(p, nodes) {
         return Err(Refusal::WordTooLarge);
     }
     nodes_refusal(limits, shape_of(columns), columns.public_values, nodes)?;
-    lists_refusal(nodes, lookups, multiplicities, flags, elements)
+    lists_refusal(nodes, lookups)
 }

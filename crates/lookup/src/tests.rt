@@ -1,10 +1,11 @@
 // Refusals 1, 5 and 9 of a table's lookups, as tests that hold where there is no such refusal.
-ghost use Rattle.std.specs.Prelude.{◌≡◌, cond, List, ℕ, ◌+◌, ◌*◌, ◌<◌, ◌≤◌, ◌/◌, length};
+ghost use Rattle.std.specs.Prelude.{◌≡◌, cond, List, ℕ, ◌+◌, ◌*◌, ◌≤◌, length};
 ghost use Rattle.lists.specs.Count.{every};
-ghost use Rattle.lookup.specs.Lookups.{lent_lookups, lookup_words, lookup_count, column, exclusive, tuple_count};
+ghost use Rattle.lookup.specs.Lookups.{as_lookups, lookup_words, lookup_count, column, exclusive, tuple_count};
 ghost use Rattle.lookup.specs.Tests.{weight_limit, lookup_within, lookups_within, lookups_fit, lengths_agree, nodes_present, lists_agree, in_position, has_lookups, preprocessed_enough, rows_enough};
 
 use crate::starts::{element_start, flag_start, multiplicity_start, name_start, tuple_start};
+use crate::table::LentLookups;
 use crate::types::{
     LOOKUP_WORDS, column, exclusive, flag_count, multiplicity_count, name_length, on_bus,
     tuple_count, weight,
@@ -56,29 +57,22 @@ pub fn lookups_within(limits: Limits, lookups: &[u32], tuples: &[u32]) -> bool
 }
 
 // Each list has the length that the lookups say.
-pub fn lookups_fit(
-    lookups: &[u32],
-    names: &[u8],
-    tuples: &[u32],
-    multiplicities: &[u32],
-    flags: &[u32],
-    elements: &[u32],
-) -> bool
-    requires { (lookup_count lookups.now ≤ 4294967295) × (length tuples.now ≤ 4294967295) }
-    ensures { result ≡ lookups_fit (lent_lookups lookups.now names.now tuples.now multiplicities.now flags.now elements.now) }
+pub fn lookups_fit(lookups: &LentLookups) -> bool
+    requires { (lookup_count lookups.now.records.now ≤ 4294967295) × (length lookups.now.tuples.now ≤ 4294967295) }
+    ensures { result ≡ lookups_fit (as_lookups lookups.now) }
 {
-    let n = lookups.len() / LOOKUP_WORDS;
-    (lookups.len() % LOOKUP_WORDS == 0)
-        & (names.len() == name_start(lookups, n))
-        & (tuples.len() == tuple_start(lookups, n))
-        & (multiplicities.len() == multiplicity_start(lookups, n))
-        & (flags.len() == flag_start(lookups, n))
-        & (elements.len() == element_start(tuples, tuples.len()))
+    let n = lookups.records.len() / LOOKUP_WORDS;
+    (lookups.records.len() % LOOKUP_WORDS == 0)
+        & (lookups.names.len() == name_start(lookups.records, n))
+        & (lookups.tuples.len() == tuple_start(lookups.records, n))
+        & (lookups.multiplicities.len() == multiplicity_start(lookups.records, n))
+        & (lookups.flags.len() == flag_start(lookups.records, n))
+        & (lookups.elements.len() == element_start(lookups.tuples, lookups.tuples.len()))
 }
 
 // How many flags lookup i must have.
 fn flags_due(lookups: &[u32], i: usize) -> u32
-    requires { let l : List ℕ = lookups.now in lookup_words * i + lookup_words ≤ length l }
+    requires { lookup_words * i + lookup_words ≤ length lookups.now }
     ensures { let l : List ℕ = lookups.now in result ≡ cond (exclusive l i) (tuple_count l i) 0 }
 {
     if exclusive(lookups, i) {
@@ -110,23 +104,19 @@ pub fn all_agree(lookups: &[u32]) -> bool
 }
 
 // Each node that a lookup names is one of the n nodes.
-pub fn nodes_present(n: u32, multiplicities: &[u32], flags: &[u32], elements: &[u32]) -> bool
-    ensures { (lookups names tuples : List ℕ) → result ≡ nodes_present n (lent_lookups lookups names tuples multiplicities.now flags.now elements.now) }
+pub fn nodes_present(n: u32, lookups: &LentLookups) -> bool
+    ensures { result ≡ nodes_present n (as_lookups lookups.now) }
 {
-    all_below(n, multiplicities) & all_below(n, flags) & all_below(n, elements)
+    all_below(n, lookups.multiplicities)
+        & all_below(n, lookups.flags)
+        & all_below(n, lookups.elements)
 }
 
 // Refusal 5 of every entry point, with n nodes.
-pub fn lists_agree(
-    n: u32,
-    lookups: &[u32],
-    multiplicities: &[u32],
-    flags: &[u32],
-    elements: &[u32],
-) -> bool
-    ensures { (names tuples : List ℕ) → result ≡ lists_agree n (lent_lookups lookups.now names tuples multiplicities.now flags.now elements.now) }
+pub fn lists_agree(n: u32, lookups: &LentLookups) -> bool
+    ensures { result ≡ lists_agree n (as_lookups lookups.now) }
 {
-    all_agree(lookups) & nodes_present(n, multiplicities, flags, elements)
+    all_agree(lookups.records) & nodes_present(n, lookups)
 }
 
 // The column of each lookup is its position.

@@ -12,6 +12,7 @@ use Rattle.expression.specs.declared.refusal.Refusal.TheVariants.{SizeAtOdds}
 use Rattle.lookup.specs.Lookups.{Lookups, lookup_words, lent_lookups}
 use Rattle.lookup.specs.Refusals.{form_refusal}
 use Rattle.lookup.specs.declared.refusals.Columns.{Columns}
+use Rattle.lookup_builder.specs.declared.answer.LentInteractions.{LentInteractions}
 use Rattle.lookup_builder.specs.Building.{interaction_words, interaction_count, tuple_number, first_tuple, built, locals_refusal}
 use Rattle.lookup_builder.specs.declared.answer.Kinds.{Kinds}
 
@@ -29,6 +30,11 @@ pub record Interactions : Type 0 where
 abbrev pub lent_interactions : List ℕ → List ℕ → List ℕ → List ℕ → List ℕ → List ℕ → List ℕ → Interactions
 lent_interactions interactions weights names tuples multiplicities flags elements =
     record { interactions = interactions; weights = weights; names = names; tuples = tuples; multiplicities = multiplicities; flags = flags; elements = elements }
+
+-- the interactions, from what a caller lends
+abbrev pub as_interactions : LentInteractions → Interactions
+as_interactions g =
+    lent_interactions g.records.now g.weights.now g.names.now g.tuples.now g.multiplicities.now g.flags.now g.elements.now
 
 -- refusal 1 of the interactions: two words each, a weight for each tuple, one tuple of each global, and room for the words of each lookup
 unfoldable pub building_fits : Limits → Kinds → List ℕ → List ℕ → List ℕ → ℕ → Bool

@@ -9,6 +9,18 @@ pub const NAME_BYTES_WORD: usize = 0;
 
 pub const TUPLE_NUMBER_WORD: usize = 1;
 
+// The interactions: a record of two words each, and what these count, one interaction after the other, in six lists.
+#[derive(Clone, Copy)]
+pub struct LentInteractions<'a> {
+    pub records: &'a [u32],
+    pub weights: &'a [u32],
+    pub names: &'a [u8],
+    pub tuples: &'a [u32],
+    pub multiplicities: &'a [u32],
+    pub flags: &'a [u32],
+    pub elements: &'a [u32],
+}
+
 // How many interactions there are of each kind; they come in this order.
 #[derive(Clone, Copy)]
 pub struct Kinds {

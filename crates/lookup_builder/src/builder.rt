@@ -2,11 +2,11 @@
 ghost use Rattle.std.specs.Prelude.{◌≡◌, ◌≤◌};
 ghost use Rattle.expression.specs.Limits.{Sane};
 ghost use Rattle.expression.specs.Refusal.{refusal};
-ghost use Rattle.lookup.specs.Lookups.{Lookups, lent_lookups, lookup_count};
-ghost use Rattle.lookup_builder.specs.FromInteractions.{Interactions, lent_interactions, lookups_built, built_refusal, building, building_at, in_numbers};
+ghost use Rattle.lookup.specs.Lookups.{as_lookups, lookup_count};
+ghost use Rattle.lookup_builder.specs.FromInteractions.{Interactions, as_interactions, lookups_built, built_refusal, building, building_at, in_numbers};
 ghost use Rattle.lookup_builder.specs.inner.Requires.{BuildSource, build_source, InteractionsSized};
 
-use crate::answer::Kinds;
+use crate::answer::{Kinds, LentInteractions};
 use crate::fits::building_fits;
 use crate::locals::locals_verdict;
 use crate::words::{interaction_count, write_lookups};
@@ -15,6 +15,7 @@ use expression::refusal::Refusal;
 use expression::sizes::Limits;
 use field::modulus::prime_of;
 use lookup::refusals::{Columns, form_refusal};
+use lookup::table::LentLookups;
 use lookup::types::LOOKUP_WORDS;
 
 // Refusals 1 to 6 of lookups of which the first are locals.
@@ -24,29 +25,13 @@ fn words_verdict(
     columns: Columns,
     nodes: &[u32],
     locals: usize,
-    lookups: &[u32],
-    names: &[u8],
-    tuples: &[u32],
-    multiplicities: &[u32],
-    flags: &[u32],
-    elements: &[u32],
+    lookups: &LentLookups,
 ) -> Result<(), Refusal>
-    requires { let l : Lookups = lent_lookups lookups.now names.now tuples.now multiplicities.now flags.now elements.now in Sane limits × (locals ≤ lookup_count l.lookups) }
-    ensures { let l : Lookups = lent_lookups lookups.now names.now tuples.now multiplicities.now flags.now elements.now in refusal result ≡ built_refusal limits p columns nodes.now locals l }
+    requires { Sane limits × (locals ≤ lookup_count (as_lookups lookups.now).lookups) }
+    ensures { refusal result ≡ built_refusal limits p columns nodes.now locals (as_lookups lookups.now) }
 {
-    form_refusal(
-        limits,
-        p,
-        columns,
-        nodes,
-        lookups,
-        names,
-        tuples,
-        multiplicities,
-        flags,
-        elements,
-    )?;
-    locals_verdict(locals, lookups, tuples)
+    form_refusal(limits, p, columns, nodes, lookups)?;
+    locals_verdict(locals, lookups.records, lookups.tuples)
 }
 
 // Refusals 1 to 6 of the lookups that are built. Their words stand in an array, 64 lookups of 9 words, since there is no heap and a refusal
@@ -57,31 +42,32 @@ fn built_verdict(
     columns: Columns,
     nodes: &[u32],
     kinds: Kinds,
-    interactions: &[u32],
-    weights: &[u32],
-    names: &[u8],
-    tuples: &[u32],
-    multiplicities: &[u32],
-    flags: &[u32],
-    elements: &[u32],
+    interactions: &LentInteractions,
 ) -> Result<(), Refusal>
-    requires { let g : Interactions = lent_interactions interactions.now weights.now names.now tuples.now multiplicities.now flags.now elements.now in Sane limits × InteractionsSized kinds g.interactions g.weights }
-    ensures { let g : Interactions = lent_interactions interactions.now weights.now names.now tuples.now multiplicities.now flags.now elements.now in refusal result ≡ built_refusal limits p columns nodes.now kinds.locals (lookups_built kinds g) }
+    requires { let g : Interactions = as_interactions interactions.now in Sane limits × InteractionsSized kinds g.interactions g.weights }
+    ensures { refusal result ≡ built_refusal limits p columns nodes.now kinds.locals (lookups_built kinds (as_interactions interactions.now)) }
 {
     let mut words = [0u32; 576];
-    write_lookups(kinds, interactions, weights, &mut words);
+    write_lookups(
+        kinds,
+        interactions.records,
+        interactions.weights,
+        &mut words,
+    );
     words_verdict(
         limits,
         p,
         columns,
         nodes,
         kinds.locals,
-        &words[0..LOOKUP_WORDS * interaction_count(kinds)],
-        names,
-        tuples,
-        multiplicities,
-        flags,
-        elements,
+        &LentLookups {
+            records: &words[0..LOOKUP_WORDS * interaction_count(kinds)],
+            names: interactions.names,
+            tuples: interactions.tuples,
+            multiplicities: interactions.multiplicities,
+            flags: interactions.flags,
+            elements: interactions.elements,
+        },
     )
 }
 
@@ -92,37 +78,25 @@ pub fn build_within(
     columns: Columns,
     nodes: &[u32],
     kinds: Kinds,
-    interactions: &[u32],
-    weights: &[u32],
-    names: &[u8],
-    tuples: &[u32],
-    multiplicities: &[u32],
-    flags: &[u32],
-    elements: &[u32],
+    interactions: &LentInteractions,
     lookups: &mut [u32],
 ) -> Result<usize, Refusal>
     requires { Sane limits }
-    ensures { let s : BuildSource = build_source nodes.now (lent_interactions interactions.now weights.now names.now tuples.now multiplicities.now flags.now elements.now) lookups.old in (result ≡ (building limits p columns s.nodes kinds s.given s.lent).answer)
+    ensures { let s : BuildSource = build_source nodes.now (as_interactions interactions.now) lookups.old in (result ≡ (building limits p columns s.nodes kinds s.given s.lent).answer)
         × (lookups.new ≡ (building limits p columns s.nodes kinds s.given s.lent).lookups) }
 {
-    if !building_fits(limits, kinds, interactions, weights, tuples, lookups.len()) {
+    if !building_fits(
+        limits,
+        kinds,
+        interactions.records,
+        interactions.weights,
+        interactions.tuples,
+        lookups.len(),
+    ) {
         return Err(Refusal::SizeAtOdds);
     }
-    built_verdict(
-        limits,
-        p,
-        columns,
-        nodes,
-        kinds,
-        interactions,
-        weights,
-        names,
-        tuples,
-        multiplicities,
-        flags,
-        elements,
-    )?;
-    write_lookups(kinds, interactions, weights, lookups);
+    built_verdict(limits, p, columns, nodes, kinds, interactions)?;
+    write_lookups(kinds, interactions.records, interactions.weights, lookups);
     Ok(LOOKUP_WORDS * interaction_count(kinds))
 }
 
@@ -132,19 +106,11 @@ pub fn from_interactions(
     columns: Columns,
     nodes: &[u32],
     kinds: Kinds,
-    interactions: &[u32],
-    weights: &[u32],
-    names: &[u8],
-    tuples: &[u32],
-    multiplicities: &[u32],
-    flags: &[u32],
-    elements: &[u32],
+    interactions: &LentInteractions,
     lookups: &mut [u32],
 ) -> Result<usize, Refusal>
     ensures { in_numbers (record { answer = result; lookups = lookups.new })
-        ≡ in_numbers (building_at choices columns nodes.now kinds
-        (lent_interactions interactions.now weights.now names.now tuples.now multiplicities.now
-        flags.now elements.now) lookups.old) }
+        ≡ in_numbers (building_at choices columns nodes.now kinds (as_interactions interactions.now) lookups.old) }
 {
     if !known(choices) {
         return Err(Refusal::SizeAtOdds);
@@ -156,12 +122,6 @@ pub fn from_interactions(
         nodes,
         kinds,
         interactions,
-        weights,
-        names,
-        tuples,
-        multiplicities,
-        flags,
-        elements,
         lookups,
     )
 }

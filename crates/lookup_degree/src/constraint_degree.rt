@@ -1,7 +1,7 @@
 // The degree of a lookup of a table: the entry point.
 ghost use Rattle.std.specs.Prelude.{◌≡◌, ◌<◌, ◌≤◌};
 ghost use Rattle.expression.specs.Limits.{Sane};
-ghost use Rattle.lookup.specs.Lookups.{Lookups, lent_lookups, lookup_count, lookup_at};
+ghost use Rattle.lookup.specs.Lookups.{Lookups, as_lookups, lookup_count, lookup_at};
 ghost use Rattle.lookup_degree.specs.Degree.{node_degrees, lookup_degree};
 ghost use Rattle.lookup_degree.specs.ConstraintDegree.{degree_answer, degree_at, in_numbers};
 ghost use Rattle.lookup_degree.specs.Formed.{Formed};
@@ -15,23 +15,13 @@ use expression::sizes::Limits;
 use expression_checks::degrees::fill_degrees;
 use field::modulus::prime_of;
 use lookup::refusals::{Columns, form_refusal};
+use lookup::table::LentLookups;
 use lookup::types::LOOKUP_WORDS;
 
 // The degree of lookup i of a table that passed the tests.
-fn degree_of(
-    limits: Limits,
-    nodes: &[u32],
-    lookups: &[u32],
-    names: &[u8],
-    tuples: &[u32],
-    multiplicities: &[u32],
-    flags: &[u32],
-    elements: &[u32],
-    i: usize,
-    t: u32,
-) -> u64
-    requires { let l : Lookups = lent_lookups lookups.now names.now tuples.now multiplicities.now flags.now elements.now in Formed limits nodes.now l × (i < lookup_count l.lookups) × (t ≤ 1) }
-    ensures { let l : Lookups = lent_lookups lookups.now names.now tuples.now multiplicities.now flags.now elements.now in result ≡ lookup_degree (node_degrees t nodes.now) (lookup_at l i) }
+fn degree_of(limits: Limits, nodes: &[u32], lookups: &LentLookups, i: usize, t: u32) -> u64
+    requires { let l : Lookups = as_lookups lookups.now in Formed limits nodes.now l × (i < lookup_count l.lookups) × (t ≤ 1) }
+    ensures { result ≡ lookup_degree (node_degrees t nodes.now) (lookup_at (as_lookups lookups.now) i) }
 {
     let mut of_nodes = [0u32; 1024];
     let _low = fill_degrees(
@@ -41,8 +31,15 @@ fn degree_of(
         nodes,
         &mut of_nodes,
     );
-    let of_tuples = tuple_degrees(&of_nodes, tuples, elements);
-    lookup_degree(&of_nodes, &of_tuples, lookups, multiplicities, flags, i)
+    let of_tuples = tuple_degrees(&of_nodes, lookups.tuples, lookups.elements);
+    lookup_degree(
+        &of_nodes,
+        &of_tuples,
+        lookups.records,
+        lookups.multiplicities,
+        lookups.flags,
+        i,
+    )
 }
 
 // The answer within these limits, for words below p.
@@ -51,45 +48,18 @@ pub fn degree_within(
     p: u32,
     columns: Columns,
     nodes: &[u32],
-    lookups: &[u32],
-    names: &[u8],
-    tuples: &[u32],
-    multiplicities: &[u32],
-    flags: &[u32],
-    elements: &[u32],
+    lookups: &LentLookups,
     i: usize,
     t: u32,
 ) -> Result<u64, Refusal>
     requires { Sane limits }
-    ensures { result ≡ degree_answer limits p columns nodes.now (lent_lookups lookups.now names.now tuples.now multiplicities.now flags.now elements.now) i t }
+    ensures { result ≡ degree_answer limits p columns nodes.now (as_lookups lookups.now) i t }
 {
-    if !((t <= 1) & (i < lookups.len() / LOOKUP_WORDS)) {
+    if !((t <= 1) & (i < lookups.records.len() / LOOKUP_WORDS)) {
         return Err(Refusal::SizeAtOdds);
     }
-    form_refusal(
-        limits,
-        p,
-        columns,
-        nodes,
-        lookups,
-        names,
-        tuples,
-        multiplicities,
-        flags,
-        elements,
-    )?;
-    Ok(degree_of(
-        limits,
-        nodes,
-        lookups,
-        names,
-        tuples,
-        multiplicities,
-        flags,
-        elements,
-        i,
-        t,
-    ))
+    form_refusal(limits, p, columns, nodes, lookups)?;
+    Ok(degree_of(limits, nodes, lookups, i, t))
 }
 
 // The degree of lookup i of a table at a transition degree t (`constraint_degree_with_transition`), at the choices of the call.
@@ -97,18 +67,11 @@ pub fn constraint_degree(
     choices: Choices,
     columns: Columns,
     nodes: &[u32],
-    lookups: &[u32],
-    names: &[u8],
-    tuples: &[u32],
-    multiplicities: &[u32],
-    flags: &[u32],
-    elements: &[u32],
+    lookups: &LentLookups,
     i: usize,
     t: u32,
 ) -> Result<u64, Refusal>
-    ensures { in_numbers result ≡ in_numbers (degree_at choices columns nodes.now
-        (lent_lookups lookups.now names.now tuples.now multiplicities.now flags.now
-        elements.now) i t) }
+    ensures { in_numbers result ≡ in_numbers (degree_at choices columns nodes.now (as_lookups lookups.now) i t) }
 {
     if !known(choices) {
         return Err(Refusal::SizeAtOdds);
@@ -119,11 +82,6 @@ pub fn constraint_degree(
         columns,
         nodes,
         lookups,
-        names,
-        tuples,
-        multiplicities,
-        flags,
-        elements,
         i,
         t,
     )

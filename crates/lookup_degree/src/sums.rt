@@ -1,16 +1,10 @@
 // Sums and maxima of the degrees of one lookup's tuples, multiplicities and flags.
-ghost use Rattle.std.specs.Prelude.{◌≡◌, List, ℕ, ◌+◌, ◌*◌, ◌-◌, ◌≤◌, max};
+ghost use Rattle.std.specs.Prelude.{◌≡◌, List, ℕ, ◌+◌, ◌*◌, ◌-◌, ◌≤◌};
 ghost use Rattle.lists.specs.Count.{total};
 ghost use Rattle.expression.specs.Words.{word};
 ghost use Rattle.lookup_degree.specs.Sums.{greatest};
 
 use expression::words::word_at;
-
-pub fn largest(a: u64, b: u64) -> u64
-    ensures { result ≡ max a b }
-{
-    a.max(b)
-}
 
 // The four loops below differ in their terms. One loop over a closure would be no plainer: each call would have to prove what its term is.
 // The denominators' degree: the sum over n tuples from `first` on. `degrees` has the degree of each tuple.

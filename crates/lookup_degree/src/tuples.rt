@@ -1,5 +1,5 @@
 // The degrees of the tuples of a table.
-ghost use Rattle.std.specs.Prelude.{◌≡◌, List, ◌++◌, ℕ, ◌≤◌, max, length, drop, replicate};
+ghost use Rattle.std.specs.Prelude.{◌≡◌, List, ◌++◌, ℕ, ◌≤◌, length, drop, replicate};
 ghost use Rattle.lists.specs.Tab.{tab};
 ghost use Rattle.expression.specs.Words.{word};
 ghost use Rattle.lookup.specs.Lookups.{element_start};
@@ -7,13 +7,6 @@ ghost use Rattle.lookup_degree.specs.Degree.{tuple_degree};
 ghost use Rattle.lookup_degree.specs.inner.At.{tuple_degree_at};
 
 use expression::words::word_at;
-
-// The larger of two words.
-pub fn larger(a: u32, b: u32) -> u32
-    ensures { result ≡ max a b }
-{
-    a.max(b)
-}
 
 // The largest degree of these nodes. `degrees` has the degree of each node.
 fn tuple_degree(degrees: &[u32], nodes: &[u32]) -> u32

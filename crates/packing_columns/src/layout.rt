@@ -1,7 +1,7 @@
 // The packed table, laid out from the plan and the table's own lists.
 ghost use Rattle.std.specs.Prelude.{◌≡◌};
 ghost use Rattle.expression.specs.Refusal.{refusal};
-ghost use Rattle.lookup.specs.Lookups.{Lookups, lent_lookups, bus_lookups};
+ghost use Rattle.lookup.specs.Lookups.{Lookups, as_lookups, lent_lookups, bus_lookups};
 ghost use Rattle.lookup_degree.specs.Formed.{Formed};
 ghost use Rattle.lookup_buses.specs.Widths.{widths_refusal};
 ghost use Rattle.packing.specs.PackSameBus.{single_table, all_written};
@@ -13,25 +13,16 @@ use expression::node::NODE_WORDS;
 use expression::refusal::Refusal;
 use expression::sizes::Limits;
 use expression_checks::degrees::fill_degrees;
+use lookup::table::LentLookups;
 use lookup::types::LOOKUP_WORDS;
 use lookup_buses::tables::bus_widths;
 use lookup_degree::tuples::tuple_degrees;
 use packing::answer::Counts;
 
 // The plan of a table that passed the tests, at t = 0.
-pub fn plan_of(
-    limits: Limits,
-    limit: u64,
-    nodes: &[u32],
-    lookups: &[u32],
-    names: &[u8],
-    tuples: &[u32],
-    multiplicities: &[u32],
-    flags: &[u32],
-    elements: &[u32],
-) -> Plan
-    requires { let l : Lookups = lent_lookups lookups.now names.now tuples.now multiplicities.now flags.now elements.now in Formed limits nodes.now l }
-    ensures { let l : Lookups = lent_lookups lookups.now names.now tuples.now multiplicities.now flags.now elements.now in Layout limit nodes.now l result }
+pub fn plan_of(limits: Limits, limit: u64, nodes: &[u32], lookups: &LentLookups) -> Plan
+    requires { Formed limits nodes.now (as_lookups lookups.now) }
+    ensures { Layout limit nodes.now (as_lookups lookups.now) result }
 {
     let mut of_nodes = [0u32; 1024];
     let _low = fill_degrees(
@@ -41,8 +32,15 @@ pub fn plan_of(
         nodes,
         &mut of_nodes,
     );
-    let of_tuples = tuple_degrees(&of_nodes, tuples, elements);
-    make_plan(&of_nodes, &of_tuples, lookups, names, multiplicities, limit)
+    let of_tuples = tuple_degrees(&of_nodes, lookups.tuples, lookups.elements);
+    make_plan(
+        &of_nodes,
+        &of_tuples,
+        lookups.records,
+        lookups.names,
+        lookups.multiplicities,
+        limit,
+    )
 }
 
 // How many words each list gets.
@@ -117,12 +115,7 @@ pub fn plan_refusal(
 // The words of the packed table at the front of the lent lists.
 pub fn write_all(
     plan: Plan,
-    lookups: &[u32],
-    names: &[u8],
-    tuples: &[u32],
-    multiplicities: &[u32],
-    flags: &[u32],
-    elements: &[u32],
+    lookups: &LentLookups,
     lookups_out: &mut [u32],
     names_out: &mut [u8],
     tuples_out: &mut [u32],
@@ -130,52 +123,52 @@ pub fn write_all(
     flags_out: &mut [u32],
     elements_out: &mut [u32],
 )
-    requires { let s : PackLists = pack_lists (lent_lookups lookups.now names.now tuples.now multiplicities.now flags.now elements.now)
+    requires { let s : PackLists = pack_lists (as_lookups lookups.now)
         (lent_lookups lookups_out.old names_out.old tuples_out.old multiplicities_out.old flags_out.old elements_out.old) in OutputsHold plan s.own s.lent }
-    ensures { let s : PackLists = pack_lists (lent_lookups lookups.now names.now tuples.now multiplicities.now flags.now elements.now)
+    ensures { let s : PackLists = pack_lists (as_lookups lookups.now)
         (lent_lookups lookups_out.old names_out.old tuples_out.old multiplicities_out.old flags_out.old elements_out.old) in lent_lookups lookups_out.new names_out.new tuples_out.new multiplicities_out.new flags_out.new elements_out.new
         ≡ all_written (plan_words plan s.own) s.lent }
 {
-    let n = lookups.len() / LOOKUP_WORDS;
+    let n = lookups.records.len() / LOOKUP_WORDS;
     copy(&plan.words[0..LOOKUP_WORDS * plan.columns], lookups_out);
     write_list(
         LookupList::Names,
-        lookups,
+        lookups.records,
         &[],
         &plan.heads[0..plan.columns],
-        names,
+        lookups.names,
         names_out,
     );
     write_list(
         LookupList::Tuples,
-        lookups,
-        tuples,
+        lookups.records,
+        lookups.tuples,
         &plan.order[0..n],
-        tuples,
+        lookups.tuples,
         tuples_out,
     );
     write_list(
         LookupList::Multiplicities,
-        lookups,
-        tuples,
+        lookups.records,
+        lookups.tuples,
         &plan.order[0..n],
-        multiplicities,
+        lookups.multiplicities,
         multiplicities_out,
     );
     write_list(
         LookupList::Flags,
-        lookups,
-        tuples,
+        lookups.records,
+        lookups.tuples,
         &plan.order[0..n],
-        flags,
+        lookups.flags,
         flags_out,
     );
     write_list(
         LookupList::Elements,
-        lookups,
-        tuples,
+        lookups.records,
+        lookups.tuples,
         &plan.order[0..n],
-        elements,
+        lookups.elements,
         elements_out,
     );
 }

@@ -1,7 +1,7 @@
 // Packing of a table: the entry point.
 ghost use Rattle.std.specs.Prelude.{◌≡◌, true, ◌≤◌};
 ghost use Rattle.expression.specs.Limits.{Sane};
-ghost use Rattle.lookup.specs.Lookups.{lent_lookups};
+ghost use Rattle.lookup.specs.Lookups.{as_lookups, lent_lookups};
 ghost use Rattle.lookup_degree.specs.Formed.{Formed};
 ghost use Rattle.packing.specs.PackSameBus.{holds, packing, packing_at, in_numbers};
 ghost use Rattle.packing_columns.specs.inner.Layout.{formed_outcome, ListsExact, PackSource, pack_source};
@@ -11,6 +11,7 @@ use expression::refusal::Refusal;
 use expression::sizes::Limits;
 use field::modulus::prime_of;
 use lookup::refusals::{Columns, form_refusal};
+use lookup::table::LentLookups;
 use packing::answer::Counts;
 use packing_columns::layout::{counts_hold, counts_of, plan_of, plan_refusal, write_all};
 
@@ -19,12 +20,7 @@ fn pack_formed(
     limits: Limits,
     limit: u64,
     nodes: &[u32],
-    lookups: &[u32],
-    names: &[u8],
-    tuples: &[u32],
-    multiplicities: &[u32],
-    flags: &[u32],
-    elements: &[u32],
+    lookups: &LentLookups,
     lookups_out: &mut [u32],
     names_out: &mut [u8],
     tuples_out: &mut [u32],
@@ -32,34 +28,19 @@ fn pack_formed(
     flags_out: &mut [u32],
     elements_out: &mut [u32],
 ) -> Result<Counts, Refusal>
-    requires { let s : PackSource = pack_source nodes.now (lent_lookups lookups.now names.now tuples.now multiplicities.now flags.now elements.now)
+    requires { let s : PackSource = pack_source nodes.now (as_lookups lookups.now)
         (lent_lookups lookups_out.old names_out.old tuples_out.old multiplicities_out.old flags_out.old elements_out.old) in Formed limits s.nodes s.own × ListsExact s.own.lookups s.own.names s.own.tuples × (holds s.lent s.own ≡ true) }
-    ensures { let s : PackSource = pack_source nodes.now (lent_lookups lookups.now names.now tuples.now multiplicities.now flags.now elements.now)
+    ensures { let s : PackSource = pack_source nodes.now (as_lookups lookups.now)
         (lent_lookups lookups_out.old names_out.old tuples_out.old multiplicities_out.old flags_out.old elements_out.old) in (result ≡ (formed_outcome limit s.nodes s.own s.lent).answer)
         × (lent_lookups lookups_out.new names_out.new tuples_out.new multiplicities_out.new flags_out.new elements_out.new
         ≡ (formed_outcome limit s.nodes s.own s.lent).lists) }
 {
-    let plan = plan_of(
-        limits,
-        limit,
-        nodes,
-        lookups,
-        names,
-        tuples,
-        multiplicities,
-        flags,
-        elements,
-    );
-    let counts = counts_of(plan, lookups, tuples);
-    plan_refusal(plan.over, lookups, names, tuples)?;
+    let plan = plan_of(limits, limit, nodes, lookups);
+    let counts = counts_of(plan, lookups.records, lookups.tuples);
+    plan_refusal(plan.over, lookups.records, lookups.names, lookups.tuples)?;
     write_all(
         plan,
         lookups,
-        names,
-        tuples,
-        multiplicities,
-        flags,
-        elements,
         lookups_out,
         names_out,
         tuples_out,
@@ -77,12 +58,7 @@ pub fn pack_within(
     limit: u64,
     columns: Columns,
     nodes: &[u32],
-    lookups: &[u32],
-    names: &[u8],
-    tuples: &[u32],
-    multiplicities: &[u32],
-    flags: &[u32],
-    elements: &[u32],
+    lookups: &LentLookups,
     lookups_out: &mut [u32],
     names_out: &mut [u8],
     tuples_out: &mut [u32],
@@ -91,18 +67,18 @@ pub fn pack_within(
     elements_out: &mut [u32],
 ) -> Result<Counts, Refusal>
     requires { Sane limits }
-    ensures { let s : PackSource = pack_source nodes.now (lent_lookups lookups.now names.now tuples.now multiplicities.now flags.now elements.now)
+    ensures { let s : PackSource = pack_source nodes.now (as_lookups lookups.now)
         (lent_lookups lookups_out.old names_out.old tuples_out.old multiplicities_out.old flags_out.old elements_out.old) in (result ≡ (packing limits p limit columns s.nodes s.own s.lent).answer)
         × (lent_lookups lookups_out.new names_out.new tuples_out.new multiplicities_out.new flags_out.new elements_out.new
         ≡ (packing limits p limit columns s.nodes s.own s.lent).lists) }
 {
     let own = Counts {
-        lookups: lookups.len(),
-        names: names.len(),
-        tuples: tuples.len(),
-        multiplicities: multiplicities.len(),
-        flags: flags.len(),
-        elements: elements.len(),
+        lookups: lookups.records.len(),
+        names: lookups.names.len(),
+        tuples: lookups.tuples.len(),
+        multiplicities: lookups.multiplicities.len(),
+        flags: lookups.flags.len(),
+        elements: lookups.elements.len(),
     };
     let lent = Counts {
         lookups: lookups_out.len(),
@@ -115,28 +91,12 @@ pub fn pack_within(
     if !counts_hold(own, lent) {
         return Err(Refusal::SizeAtOdds);
     }
-    form_refusal(
-        limits,
-        p,
-        columns,
-        nodes,
-        lookups,
-        names,
-        tuples,
-        multiplicities,
-        flags,
-        elements,
-    )?;
+    form_refusal(limits, p, columns, nodes, lookups)?;
     pack_formed(
         limits,
         limit,
         nodes,
         lookups,
-        names,
-        tuples,
-        multiplicities,
-        flags,
-        elements,
         lookups_out,
         names_out,
         tuples_out,
@@ -152,12 +112,7 @@ pub fn pack_same_bus(
     limit: u64,
     columns: Columns,
     nodes: &[u32],
-    lookups: &[u32],
-    names: &[u8],
-    tuples: &[u32],
-    multiplicities: &[u32],
-    flags: &[u32],
-    elements: &[u32],
+    lookups: &LentLookups,
     lookups_out: &mut [u32],
     names_out: &mut [u8],
     tuples_out: &mut [u32],
@@ -170,9 +125,7 @@ pub fn pack_same_bus(
       lists = lent_lookups lookups_out.new names_out.new tuples_out.new
           multiplicities_out.new flags_out.new elements_out.new;
     })
-        ≡ in_numbers (packing_at choices limit columns nodes.now
-        (lent_lookups lookups.now names.now tuples.now multiplicities.now flags.now
-        elements.now)
+        ≡ in_numbers (packing_at choices limit columns nodes.now (as_lookups lookups.now)
         (lent_lookups lookups_out.old names_out.old tuples_out.old multiplicities_out.old
         flags_out.old elements_out.old)) }
 {
@@ -186,11 +139,6 @@ pub fn pack_same_bus(
         columns,
         nodes,
         lookups,
-        names,
-        tuples,
-        multiplicities,
-        flags,
-        elements,
         lookups_out,
         names_out,
         tuples_out,

@@ -5,9 +5,11 @@
 use expression::choices::{CABINET_NUMBER, Choices, RULE_1};
 use expression::numbers;
 use expression::sizes::Shape;
+use expression::table::LentTraces;
 use field::extension::Ext;
 use field::modulus::BABYBEAR_NUMBER;
 use logup_generation::generate_permutation;
+use lookup::table::{LentLookups, LentTable};
 
 // Words, separated by commas.
 fn print_words(words: &[u32]) {
@@ -65,17 +67,23 @@ fn main() {
     let answer = generate_permutation::generate(
         choices,
         RULE_1,
-        shape,
-        &main,
-        &preprocessed,
-        &public_values,
-        &nodes,
-        &lookups,
-        &names,
-        &tuples,
-        &multiplicities,
-        &flags,
-        &elements,
+        &LentTable {
+            traces: LentTraces {
+                shape,
+                main: &main,
+                preprocessed: &preprocessed,
+                public_values: &public_values,
+            },
+            nodes: &nodes,
+            lookups: LentLookups {
+                records: &lookups,
+                names: &names,
+                tuples: &tuples,
+                multiplicities: &multiplicities,
+                flags: &flags,
+                elements: &elements,
+            },
+        },
         &challenges,
         &mut trace,
     );

@@ -7,6 +7,7 @@ use Rattle.expression.specs.Words.{word}
 use Rattle.expression.specs.Window.{Traces}
 use Rattle.expression.specs.Values.{row_values}
 use Rattle.lookup.specs.Lookups.{exclusive, tuple_count, tuple_start, multiplicity_start, flag_start, element_start}
+use Rattle.lookup.specs.declared.table.LentLookups.{LentLookups}
 use Rattle.logup.specs.Ledger.{Entry}
 use Rattle.balance.specs.declared.starts.LookupStarts.{LookupStarts}
 use Rattle.balance_slots.specs.Workspace.{tuple_words}
@@ -32,6 +33,10 @@ pub record PartLists : Type 0 where
 abbrev pub part_lists : List ℕ → List ℕ → List ℕ → List ℕ → PartLists
 part_lists tuples multiplicities flags elements =
     record { tuples = tuples; multiplicities = multiplicities; flags = flags; elements = elements }
+
+-- the lists of the parts, from what a caller lends
+abbrev pub as_parts : LentLookups → PartLists
+as_parts l = part_lists l.tuples.now l.multiplicities.now l.flags.now l.elements.now
 
 -- what a lookup's entries are read from: its table's traces and nodes, and the lists of the parts
 pub record Source : Type 0 where

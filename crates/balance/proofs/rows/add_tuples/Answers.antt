@@ -19,11 +19,12 @@ pub slice_bounds-add_tuple-end : goal.slice_bounds-add_tuple-end
 slice_bounds-add_tuple-end c =
     ends_in c.requires.3 c.loop-k-test.true c.loop-k.invariant.here refl
 
-pub offset_bounds-elements-at : goal.offset_bounds-elements-at
-offset_bounds-elements-at c =
+pub offset_bounds-lookups-at : goal.offset_bounds-lookups-at
+offset_bounds-lookups-at c =
     omega (
       arith,
       ends_in c.requires.3 c.loop-k-test.true c.loop-k.invariant.here refl,
+      c.well_formed,
     )
 
 pub loop-k-preserved : goal.loop-k-preserved

@@ -123,41 +123,41 @@ pub slice_bounds-table_verdict-end-10 : goal.slice_bounds-table_verdict-end-10
 slice_bounds-table_verdict-end-10 c =
     (lies c.requires.1 c.requires.2 c.table_ranges-ranges.ensures).elements_end
 
-pub offset_bounds-main-ranges : goal.offset_bounds-main-ranges
-offset_bounds-main-ranges c =
-    let r = lies c.requires.1 c.requires.2 c.table_ranges-ranges.ensures in omega (arith, r.main, r.main_end)
+pub offset_bounds-tables-ranges : goal.offset_bounds-tables-ranges
+offset_bounds-tables-ranges c =
+    let r = lies c.requires.1 c.requires.2 c.table_ranges-ranges.ensures in omega (arith, r.main, r.main_end, c.well_formed)
 
-pub offset_bounds-preprocessed-ranges : goal.offset_bounds-preprocessed-ranges
-offset_bounds-preprocessed-ranges c =
-    let r = lies c.requires.1 c.requires.2 c.table_ranges-ranges.ensures in omega (arith, r.preprocessed, r.preprocessed_end)
+pub offset_bounds-tables-ranges-2 : goal.offset_bounds-tables-ranges-2
+offset_bounds-tables-ranges-2 c =
+    let r = lies c.requires.1 c.requires.2 c.table_ranges-ranges.ensures in omega (arith, r.preprocessed, r.preprocessed_end, c.well_formed)
 
-pub offset_bounds-public_values-ranges : goal.offset_bounds-public_values-ranges
-offset_bounds-public_values-ranges c =
-    let r = lies c.requires.1 c.requires.2 c.table_ranges-ranges.ensures in omega (arith, r.public_values, r.public_values_end)
+pub offset_bounds-tables-ranges-3 : goal.offset_bounds-tables-ranges-3
+offset_bounds-tables-ranges-3 c =
+    let r = lies c.requires.1 c.requires.2 c.table_ranges-ranges.ensures in omega (arith, r.public_values, r.public_values_end, c.well_formed)
 
-pub offset_bounds-nodes-ranges : goal.offset_bounds-nodes-ranges
-offset_bounds-nodes-ranges c =
-    let r = lies c.requires.1 c.requires.2 c.table_ranges-ranges.ensures in omega (arith, r.nodes, r.nodes_end)
+pub offset_bounds-tables-ranges-4 : goal.offset_bounds-tables-ranges-4
+offset_bounds-tables-ranges-4 c =
+    let r = lies c.requires.1 c.requires.2 c.table_ranges-ranges.ensures in omega (arith, r.nodes, r.nodes_end, c.well_formed)
 
-pub offset_bounds-lookups-ranges : goal.offset_bounds-lookups-ranges
-offset_bounds-lookups-ranges c =
-    let r = lies c.requires.1 c.requires.2 c.table_ranges-ranges.ensures in omega (arith, r.lookups, r.lookups_end)
+pub offset_bounds-tables-ranges-5 : goal.offset_bounds-tables-ranges-5
+offset_bounds-tables-ranges-5 c =
+    let r = lies c.requires.1 c.requires.2 c.table_ranges-ranges.ensures in omega (arith, r.lookups, r.lookups_end, c.well_formed)
 
-pub offset_bounds-tuples-ranges : goal.offset_bounds-tuples-ranges
-offset_bounds-tuples-ranges c =
-    let r = lies c.requires.1 c.requires.2 c.table_ranges-ranges.ensures in omega (arith, r.tuples, r.tuples_end)
+pub offset_bounds-tables-ranges-6 : goal.offset_bounds-tables-ranges-6
+offset_bounds-tables-ranges-6 c =
+    let r = lies c.requires.1 c.requires.2 c.table_ranges-ranges.ensures in omega (arith, r.tuples, r.tuples_end, c.well_formed)
 
-pub offset_bounds-multiplicities-ranges : goal.offset_bounds-multiplicities-ranges
-offset_bounds-multiplicities-ranges c =
-    let r = lies c.requires.1 c.requires.2 c.table_ranges-ranges.ensures in omega (arith, r.multiplicities, r.multiplicities_end)
+pub offset_bounds-tables-ranges-7 : goal.offset_bounds-tables-ranges-7
+offset_bounds-tables-ranges-7 c =
+    let r = lies c.requires.1 c.requires.2 c.table_ranges-ranges.ensures in omega (arith, r.multiplicities, r.multiplicities_end, c.well_formed)
 
-pub offset_bounds-flags-ranges : goal.offset_bounds-flags-ranges
-offset_bounds-flags-ranges c =
-    let r = lies c.requires.1 c.requires.2 c.table_ranges-ranges.ensures in omega (arith, r.flags, r.flags_end)
+pub offset_bounds-tables-ranges-8 : goal.offset_bounds-tables-ranges-8
+offset_bounds-tables-ranges-8 c =
+    let r = lies c.requires.1 c.requires.2 c.table_ranges-ranges.ensures in omega (arith, r.flags, r.flags_end, c.well_formed)
 
-pub offset_bounds-elements-ranges : goal.offset_bounds-elements-ranges
-offset_bounds-elements-ranges c =
-    let r = lies c.requires.1 c.requires.2 c.table_ranges-ranges.ensures in omega (arith, r.elements, r.elements_end)
+pub offset_bounds-tables-ranges-9 : goal.offset_bounds-tables-ranges-9
+offset_bounds-tables-ranges-9 c =
+    let r = lies c.requires.1 c.requires.2 c.table_ranges-ranges.ensures in omega (arith, r.elements, r.elements_end, c.well_formed)
 
 pub returns : goal.returns
 returns c =

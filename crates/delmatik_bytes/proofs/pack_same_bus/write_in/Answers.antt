@@ -1,7 +1,7 @@
 use Rattle.delmatik_bytes.specs.laws.Pack.{same-part, still, used-fits, front-short, five-written}
 use Rattle.packing_columns.proofs.LayoutLoops.{names-room, tuples-room, multiplicities-room, flags-room, elements-room}
 use Rattle.packing_columns.specs.inner.Layout.{plan_words}
-use Rattle.lookup.specs.Lookups.{lent_lookups}
+use Rattle.lookup.specs.Lookups.{as_lookups}
 use Rattle.lists.specs.laws.Filled.{put_mid_is}
 use Rattle.lists.specs.laws.Parts.{part_length}
 use borrow.Rule.Slice.PartMut.{put_mid}
@@ -75,7 +75,7 @@ pub returns : goal.returns
 returns c =
     let a = c.args in
     five-written a.room.now a.ends c.requires.1
-    (plan_words a.plan (lent_lookups a.lookups.now a.names.now a.tuples.now a.multiplicities.now a.flags.now a.elements.now)) a.names_out.now
+    (plan_words a.plan (as_lookups a.lookups.now)) a.names_out.now
     refl c.write_at.ensures c.write_at-2.ensures c.write_at-3.ensures c.write_at-4.ensures
     (front-short a.plan.words c.requires.0.lookups) c.requires.0.tuples c.requires.0.multiplicities c.requires.0.flags c.requires.0.elements
     c.copy.ensures refl refl refl refl c.write_list.ensures

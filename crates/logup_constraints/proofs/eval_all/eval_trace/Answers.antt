@@ -25,4 +25,4 @@ returns-in_default c =
 pub returns : goal.returns
 returns c =
     given_is c.args.rule _ _ _ _ _ _ _ _ _ (c.in_ok-entry_refusal.ensures.0 ∙ entry_is _ _ c.args.w _ _ _ _ _) (ap terminal_of c.in-Some.is)
-    (c.rows_verdict.ensures c.args.names.now)
+    (c.rows_verdict.ensures c.args.table.now.lookups.names.now)

@@ -22,7 +22,7 @@ pub returns : goal.returns
 returns c =
     rows_are c.args.rule _ _ _ _ _ _ (sym (accepted-answer c.in_ok-entry_refusal.was (c.entry_refusal.ensures.0 ∙ entry_is _ _ c.args.w _
     c.args.challenges.now c.args.trace.now))) (sym c.has_lookups.ensures ∙ c.if-not-has_lookups.false)
-    (c.generate_rows.ensures c.args.limits c.args.names.now)
+    (c.generate_rows.ensures c.args.limits c.args.table.now.lookups.names.now)
 
 pub returns-then-not-has_lookups : goal.returns-then-not-has_lookups
 returns-then-not-has_lookups c =

@@ -9,7 +9,7 @@ use Rattle.logup_terms.proofs.eval_row.eval_rows.Goals as goal
 
 pub loop-r-init : goal.loop-r-init
 loop-r-init c =
-    (rows_loop_begins (omega (arith, c.well_formed.1.1.1.1.1.1.1.1.1.1.1.1.1.1.1.0)) c.requires.2, refl)
+    (rows_loop_begins (omega (arith, c.well_formed)) c.requires.2, refl)
 
 pub eval_row-requires : goal.eval_row-requires
 eval_row-requires c = (

@@ -1,7 +1,7 @@
 use Rattle.std.proofs.Common.{Err, rules}
 use mathlib.Core.Path.{◌≡◌, sym, ◌∙◌}
 use Rattle.lookup.proofs.TestedSizes.{form_few_nodes}
-use Rattle.lookup.specs.Lookups.{lent_lookups}
+use Rattle.lookup.specs.Lookups.{as_lookups}
 use Rattle.lookup.specs.Refusals.{nodes_refusal, lists_refusal, form_refusal}
 use Rattle.lookup.proofs.refusals.form_refusal.Goals as goal
 
@@ -21,18 +21,16 @@ returns-then-not-constants_below c =
 
 pub nodes_refusal-requires : goal.nodes_refusal-requires
 nodes_refusal-requires c =
-    let args = c.args in
-    let own = lent_lookups args.lookups.now args.names.now args.tuples.now args.multiplicities.now args.flags.now args.elements.now in (
+    let args = c.args in (
       c.requires.degree,
-      form_few_nodes args.limits args.columns args.nodes.now own c.requires (sym c.form_sizes.ensures ∙
+      form_few_nodes args.limits args.columns args.nodes.now (as_lookups args.lookups.now) c.requires (sym c.form_sizes.ensures ∙
           c.if-not-form_sizes.false),
     )
 
 pub lists_refusal-requires : goal.lists_refusal-requires
 lists_refusal-requires c =
     let args = c.args in
-    let own = lent_lookups args.lookups.now args.names.now args.tuples.now args.multiplicities.now args.flags.now args.elements.now in
-    form_few_nodes args.limits args.columns args.nodes.now own c.requires (sym c.form_sizes.ensures ∙ c.if-not-form_sizes.false)
+    form_few_nodes args.limits args.columns args.nodes.now (as_lookups args.lookups.now) c.requires (sym c.form_sizes.ensures ∙ c.if-not-form_sizes.false)
 
 pub returns-in_err-nodes_refusal : goal.returns-in_err-nodes_refusal
 unfolding form_refusal nodes_refusal
@@ -58,4 +56,4 @@ returns c =
       c.if-not-constants_below.false,
       ← c.shape_of.ensures,
     )
-    (c.lists_refusal.ensures c.args.names.now c.args.tuples.now ∙ c.in_ok-nodes_refusal.ensures _)
+    (c.lists_refusal.ensures ∙ c.in_ok-nodes_refusal.ensures _)

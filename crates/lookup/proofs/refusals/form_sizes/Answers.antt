@@ -5,7 +5,7 @@ use Rattle.lookup.proofs.refusals.form_sizes.Goals as goal
 
 pub lookups_fit-requires : goal.lookups_fit-requires
 lookups_fit-requires c =
-    few c.args.lookups.now c.args.tuples.now c.columns_within.result c.nodes_within.result c.requires c.lookups_within.ensures c.if-columns_within-nodes_within.true
+    few c.args.lookups.now.records.now c.args.lookups.now.tuples.now c.columns_within.result c.nodes_within.result c.requires c.lookups_within.ensures c.if-columns_within-nodes_within.true
 
 pub returns-then-columns_within-nodes_within : goal.returns-then-columns_within-nodes_within
 unfolding form_sizes

@@ -1,8 +1,7 @@
 use Rattle.std.proofs.Common.{Err, rules}
 use mathlib.Core.Path.{◌≡◌, sym, ◌∙◌}
 use Rattle.lookup.specs.laws.Tested.{few_nodes}
-use Rattle.lookup.specs.Table.{lent_table}
-use Rattle.lookup.specs.Lookups.{lent_lookups}
+use Rattle.lookup.specs.Table.{as_table}
 use Rattle.lookup.specs.Tests.{known}
 use Rattle.lookup.specs.Refusals.{nodes_refusal, lists_refusal, table_refusal}
 use Rattle.lookup.proofs.refusals.table_refusal.Goals as goal
@@ -14,42 +13,30 @@ returns-then-not-sizes c = rw (← c.sizes.ensures, c.if-not-sizes.true)
 pub returns-then-not-words_below : goal.returns-then-not-words_below
 unfolding table_refusal
 returns-then-not-words_below c =
-    let args = c.args in
-    let own = lent_lookups args.lookups.now args.names.now args.tuples.now args.multiplicities.now args.flags.now args.elements.now in
     rw (
       ← c.sizes.ensures,
       c.if-not-sizes.false,
-      ← (c.words_below.ensures args.shape own),
+      ← c.words_below.ensures,
       c.if-not-words_below.true,
     )
 
 pub nodes_refusal-requires : goal.nodes_refusal-requires
 nodes_refusal-requires c =
-    let args = c.args in
-    let own = lent_lookups args.lookups.now args.names.now args.tuples.now args.multiplicities.now args.flags.now args.elements.now in (
-      c.requires.degree,
-      few_nodes args.limits (lent_table args.shape args.main.now args.preprocessed.now args.public_values.now
-          args.nodes.now own) c.requires (sym c.sizes.ensures ∙ c.if-not-sizes.false),
-    )
+    (c.requires.degree, few_nodes c.args.limits (as_table c.args.table.now) c.requires (sym c.sizes.ensures ∙ c.if-not-sizes.false))
 
 pub lists_refusal-requires : goal.lists_refusal-requires
 lists_refusal-requires c =
-    let args = c.args in
-    let own = lent_lookups args.lookups.now args.names.now args.tuples.now args.multiplicities.now args.flags.now args.elements.now in
-    few_nodes args.limits (lent_table args.shape args.main.now args.preprocessed.now args.public_values.now args.nodes.now own)
-    c.requires (sym c.sizes.ensures ∙ c.if-not-sizes.false)
+    few_nodes c.args.limits (as_table c.args.table.now) c.requires (sym c.sizes.ensures ∙ c.if-not-sizes.false)
 
 pub returns-in_err-nodes_refusal : goal.returns-in_err-nodes_refusal
 unfolding table_refusal nodes_refusal known
 returns-in_err-nodes_refusal c =
-    let args = c.args in
-    let own = lent_lookups args.lookups.now args.names.now args.tuples.now args.multiplicities.now args.flags.now args.elements.now in
     let e : c.from_residual.result ≡ Err c.in_err-nodes_refusal.field-0.0 = search rules in
     rw (
       e,
       ← c.sizes.ensures,
       c.if-not-sizes.false,
-      ← (c.words_below.ensures args.shape own),
+      ← c.words_below.ensures,
       c.if-not-words_below.false,
     )
     (c.in_err-nodes_refusal.ensures _)
@@ -57,12 +44,10 @@ returns-in_err-nodes_refusal c =
 pub returns : goal.returns
 unfolding table_refusal nodes_refusal lists_refusal known
 returns c =
-    let args = c.args in
-    let own = lent_lookups args.lookups.now args.names.now args.tuples.now args.multiplicities.now args.flags.now args.elements.now in
     rw (
       ← c.sizes.ensures,
       c.if-not-sizes.false,
-      ← (c.words_below.ensures args.shape own),
+      ← c.words_below.ensures,
       c.if-not-words_below.false,
     )
-    (c.lists_refusal.ensures args.names.now args.tuples.now ∙ c.in_ok-nodes_refusal.ensures _)
+    (c.lists_refusal.ensures ∙ c.in_ok-nodes_refusal.ensures _)

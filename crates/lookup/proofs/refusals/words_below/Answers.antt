@@ -3,4 +3,4 @@ use Rattle.lookup.proofs.refusals.words_below.Goals as goal
 
 pub returns : goal.returns
 unfolding words_below
-returns c s l = rw (c.traces_below.ensures s, c.constants_below.ensures)
+returns c = rw (c.traces_below.ensures, c.constants_below.ensures)

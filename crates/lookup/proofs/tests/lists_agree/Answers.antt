@@ -3,5 +3,4 @@ use Rattle.lookup.proofs.tests.lists_agree.Goals as goal
 
 pub returns : goal.returns
 unfolding lists_agree nodes_present
-returns c names tuples =
-    rw (c.all_agree.ensures, c.nodes_present.ensures c.args.lookups.now names tuples)
+returns c = rw (c.all_agree.ensures, c.nodes_present.ensures)

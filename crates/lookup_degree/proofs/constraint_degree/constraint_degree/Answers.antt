@@ -1,6 +1,6 @@
 use Rattle.lookup_degree.proofs.Calls.{choice_unknown, choices_known}
 use Rattle.lookup_degree.specs.ConstraintDegree.{in_numbers}
-use Rattle.lookup.specs.Lookups.{lent_lookups}
+use Rattle.lookup.specs.Lookups.{as_lookups}
 use Rattle.expression.specs.laws.Tested.{limits_sane}
 use mathlib.Core.Path.{ap}
 use Rattle.lookup_degree.proofs.constraint_degree.constraint_degree.Goals as goal
@@ -8,8 +8,7 @@ use Rattle.lookup_degree.proofs.constraint_degree.constraint_degree.Goals as goa
 pub returns-then-not-known : goal.returns-then-not-known
 returns-then-not-known c =
     let args = c.args in
-    let own = lent_lookups args.lookups.now args.names.now args.tuples.now args.multiplicities.now args.flags.now args.elements.now in
-    ap in_numbers (choice_unknown args.choices args.columns args.nodes.now own args.i args.t c.known.ensures c.if-not-known.true)
+    ap in_numbers (choice_unknown args.choices args.columns args.nodes.now (as_lookups args.lookups.now) args.i args.t c.known.ensures c.if-not-known.true)
 
 pub degree_within-requires : goal.degree_within-requires
 degree_within-requires c = rw c.limits_of.ensures (limits_sane _)
@@ -17,5 +16,4 @@ degree_within-requires c = rw c.limits_of.ensures (limits_sane _)
 pub returns : goal.returns
 returns c =
     let args = c.args in
-    let own = lent_lookups args.lookups.now args.names.now args.tuples.now args.multiplicities.now args.flags.now args.elements.now in
-    ap in_numbers (choices_known args.choices args.columns args.nodes.now own args.i args.t c.known.ensures c.if-not-known.false c.limits_of.ensures c.prime_of.ensures c.degree_within.ensures)
+    ap in_numbers (choices_known args.choices args.columns args.nodes.now (as_lookups args.lookups.now) args.i args.t c.known.ensures c.if-not-known.false c.limits_of.ensures c.prime_of.ensures c.degree_within.ensures)

@@ -2,7 +2,6 @@ use Rattle.lists.specs.laws.Turns.{Summing}
 use Rattle.packing_columns.specs.inner.LookupLists.{list_length}
 use Rattle.expression.specs.Words.{word}
 use lib.ListN.{length}
-use Prim.Native.Nat.{◌-◌}
 use Rattle.packing_columns.proofs.lookup_lists.list_total.Given as goal
 
 abbrev pub invariant-loop-t : goal.invariant-loop-t
