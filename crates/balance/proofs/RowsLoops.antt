@@ -1,6 +1,7 @@
 -- The turns of one lookup's loops, over plain lists and numbers.
 use Rattle.std.specs.Prelude as Std
 use Rattle.std.specs.Prelude.{Some, None}
+use Rattle.std.proofs.Common.{subst}
 use mathlib.Core.Path.{◌≡◌, refl, sym, ap, ap₂, ◌∙◌}
 use mathlib.Core.Bool.{Bool, true, false, cond}
 use mathlib.Core.List.{List, [], ◌∷◌, ◌++◌, map}
@@ -25,14 +26,14 @@ use Rattle.expression.specs.Values.{row_values}
 use Rattle.lookup.specs.Lookups.{exclusive, tuple_count, tuple_start, multiplicity_start, flag_start, element_start}
 use Rattle.lookup.specs.laws.Tested.{element-next, element_le}
 use Rattle.logup.specs.Ledger.{Entry}
-use Rattle.balance_slots.specs.inner.Work.{Work, work, step}
+use Rattle.balance_slots.specs.inner.Work.{Work, in_use, work, step}
 use Rattle.balance_slots.proofs.laws.Room.{fold-full, fold_snoc, fold_more}
 use Rattle.balance_slots.specs.declared.add.Linked.{Linked}
 use Rattle.balance_slots.specs.declared.hash.Seed.{Seed}
 use Rattle.balance_slots.specs.inner.Chain.{SlotsLinked, plain, plain_work, ChainsLinked}
 use Rattle.balance_slots.proofs.laws.Plain.{plain-length, plain_none}
 use Rattle.balance.specs.declared.starts.LookupStarts.{LookupStarts}
-use Rattle.balance.specs.inner.LookupStarts.{PartLists, Source, lookup_starts_at, StartsWithin, flagged, count_from, nodes_from, entry_from, entries_from, rows_entries}
+use Rattle.balance.specs.inner.LookupStarts.{PartLists, Source, lookup_starts_at, StartsWithin, count_from, nodes_from, entry_from, entries_from, rows_entries}
 use Rattle.balance_slots.specs.Workspace.{slot_words}
 
 -- the words of a tuple, from the front
@@ -70,15 +71,15 @@ tuple-front {t} vals nodes e =
     ap₂ (λ (n : ℕ) (l : List ℕ). take n l) z e ∙ take_at (map (word vals) nodes) (replicate (8 - length nodes) 0) (length nodes) (length-map nodes (word vals))
 
 -- a count
-pub count_flagged : {m f r i j s : ℕ} (p : ℕ) (starts : LookupStarts) (mults flags vals : List ℕ) (k : ℕ) → starts.flags ≡ Some s → m ≡ word vals i → i ≡ word mults (starts.multiplicities + k)
-    → f ≡ word vals j → j ≡ word flags (s + k) → r ≡ mul_m p m f → r ≡ count_from p starts mults flags vals k
+pub count-exclusive : {m f r i j : ℕ} (p : ℕ) (starts : LookupStarts) (mults flags vals : List ℕ) (k : ℕ) → starts.exclusive ≡ true → m ≡ word vals i → i ≡ word mults (starts.multiplicities + k)
+    → f ≡ word vals j → j ≡ word flags (starts.flags + k) → r ≡ mul_m p m f → r ≡ count_from p starts mults flags vals k
 unfolding count_from
-count_flagged p starts mults flags vals k x em ei ef ej er =
-    er ∙ ap₂ (mul_m p) (em ∙ ap (word vals) ei) (ef ∙ ap (word vals) ej) ∙ sym (ap (λ (b : Std.Option ℕ). flagged p b flags vals k (word vals (word mults (starts.multiplicities + k)))) x)
+count-exclusive p starts mults flags vals k x em ei ef ej er =
+    er ∙ ap₂ (mul_m p) (em ∙ ap (word vals) ei) (ef ∙ ap (word vals) ej) ∙ sym (ap (λ (b : Bool). cond b (mul_m p (word vals (word mults (starts.multiplicities + k))) (word vals (word flags (starts.flags + k)))) (word vals (word mults (starts.multiplicities + k)))) x)
 
-pub count_plain : {m i : ℕ} (p : ℕ) (starts : LookupStarts) (mults flags vals : List ℕ) (k : ℕ) → starts.flags ≡ None → m ≡ word vals i → i ≡ word mults (starts.multiplicities + k) → m ≡ count_from p starts mults flags vals k
+pub count-additive : {m i : ℕ} (p : ℕ) (starts : LookupStarts) (mults flags vals : List ℕ) (k : ℕ) → starts.exclusive ≡ false → m ≡ word vals i → i ≡ word mults (starts.multiplicities + k) → m ≡ count_from p starts mults flags vals k
 unfolding count_from
-count_plain p starts mults flags vals k x em ei = em ∙ ap (word vals) ei ∙ sym (ap (λ (b : Std.Option ℕ). flagged p b flags vals k (word vals (word mults (starts.multiplicities + k)))) x)
+count-additive p starts mults flags vals k x em ei = em ∙ ap (word vals) ei ∙ sym (ap (λ (b : Bool). cond b (mul_m p (word vals (word mults (starts.multiplicities + k))) (word vals (word flags (starts.flags + k)))) (word vals (word mults (starts.multiplicities + k)))) x)
 
 -- after a slot was missing, what is left adds nothing
 stopped : (p : ℕ) (w v : Work) (f : ℕ → List Entry) (k n : ℕ) → k ≤ n → v ≡ fold (step p) w (joined f 0 k) → v.full ≡ true → v ≡ fold (step p) w (joined f 0 n)
@@ -218,18 +219,20 @@ pub unlinked_none : {seed : Seed} {heads hs d workspace vs : List ℕ} {l : ℕ}
 unlinked_none {vs = vs} p used es s (q, r) z =
     ap (λ (x : List ℕ). work x None) (sym (plain_none vs)) ∙ ap (plain_work vs) (sym z) ∙ q ∙ ap (λ (x : List ℕ). fold (step p) (work x (Some used)) es) s.same
 
+-- after a slot was missing, rows add nothing
+pub rows-full : {u : Std.Option ℕ} (p : ℕ) (workspace : List ℕ) (es : List Entry) → u ≡ None → work workspace None ≡ fold (step p) (work workspace u) es
+rows-full p workspace es e = sym (fold-full p es (work workspace None) refl) ∙ ap (λ (v : Std.Option ℕ). fold (step p) (work workspace v) es) (sym e)
+
+-- how many slots are in use, where none was missing
+pub used_of : {u : Std.Option ℕ} {n room : ℕ} → u ≡ Some n → slot_words * in_use u ≤ room → slot_words * n ≤ room
+used_of {room = room} e h = subst (λ (v : Std.Option ℕ). slot_words * in_use v ≤ room) e h
+
 -- the starts of a lookup
-pub with_flags : {x : Bool} {f : ℕ} {flags : Std.Option ℕ} (lookups : List ℕ) (i : ℕ) → x ≡ exclusive lookups i → x ≡ true → flags ≡ Some f → f ≡ flag_start lookups i → flags ≡ cond (exclusive lookups i) (Some (flag_start lookups i)) None
-with_flags lookups i ex t e ef = rw (sym ex ∙ t) (e ∙ ap (λ (y : ℕ). Some y) ef)
-
-pub without_flags : {x : Bool} {flags : Std.Option ℕ} (lookups : List ℕ) (i : ℕ) → x ≡ exclusive lookups i → x ≡ false → flags ≡ None → flags ≡ cond (exclusive lookups i) (Some (flag_start lookups i)) None
-without_flags lookups i ex t e = rw (sym ex ∙ t) e
-
-pub lookup_starts_is : {n t m e c : ℕ} {flags : Std.Option ℕ} (lookups tuples : List ℕ) (i : ℕ) → flags ≡ cond (exclusive lookups i) (Some (flag_start lookups i)) None → t ≡ tuple_start lookups i → m ≡ multiplicity_start lookups i
-    → e ≡ element_start tuples t → c ≡ tuple_count lookups i → n ≡ c
-    → record { count = n; tuples = t; multiplicities = m; flags = flags; elements = e } ≡ lookup_starts_at lookups tuples i
+pub lookup_starts_is : {x : Bool} {n t m f e c : ℕ} (lookups tuples : List ℕ) (i : ℕ) → t ≡ tuple_start lookups i → m ≡ multiplicity_start lookups i → f ≡ flag_start lookups i
+    → e ≡ element_start tuples t → x ≡ exclusive lookups i → c ≡ tuple_count lookups i → n ≡ c
+    → record { exclusive = x; count = n; tuples = t; multiplicities = m; flags = f; elements = e } ≡ lookup_starts_at lookups tuples i
 unfolding lookup_starts_at
-lookup_starts_is {n} {t} {m} {e} {c} {flags} lookups tuples i eg et em ee ec en = rw (eg, en ∙ ec, ee, et, em)
+lookup_starts_is {x} {n} {t} {m} {f} {e} {c} lookups tuples i et em ef ee ex ec en = rw (ex, en ∙ ec, ee, et, em, ef)
 
 -- one tuple is added
 pub tuple-entered : {seed : Seed} {t heads workspace : List ℕ} {u : Std.Option Linked} (p : ℕ) (v : Work) (count : ℕ) (vals nodes : List ℕ) → t ≡ map (word vals) nodes ++ replicate (8 - length nodes) 0

@@ -1,8 +1,8 @@
 // What one lookup of the tables adds to the slots, on all rows of its table.
-ghost use Rattle.std.specs.Prelude.{◌≡◌, Some, ◌*◌, ◌<◌, ◌≤◌, length};
+ghost use Rattle.std.specs.Prelude.{◌≡◌, ◌*◌, ◌<◌, ◌≤◌, length};
 ghost use Rattle.lists.specs.Fold.{fold};
 ghost use Rattle.lookup.specs.Lookups.{lookup_count};
-ghost use Rattle.balance_slots.specs.inner.Work.{work, step};
+ghost use Rattle.balance_slots.specs.inner.Work.{in_use, work, step};
 ghost use Rattle.balance.specs.Entries.{member_entries};
 ghost use Rattle.balance.specs.Members.{member_at};
 ghost use Rattle.balance.specs.inner.Requires.{TablesTested};
@@ -20,7 +20,7 @@ use expression::node::NODE_WORDS;
 use expression::table::LentTraces;
 use lookup::sizes::{part_end, part_start};
 
-// Lookup m, with its table's parts of the traces and nodes, and so many slots in use before; how many after, or none if one was missing.
+// Lookup m, with its table's parts of the traces and nodes, and so many slots in use before, and none if one was missing; so many after.
 // The bytes of the names are none of its concern.
 pub fn accumulate_lookup(
     p: u32,
@@ -28,10 +28,10 @@ pub fn accumulate_lookup(
     m: usize,
     seed: Seed,
     workspace: &mut [u32],
-    used: usize,
+    u: Option<usize>,
 ) -> Option<usize>
-    requires { let l : TableLists = as_tables tables.now in TablesTested p l × (m < lookup_count l.lookups.lookups) × (slot_words * used ≤ length workspace.old) }
-    ensures { work workspace.new result ≡ fold (step p) (work workspace.old (Some used)) (member_entries p (member_at (as_tables tables.now) m)) }
+    requires { let l : TableLists = as_tables tables.now in TablesTested p l × (m < lookup_count l.lookups.lookups) × (slot_words * in_use u ≤ length workspace.old) }
+    ensures { work workspace.new result ≡ fold (step p) (work workspace.old u) (member_entries p (member_at (as_tables tables.now) m)) }
 {
     // The bounds have names: within the slices' brackets the calls are no plainer.
     let t = table_of(tables.sizes, m);
@@ -57,6 +57,6 @@ pub fn accumulate_lookup(
         &tables.lookups,
         seed,
         workspace,
-        used,
+        u,
     )
 }

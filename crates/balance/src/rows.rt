@@ -1,12 +1,12 @@
 // What a lookup adds to the slots on one row, and on all rows.
-ghost use Rattle.std.specs.Prelude.{◌≡◌, Some, ℕ, ◌++◌, map, ◌+◌, ◌*◌, ◌-◌, ◌<◌, ◌≤◌, length, replicate};
+ghost use Rattle.std.specs.Prelude.{◌≡◌, Some, true, ◌++◌, map, ◌+◌, ◌*◌, ◌-◌, ◌<◌, ◌≤◌, length, replicate};
 ghost use Rattle.lists.specs.Fold.{fold};
 ghost use Rattle.field.specs.inner.Requires.{KnownPrime};
 ghost use Rattle.expression.specs.Words.{word};
 ghost use Rattle.expression.specs.Window.{as_traces};
 ghost use Rattle.expression.specs.Values.{row_values};
 ghost use Rattle.expression.specs.Requires.{Below, Evaluable};
-ghost use Rattle.balance_slots.specs.inner.Work.{work, step};
+ghost use Rattle.balance_slots.specs.inner.Work.{in_use, work, step};
 ghost use Rattle.balance_slots.specs.inner.Chain.{plain_work, ChainsLinked};
 ghost use Rattle.balance.specs.inner.LookupStarts.{as_parts, Source, source, StartsWithin, count_from, entries_from, rows_entries};
 ghost use Rattle.balance_slots.specs.Workspace.{slot_words, tuple_words};
@@ -49,26 +49,31 @@ fn add_tuple(
     ensures { (plain_work workspace.new result ≡ step p (plain_work workspace.old (Some u)) (record { tuple = map (word vals.now) nodes.now; count = count })) × ChainsLinked seed heads.new workspace.new result }
 {
     let t = tuple_values(vals, nodes);
-    add(p, seed, heads, workspace, u, &t[0..nodes.len()], count)
+    add(
+        p,
+        seed,
+        heads,
+        workspace,
+        Some(u),
+        &t[0..nodes.len()],
+        count,
+    )
 }
 
 // How often tuple k counts: multiplicity × flag.
 fn entry_count(p: u32, starts: LookupStarts, vals: &[u32], lookups: &LentLookups, k: usize) -> u32
-    requires { KnownPrime p × Below p vals.now × (starts.multiplicities + k < length lookups.now.multiplicities.now) × ((first : ℕ) → starts.flags ≡ Some first → first + k < length lookups.now.flags.now) }
+    requires { KnownPrime p × Below p vals.now × (starts.multiplicities + k < length lookups.now.multiplicities.now) × (starts.exclusive ≡ true → starts.flags + k < length lookups.now.flags.now) }
     ensures { result ≡ count_from p starts lookups.now.multiplicities.now lookups.now.flags.now vals.now k }
 {
     let multiplicity = word_at(
         vals,
         lookups.multiplicities[starts.multiplicities + k] as usize,
     );
-    match starts.flags {
-        Some(first) => word::mul(
-            p,
-            multiplicity,
-            word_at(vals, lookups.flags[first + k] as usize),
-        ),
-        None => multiplicity,
+    if starts.exclusive {
+        let flag = word_at(vals, lookups.flags[starts.flags + k] as usize);
+        return word::mul(p, multiplicity, flag);
     }
+    multiplicity
 }
 
 // The lookup on one row, from the values of the nodes there.
@@ -151,7 +156,7 @@ fn accumulate_linked(
     Some(v)
 }
 
-// The lookup on all rows, with so many slots in use before; how many after, or none if one was missing. The slots in use are linked for
+// The lookup on all rows, with so many slots in use before, and none if one was missing; so many after. The slots in use are linked for
 // the search, and unlinked at the end.
 pub fn accumulate_rows(
     p: u32,
@@ -161,11 +166,12 @@ pub fn accumulate_rows(
     lookups: &LentLookups,
     seed: Seed,
     workspace: &mut [u32],
-    used: usize,
+    u: Option<usize>,
 ) -> Option<usize>
-    requires { let s : Source = source (as_traces traces.now) nodes.now (as_parts lookups.now) in Evaluable p s.traces s.nodes × (s.traces.shape.height ≤ 1048576) × (slot_words * used ≤ length workspace.old) × StartsWithin starts s.parts }
-    ensures { let s : Source = source (as_traces traces.now) nodes.now (as_parts lookups.now) in work workspace.new result ≡ fold (step p) (work workspace.old (Some used)) (rows_entries p starts s s.traces.shape.height) }
+    requires { let s : Source = source (as_traces traces.now) nodes.now (as_parts lookups.now) in Evaluable p s.traces s.nodes × (s.traces.shape.height ≤ 1048576) × (slot_words * in_use u ≤ length workspace.old) × StartsWithin starts s.parts }
+    ensures { let s : Source = source (as_traces traces.now) nodes.now (as_parts lookups.now) in work workspace.new result ≡ fold (step p) (work workspace.old u) (rows_entries p starts s s.traces.shape.height) }
 {
+    let used = u?;
     let mut heads = [0u32; 32768];
     let linked = link_slots(seed, &mut heads, workspace, used);
     let v = accumulate_linked(

@@ -1,5 +1,5 @@
 -- The ways out of the entry point.
-use Rattle.std.specs.Prelude.{Err, Ok}
+use Rattle.std.specs.Prelude.{Result, Err, Ok}
 use mathlib.Core.Path.{◌≡◌, sym, ap, ap₂, ◌∙◌}
 use mathlib.Core.Bool.{Bool, true, false, not, cond}
 use mathlib.Core.Option.{Option, none, some}
@@ -21,13 +21,19 @@ use Rattle.expression.specs.Refusal.{Verdict}
 use Rattle.lookup.specs.Lookups.{lookup_count}
 use Rattle.balance.specs.Tables.{TableLists, table_count, table_at, tables_of, lists_fit}
 use Rattle.balance.specs.Refusals.{tables_refusal}
-use Rattle.balance.specs.Groups.{Member, members, groups}
-use Rattle.balance.specs.Balance.{visit, unvisited, balance, Outcome, outcome, check, check_at, in_numbers}
+use Rattle.balance.specs.Groups.{members, groups}
+use Rattle.balance.specs.Balance.{Visited, visit, unvisited, balance, Outcome, outcome, check, check_at, in_numbers}
 use Rattle.balance.proofs.laws.Whole.{fitted}
+use Rattle.balance_groups.specs.declared.check.GroupRefused.{GroupRefused}
+use Rattle.balance_groups.specs.inner.Visits.{visited_of}
 use Rattle.balance_groups.specs.inner.ByNumber.{groups_to}
 use Rattle.balance_groups.specs.laws.Groups.{groups_are}
 use Rattle.balance_groups.specs.inner.Lowest.{lowest, one_refusal}
 use Rattle.balance_groups.specs.laws.Lowest.{tables-lowest, tables_unfit}
+
+-- a visit's answer, once it is known
+pub visited : {r r' : Result ℕ GroupRefused} {x : Visited} (workspace : List ℕ) → r ≡ r' → visited_of workspace r ≡ x → visited_of workspace r' ≡ x
+visited workspace e h = sym (ap (visited_of workspace) e) ∙ h
 
 -- the entry point's ways out
 module _ (m : Limits) (p : ℕ) (l : TableLists) (workspace : List ℕ) where
@@ -52,12 +58,12 @@ module _ (m : Limits) (p : ℕ) (l : TableLists) (workspace : List ℕ) where
   pub nothing : {b : Bool} {v : Verdict} {u : Unit {0}} → b ≡ lists_fit m l → not b ≡ false → refusal v ≡ lowest (λ t. one_refusal m p (table_at l t)) (table_count l.sizes) → v ≡ Ok u → tables_refusal m p l ≡ none
   nothing {b} e t h ev = sym (found e t h) ∙ ap refusal ev
 
-  pub answered : {x : Outcome} → Sane m → KnownPrime p → tables_refusal m p l ≡ none
-      → x ≡ outcome none (fold (visit p (length workspace)) (unvisited (length workspace)) (groups_to l false (lookup_count l.lookups.lookups) ++ groups_to l true (lookup_count l.lookups.lookups))) workspace
-      → x ≡ check m p l workspace
+  pub answered : {x : Visited} → Sane m → KnownPrime p → tables_refusal m p l ≡ none
+      → x ≡ fold (visit p (length workspace)) (unvisited (length workspace)) (groups_to l false (lookup_count l.lookups.lookups) ++ groups_to l true (lookup_count l.lookups.lookups))
+      → record { refusal = x.refusal; workspace = x.workspace } ≡ check m p l workspace
   unfolding check balance
   answered {x} g o e h =
-      h ∙ ap (λ (gs : List (List Member)). outcome none (fold (visit p (length workspace)) (unvisited (length workspace)) gs) workspace) (sym (groups_are l (fitted m p l g o e)))
+      ap (λ (v : Visited). outcome none v workspace) (h ∙ ap (fold (visit p (length workspace)) (unvisited (length workspace))) (sym (groups_are l (fitted m p l g o e))))
       ∙ sym (ap (λ (r : Option Refusal). outcome r (fold (visit p (length workspace)) (unvisited (length workspace)) (groups (members (tables_of l)))) workspace) e)
 
 -- the entry point at its choices, and the answer in numbers

@@ -30,7 +30,10 @@ pub fn check_within(
         return Err(Refusal::SizeAtOdds);
     }
     tables_verdict(limits, p, tables)?;
-    check_groups(p, tables, seed, workspace)
+    match check_groups(p, tables, seed, workspace) {
+        Ok(_) => Ok(()),
+        Err(f) => Err(f.refusal),
+    }
 }
 
 // Several tables, one after the other in each list; `tables.sizes` has fourteen words for each of them: main width, height,

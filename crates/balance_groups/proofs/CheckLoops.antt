@@ -1,11 +1,10 @@
 -- The turns of the visit of all groups, over plain lists and numbers.
 use Rattle.std.specs.Prelude.{Result, Err, Ok}
 use Rattle.std.specs.Result.{IfOk}
-use Rattle.std.specs.Result.{result_and}
 use Rattle.std.proofs.Common.{subst, ⊎_elim, eq-or-lt_of_le}
 use mathlib.Core.Path.{◌≡◌, refl, sym, ap, ap₂, ◌∙◌}
 use mathlib.Core.Bool.{Bool, true, false, cond}
-use mathlib.Core.Option.{Option, none, some}
+use mathlib.Core.Option.{Option, some}
 use mathlib.Core.List.{List, [], ◌∷◌, ◌++◌}
 use Prim.Native.Nat.{ℕ, zero, suc, ◌+◌, ◌<◌, ◌≤◌, zero-le}
 use native.Mathlib.Numerals.{add-one}
@@ -21,23 +20,21 @@ use Rattle.balance_slots.specs.Slots.{slots}
 use Rattle.balance.specs.Tables.{TableLists}
 use Rattle.balance.specs.Groups.{Member}
 use Rattle.balance.specs.Entries.{entries}
-use Rattle.balance.specs.Balance.{Visited, visited, visit, unvisited, Outcome, outcome}
+use Rattle.balance.specs.Balance.{Visited, visited, visit, unvisited}
 use Rattle.balance.specs.inner.Requires.{TablesTested}
-use Rattle.balance_groups.specs.inner.Visits.{at_group, IsVisited, group_visited}
+use Rattle.balance_groups.specs.inner.Visits.{at_group, visited_of, group_visited}
+use Rattle.balance_groups.specs.declared.check.GroupRefused.{GroupRefused}
 use Rattle.balance_groups.specs.inner.ByNumber.{kept, starts_group, group_at, groups_to}
 
-abbrev with_refusal : Option Refusal → List ℕ → ℕ → Visited
+abbrev pub with_refusal : Option Refusal → List ℕ → ℕ → Visited
 with_refusal o workspace g = record { refusal = o; workspace = workspace; group = g }
 
 -- one group's verdict, carried on
-pub group_passes : {v : Verdict} {u : Unit {0}} {x : Visited} {workspace : List ℕ} {n : ℕ} → v ≡ Ok u → record { refusal = refusal v; workspace = workspace; group = n } ≡ x → IsVisited workspace (Ok n) x
-unfolding IsVisited
+pub group_passes : {v : Verdict} {u : Unit {0}} {x : Visited} {workspace : List ℕ} {n : ℕ} → v ≡ Ok u → record { refusal = refusal v; workspace = workspace; group = n } ≡ x → at_group workspace n ≡ x
 group_passes {v} {u} {x} {workspace} {n} e h = sym (ap (λ (v : Verdict). with_refusal (refusal v) workspace n) e) ∙ h
 
-pub group_stops : {v : Verdict} {f : Refusal} {r : Result ℕ Refusal} {x : Visited} {workspace : List ℕ} {n : ℕ} → v ≡ Err f → r ≡ Err f → record { refusal = refusal v; workspace = workspace; group = n } ≡ x → IsVisited workspace r x
-unfolding IsVisited
-group_stops {v} {f} {r} {x} {workspace} {n} e er h =
-    subst (λ (r : Result ℕ Refusal). IsVisited workspace r x) (sym er) (sym (ap refusal e) ∙ ap (λ (v : Visited). v.refusal) h, ap (λ (v : Visited). v.workspace) h)
+pub group_stops : {v : Verdict} {f : Refusal} {x : Visited} {workspace : List ℕ} {n : ℕ} → v ≡ Err f → record { refusal = refusal v; workspace = workspace; group = n } ≡ x → with_refusal (some f) workspace n ≡ x
+group_stops {v} {f} {x} {workspace} {n} e h = sym (ap (λ (v : Verdict). with_refusal (refusal v) workspace n) e) ∙ h
 
 -- after a refusal
 module _ (p room : ℕ) where
@@ -92,12 +89,12 @@ module _ {p : ℕ} {l : TableLists} {buses : Bool} where
       ∙ ap (λ (b : Bool). fold (visit p room) start (groups_to l buses m ++ cond b (group_at l m ∷ []) [])) (sym e)
 
   -- a turn that visits a group, and one that does not
-  pub kind_loop_one : {start : Visited} {room top m : ℕ} {workspace workspace₁ workspace' : List ℕ} {g n g' : ℕ} {r : Result ℕ Refusal} {b : Bool} → KindLoop p l buses start room top m workspace g → m < lookup_count l.lookups.lookups
-      → b ≡ starts_group l.lookups.lookups l.lookups.names buses m → b ≡ true → IsVisited workspace₁ r (group_visited p (length workspace) g (group_at l m)) → r ≡ Ok n
+  pub kind_loop_one : {start : Visited} {room top m : ℕ} {workspace workspace₁ workspace' : List ℕ} {g n g' : ℕ} {r : Result ℕ GroupRefused} {b : Bool} → KindLoop p l buses start room top m workspace g → m < lookup_count l.lookups.lookups
+      → b ≡ starts_group l.lookups.lookups l.lookups.names buses m → b ≡ true → visited_of workspace₁ r ≡ group_visited p (length workspace) g (group_at l m) → r ≡ Ok n
       → length workspace₁ ≡ length workspace → workspace' ≡ workspace₁ → g' ≡ n → KindLoop p l buses start room top (m + 1) workspace' g'
-  unfolding group_visited IsVisited
+  unfolding group_visited
   kind_loop_one {start} {room} {top} {m} {workspace} {workspace₁} {workspace'} {g} {n} q h e t v er k ew eg =
-      let s : at_group workspace₁ n ≡ group_visited p (length workspace) g (group_at l m) = subst (λ (r : Result ℕ Refusal). IsVisited workspace₁ r (group_visited p (length workspace) g (group_at l m))) er v in
+      let s : at_group workspace₁ n ≡ group_visited p (length workspace) g (group_at l m) = sym (ap (visited_of workspace₁) er) ∙ v in
       let a : n ≡ suc g = ap (λ (x : Visited). x.group) s in
       rw (ew, eg) (record {
         is = s ∙ one_more q (sym e ∙ t) ∙ ap (λ (k : ℕ). fold (visit p room) start (groups_to l buses k)) (sym (add-one m));
@@ -125,70 +122,39 @@ module _ {p : ℕ} {l : TableLists} {buses : Bool} where
       })
 
   -- a group that is refused
-  pub kind_loop_stops : {start : Visited} {room top m : ℕ} {workspace : List ℕ} (workspace' : List ℕ) {g : ℕ} {r r' : Result ℕ Refusal} {f : Refusal} {b : Bool} → KindLoop p l buses start room top m workspace g → m < lookup_count l.lookups.lookups
-      → b ≡ starts_group l.lookups.lookups l.lookups.names buses m → b ≡ true → IsVisited workspace' r (group_visited p (length workspace) g (group_at l m)) → r ≡ Err f → r' ≡ Err f
-      → IsVisited workspace' r' (fold (visit p room) start (groups_to l buses (lookup_count l.lookups.lookups))) × IfOk r' (λ n. n ≤ top + 1024)
-  unfolding IsVisited
+  pub kind_loop_stops : {start : Visited} {room top m : ℕ} {workspace : List ℕ} (workspace' : List ℕ) {g : ℕ} {r r' : Result ℕ GroupRefused} {f : GroupRefused} {b : Bool} → KindLoop p l buses start room top m workspace g → m < lookup_count l.lookups.lookups
+      → b ≡ starts_group l.lookups.lookups l.lookups.names buses m → b ≡ true → visited_of workspace' r ≡ group_visited p (length workspace) g (group_at l m) → r ≡ Err f → r' ≡ Err f
+      → (visited_of workspace' r' ≡ fold (visit p room) start (groups_to l buses (lookup_count l.lookups.lookups))) × IfOk r' (λ n. n ≤ top + 1024)
   kind_loop_stops {start} {room} {top} {m} {workspace} workspace' {g} {r} {r'} {f} q h e t v er er' =
-      let s : (some f ≡ (group_visited p (length workspace) g (group_at l m)).refusal) × (workspace' ≡ (group_visited p (length workspace) g (group_at l m)).workspace) =
-      subst (λ (r : Result ℕ Refusal). IsVisited workspace' r (group_visited p (length workspace) g (group_at l m))) er v in
-      let a = one_more q (sym e ∙ t) in
+      let s : with_refusal (some f.refusal) workspace' f.next ≡ fold (visit p room) start (groups_to l buses (suc m)) =
+      sym (ap (visited_of workspace') er) ∙ v ∙ one_more q (sym e ∙ t) in
       let z : fold (visit p room) start (groups_to l buses (suc m)) ≡ fold (visit p room) start (groups_to l buses (lookup_count l.lookups.lookups)) =
-      sym (later-refused p room l buses start (suc m) (lookup_count l.lookups.lookups) f (omega (arith, h)) (sym (s.0 ∙ ap (λ (x : Visited). x.refusal) a))) in
-      subst (λ (r : Result ℕ Refusal). IsVisited workspace' r (fold (visit p room) start (groups_to l buses (lookup_count l.lookups.lookups))) × IfOk r (λ n. n ≤ top + 1024)) (sym er')
-      ((s.0 ∙ ap (λ (x : Visited). x.refusal) (a ∙ z), s.1 ∙ ap (λ (x : Visited). x.workspace) (a ∙ z)), tt)
+      sym (later-refused p room l buses start (suc m) (lookup_count l.lookups.lookups) f.refusal (omega (arith, h)) (sym (ap (λ (x : Visited). x.refusal) s))) in
+      subst (λ (r : Result ℕ GroupRefused). (visited_of workspace' r ≡ fold (visit p room) start (groups_to l buses (lookup_count l.lookups.lookups))) × IfOk r (λ n. n ≤ top + 1024)) (sym er') (s ∙ z, tt)
 
   pub kind_loop_ends : {start : Visited} {room top m : ℕ} {workspace : List ℕ} {g : ℕ} → KindLoop p l buses start room top m workspace g → lookup_count l.lookups.lookups ≤ m
-      → IsVisited workspace (Ok g) (fold (visit p room) start (groups_to l buses (lookup_count l.lookups.lookups))) × (g ≤ top + 1024)
-  unfolding IsVisited
+      → (at_group workspace g ≡ fold (visit p room) start (groups_to l buses (lookup_count l.lookups.lookups))) × (g ≤ top + 1024)
   kind_loop_ends {start} {room} {top} {m} r h =
       let e : m ≡ lookup_count l.lookups.lookups = omega (arith, r.within) in
       (r.is ∙ ap (λ (k : ℕ). fold (visit p room) start (groups_to l buses k)) e, omega (arith, r.count, r.few))
 
-pub so_many : {r : Result ℕ Refusal} {n k : ℕ} → IfOk r (λ n. n ≤ k) → r ≡ Ok n → n ≤ k
-so_many {r} {n} {k} h e = subst (λ (r : Result ℕ Refusal). IfOk r (λ n. n ≤ k)) e h
-
--- what the visit leaves
-abbrev said : List ℕ → Option Refusal → Outcome
-said workspace o = record { refusal = o; workspace = workspace }
-
-pub refused_left : (x : Visited) {workspace : List ℕ} {r : Result ℕ Refusal} {f : Refusal} {v : Verdict} (lent : List ℕ) → IsVisited workspace r x → r ≡ Err f → v ≡ Err f → record { refusal = refusal v; workspace = workspace } ≡ outcome none x lent
-unfolding IsVisited
-refused_left x {workspace} {r} {f} {v} lent h e ev =
-    let q : (some f ≡ x.refusal) × (workspace ≡ x.workspace) = subst (λ (r : Result ℕ Refusal). IsVisited workspace r x) e h in
-    let a : refusal v ≡ x.refusal = ap refusal ev ∙ q.0 in
-    λ j. record { refusal = a j; workspace = q.1 j }
-
-pub all_left : (x : Visited) {workspace : List ℕ} {v : Verdict} (lent : List ℕ) (r : Result ℕ Refusal) → IsVisited workspace r x → v ≡ result_and r (Ok tt) → record { refusal = refusal v; workspace = workspace } ≡ outcome none x lent
-unfolding IsVisited
-all_left x {workspace} {v} lent (Ok n) h e = ap (λ (v : Verdict). said workspace (refusal v)) e ∙ ap (λ (x : Visited). outcome none x lent) h
-all_left x {workspace} {v} lent (Err f) h e =
-    let a : refusal v ≡ x.refusal = ap refusal e ∙ h.0 in
-    λ j. record { refusal = a j; workspace = h.1 j }
+pub so_many : {r : Result ℕ GroupRefused} {n k : ℕ} → IfOk r (λ n. n ≤ k) → r ≡ Ok n → n ≤ k
+so_many {r} {n} {k} h e = subst (λ (r : Result ℕ GroupRefused). IfOk r (λ n. n ≤ k)) e h
 
 -- the locals, then the buses, from a workspace of zeros
 module _ (p room : ℕ) (xs ys : List (List Member)) where
-  abbrev all : Visited
-  all = fold (visit p room) (unvisited room) (xs ++ ys)
+  locals_are : {workspace : List ℕ} {j : ℕ} {x : Visited} → workspace ≡ replicate room 0 → j ≡ room → x ≡ fold (visit p j) (at_group workspace 0) xs → x ≡ fold (visit p room) (unvisited room) xs
+  locals_are ew ej h = h ∙ ap₂ (λ (n : ℕ) (z : List ℕ). fold (visit p n) (at_group z 0) xs) ej ew
 
-  locals_are : {workspace : List ℕ} (workspace₁ : List ℕ) {j : ℕ} (r : Result ℕ Refusal) → workspace ≡ replicate room 0 → j ≡ room
-      → IsVisited workspace₁ r (fold (visit p j) (at_group workspace 0) xs) → IsVisited workspace₁ r (fold (visit p room) (unvisited room) xs)
-  locals_are {workspace} workspace₁ {j} r ew ej h =
-      subst (λ (x : Visited). IsVisited workspace₁ r x) (ap₂ (λ (n : ℕ) (z : List ℕ). fold (visit p n) (at_group z 0) xs) ej ew) h
+  pub locals_refused : {workspace : List ℕ} (workspace₁ : List ℕ) {j : ℕ} {r r' : Result ℕ GroupRefused} {f : GroupRefused} → workspace ≡ replicate room 0 → j ≡ room
+      → visited_of workspace₁ r ≡ fold (visit p j) (at_group workspace 0) xs → r ≡ Err f → r' ≡ Err f → visited_of workspace₁ r' ≡ fold (visit p room) (unvisited room) (xs ++ ys)
+  locals_refused workspace₁ {f = f} ew ej h e e' =
+      let q : with_refusal (some f.refusal) workspace₁ f.next ≡ fold (visit p room) (unvisited room) xs = sym (ap (visited_of workspace₁) e) ∙ locals_are ew ej h in
+      ap (visited_of workspace₁) e' ∙ q
+      ∙ sym (fold-append (visit p room) (unvisited room) xs ys ∙ after-refused p room (fold (visit p room) (unvisited room) xs) f.refusal ys (sym (ap (λ (x : Visited). x.refusal) q)))
 
-  pub locals_refused : {workspace : List ℕ} (workspace₁ : List ℕ) {j : ℕ} {r : Result ℕ Refusal} {f : Refusal} → workspace ≡ replicate room 0 → j ≡ room
-      → IsVisited workspace₁ r (fold (visit p j) (at_group workspace 0) xs) → r ≡ Err f → IsVisited workspace₁ r all
-  unfolding IsVisited
-  locals_refused {workspace} workspace₁ {j} {r} {f} ew ej h e =
-      let k = locals_are workspace₁ r ew ej h in
-      let q : (some f ≡ (fold (visit p room) (unvisited room) xs).refusal) × (workspace₁ ≡ (fold (visit p room) (unvisited room) xs).workspace) =
-      subst (λ (r : Result ℕ Refusal). IsVisited workspace₁ r (fold (visit p room) (unvisited room) xs)) e k in
-      subst (λ (x : Visited). IsVisited workspace₁ r x) (sym (fold-append (visit p room) (unvisited room) xs ys ∙ after-refused p room (fold (visit p room) (unvisited room) xs) f ys (sym q.0))) k
-
-  pub both_visited : {workspace : List ℕ} (workspace₁ workspace₂ : List ℕ) {j k n : ℕ} {r : Result ℕ Refusal} (s : Result ℕ Refusal) → workspace ≡ replicate room 0 → j ≡ room → k ≡ room
-      → IsVisited workspace₁ r (fold (visit p j) (at_group workspace 0) xs) → r ≡ Ok n
-      → IsVisited workspace₂ s (fold (visit p k) (at_group workspace₁ n) ys) → IsVisited workspace₂ s all
-  unfolding IsVisited
-  both_visited {workspace} workspace₁ workspace₂ {j} {k} {n} {r} s ew ej ek h e g =
-      let q : at_group workspace₁ n ≡ fold (visit p room) (unvisited room) xs = subst (λ (r : Result ℕ Refusal). IsVisited workspace₁ r (fold (visit p room) (unvisited room) xs)) e (locals_are workspace₁ r ew ej h) in
-      subst (λ (x : Visited). IsVisited workspace₂ s x) (ap₂ (λ (n : ℕ) (x : Visited). fold (visit p n) x ys) ek q ∙ sym (fold-append (visit p room) (unvisited room) xs ys)) g
+  pub both_visited : {workspace : List ℕ} (workspace₁ : List ℕ) {j k n : ℕ} {r : Result ℕ GroupRefused} {x : Visited} → workspace ≡ replicate room 0 → j ≡ room → k ≡ room
+      → visited_of workspace₁ r ≡ fold (visit p j) (at_group workspace 0) xs → r ≡ Ok n → x ≡ fold (visit p k) (at_group workspace₁ n) ys → x ≡ fold (visit p room) (unvisited room) (xs ++ ys)
+  both_visited workspace₁ {n = n} ew ej ek h e g =
+      let q : at_group workspace₁ n ≡ fold (visit p room) (unvisited room) xs = sym (ap (visited_of workspace₁) e) ∙ locals_are ew ej h in
+      g ∙ ap₂ (λ (n : ℕ) (x : Visited). fold (visit p n) x ys) ek q ∙ sym (fold-append (visit p room) (unvisited room) xs ys)

@@ -1,8 +1,8 @@
 // What the lookups of a group add to the slots.
-ghost use Rattle.std.specs.Prelude.{◌≡◌, Some, ◌*◌, ◌<◌, ◌≤◌, length};
+ghost use Rattle.std.specs.Prelude.{◌≡◌, ◌*◌, ◌<◌, ◌≤◌, length};
 ghost use Rattle.lists.specs.Fold.{fold};
 ghost use Rattle.lookup.specs.Lookups.{lookup_count};
-ghost use Rattle.balance_slots.specs.inner.Work.{work, step};
+ghost use Rattle.balance_slots.specs.inner.Work.{in_use, work, step};
 ghost use Rattle.balance.specs.Entries.{entries};
 ghost use Rattle.balance.specs.inner.Requires.{TablesTested};
 ghost use Rattle.balance.specs.Tables.{TableLists, as_tables};
@@ -17,18 +17,19 @@ use expression::words::to_usize;
 use lookup::starts::name_start;
 use lookup::types::{LOOKUP_WORDS, name_length};
 
-// The group of lookup m, by table and in list order, with so many slots in use before; how many after, or none if one was missing.
+// The group of lookup m, by table and in list order, with so many slots in use before, and none if one was missing; so many after.
 pub fn accumulate_group(
     p: u32,
     tables: &LentTables,
     m: usize,
     seed: Seed,
     workspace: &mut [u32],
-    used: usize,
+    u: Option<usize>,
 ) -> Option<usize>
-    requires { let l : TableLists = as_tables tables.now in TablesTested p l × (m < lookup_count l.lookups.lookups) × (slot_words * used ≤ length workspace.old) }
-    ensures { work workspace.new result ≡ fold (step p) (work workspace.old (Some used)) (entries p (group_at (as_tables tables.now) m)) }
+    requires { let l : TableLists = as_tables tables.now in TablesTested p l × (m < lookup_count l.lookups.lookups) × (slot_words * in_use u ≤ length workspace.old) }
+    ensures { work workspace.new result ≡ fold (step p) (work workspace.old u) (entries p (group_at (as_tables tables.now) m)) }
 {
+    let used = u?;
     let n = tables.lookups.records.len() / LOOKUP_WORDS;
     let name_m = name_start(tables.lookups.records, m);
     let mut v = used;
@@ -42,7 +43,7 @@ pub fn accumulate_group(
             k,
             at,
         ) {
-            v = accumulate_lookup(p, tables, k, seed, workspace, v)?;
+            v = accumulate_lookup(p, tables, k, seed, workspace, Some(v))?;
         }
         at += to_usize(name_length(tables.lookups.records, k));
     }

@@ -2,6 +2,7 @@
 use Rattle.std.specs.Prelude as Std
 use Rattle.std.specs.Prelude.{Some, None}
 use mathlib.Core.Path.{◌≡◌, refl, sym, ap, ap₂, ◌∙◌}
+use Rattle.std.proofs.Common.{subst}
 use mathlib.Core.Bool.{Bool, true, false, cond, ◌&&◌}
 use mathlib.Core.List.{List}
 use Prim.Native.Nat.{ℕ, suc, ◌+◌, ◌*◌, ◌-◌, ◌/◌, ◌%◌, ◌<◌, ◌≤◌, zero-le}
@@ -295,7 +296,13 @@ add_nonzero_new {seed} {heads} {workspace} {b} {hs} {v} {k} {l} p t count r e h 
     let z : length b ≡ length workspace = sym (plain-length b l) ∙ ap length s.same ∙ new_at-long P v.used t count (rw n (omega (arith, r.room))) ∙ n in
     (rw (f, m) (ap (λ (x : List ℕ). made x (v.used + 1) false) s.same), record { chained = s.chained; inside = s.not_more; room = rw z (omega (arith, r.room)) })
 
--- the two ways of a step
+-- the three ways of a step
+pub step-full : {seed : Seed} {heads workspace : List ℕ} {u : Std.Option Linked} (p : ℕ) (t : List ℕ) (count : ℕ) → ChainsLinked seed heads workspace u → u ≡ None
+    → (plain_work workspace None ≡ step p (plain_work workspace u) (record { tuple = t; count = count })) × ChainsLinked seed heads workspace None
+unfolding step
+step-full {seed} {heads} {workspace} {u} p t count r e =
+    (ap (λ (v : Std.Option Linked). step p (plain_work workspace v) (record { tuple = t; count = count })) (sym e), subst (ChainsLinked seed heads workspace) e r)
+
 pub step_skip : {seed : Seed} {heads workspace : List ℕ} {v : Linked} (p : ℕ) (t : List ℕ) (count : ℕ) → ChainsLinked seed heads workspace (Some v) → count ≡ 0
     → (plain_work workspace (Some v) ≡ step p (plain_work workspace (Some v)) (record { tuple = t; count = count })) × ChainsLinked seed heads workspace (Some v)
 unfolding step

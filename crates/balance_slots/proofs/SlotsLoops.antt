@@ -6,7 +6,6 @@ use Prim.Native.Nat.{ℕ, suc, ◌+◌, ◌*◌, ◌-◌, ◌%◌, ◌<◌, ◌�
 use native.Mathlib.Numerals.{add-one}
 use native.Mathlib.Omega.{arith}
 use lib.Dec.{eqb}
-use lib.Pointwise.{pointwise}
 use lib.ListN.{length, take, drop, set}
 use borrow.Author.Tests.{eq-eqb}
 use borrow.Rule.Slice.PartMut.{put_mid}
@@ -20,21 +19,13 @@ use Rattle.expression.specs.Words.{word}
 use Rattle.balance_slots.specs.inner.Work.{match_at, find_slot, added_at, new_words, new_at}
 use Rattle.balance_slots.specs.Workspace.{slot_words, tuple_word, net_word}
 
--- what `==` of slices answers
-slices_same : (x y : List ℕ) → pointwise eqb x y ≡ same_list x y
-unfolding same_list
-slices_same [] [] = refl
-slices_same [] (b ∷ y) = refl
-slices_same (a ∷ x) [] = refl
-slices_same (a ∷ x) (b ∷ y) = ap (λ (r : Bool). eqb a b && r) (slices_same x y)
-
 -- a slot and a tuple
 pub holds_is : {w v : ℕ} {r : Bool} (workspace t : List ℕ) (k : ℕ) → w ≡ v → w ≡ length t
-    → r ≡ pointwise eqb (take ((slot_words * k + tuple_word + length t) - (slot_words * k + tuple_word)) (drop (slot_words * k + tuple_word) workspace)) t
+    → r ≡ same_list (take ((slot_words * k + tuple_word + length t) - (slot_words * k + tuple_word)) (drop (slot_words * k + tuple_word) workspace)) t
     → r ≡ (eqb v (length t) && same_list (take (length t) (drop (slot_words * k + tuple_word) workspace)) t)
 holds_is {w} {v} {r} workspace t k e z er =
     let a : (slot_words * k + tuple_word + length t) - (slot_words * k + tuple_word) ≡ length t = omega arith in
-    rw (eq-eqb v (length t) (sym e ∙ z)) (er ∙ slices_same _ t ∙ ap (λ (n : ℕ). same_list (take n (drop (slot_words * k + tuple_word) workspace)) t) a)
+    rw (eq-eqb v (length t) (sym e ∙ z)) (er ∙ ap (λ (n : ℕ). same_list (take n (drop (slot_words * k + tuple_word) workspace)) t) a)
 
 -- a search from slot f on: no slot before k holds t
 pub record FindSlotLoop (workspace t : List ℕ) (f n k : ℕ) : Type 0 where

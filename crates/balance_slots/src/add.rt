@@ -69,19 +69,20 @@ fn add_nonzero(
     })
 }
 
-// A count of 0 is skipped. None: a slot was missing.
+// A count of 0 is skipped, and nothing is added after a slot was missing. None: a slot was missing.
 pub fn add(
     p: u32,
     seed: Seed,
     heads: &mut [u32],
     workspace: &mut [u32],
-    v: Linked,
+    u: Option<Linked>,
     t: &[u32],
     count: u32,
 ) -> Option<Linked>
-    requires { KnownPrime p × (length t.now ≤ tuple_words) × ChainsLinked seed heads.old workspace.old (Some v) }
-    ensures { (plain_work workspace.new result ≡ step p (plain_work workspace.old (Some v)) (record { tuple = t.now; count = count })) × ChainsLinked seed heads.new workspace.new result }
+    requires { KnownPrime p × (length t.now ≤ tuple_words) × ChainsLinked seed heads.old workspace.old u }
+    ensures { (plain_work workspace.new result ≡ step p (plain_work workspace.old u) (record { tuple = t.now; count = count })) × ChainsLinked seed heads.new workspace.new result }
 {
+    let v = u?;
     if count == 0 {
         return Some(v);
     }

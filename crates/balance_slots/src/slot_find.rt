@@ -6,6 +6,21 @@ ghost use Rattle.balance_slots.specs.Workspace.{slot_words, tuple_words, tuple_w
 
 use crate::slot::{SLOT_WORDS, TUPLE_WORD};
 
+// Whether two lists of words are the same. No `==` of slices: that is a call for each slot whose first word is t's, which took up to 1.65 of the time of a search along a chain.
+pub fn same_words(x: &[u32], y: &[u32]) -> bool
+    ensures { result ≡ same_list x.now y.now }
+{
+    if x.len() != y.len() {
+        return false;
+    }
+    for i in 0..x.len() {
+        if x[i] != y[i] {
+            return false;
+        }
+    }
+    true
+}
+
 // Whether slot k, whose tuple has so many words, holds the tuple t.
 pub fn holds(workspace: &[u32], k: usize, width: u32, t: &[u32]) -> bool
     requires { (length t.now ≤ tuple_words) × (slot_words * k + slot_words ≤ length workspace.now) }
@@ -13,7 +28,7 @@ pub fn holds(workspace: &[u32], k: usize, width: u32, t: &[u32]) -> bool
 {
     let start = SLOT_WORDS * k + TUPLE_WORD;
     let n = t.len();
-    width as usize == n && &workspace[start..start + n] == t
+    width as usize == n && same_words(&workspace[start..start + n], t)
 }
 
 // The slot of t among those from slot `first` on and before slot n, or n, as in the definition of that name.

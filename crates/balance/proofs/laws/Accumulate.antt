@@ -1,19 +1,15 @@
 -- What the code adds for lookup m is what the definition lists.
-use Rattle.std.specs.Prelude.{◌≡◌, Some, None, Bool, true, false, List, ℕ, ◌+◌, ◌*◌, ◌-◌, ◌<◌, ◌≤◌, length, take, drop}
+use Rattle.std.specs.Prelude.{◌≡◌, Bool, List, ℕ, ◌+◌, ◌*◌, ◌-◌, ◌<◌, ◌≤◌, length, take, drop}
 use Rattle.std.proofs.Math.Path.{refl, sym, ap}
 use Rattle.std.proofs.Common.{◌∙◌, arith}
 use Rattle.std.proofs.Math.Bool.{cond}
-use Rattle.std.proofs.lemmas.Option.{same_Some}
-use Rattle.std.specs.Prelude.{[], ◌∷◌}
-use Rattle.field.specs.Word.{mul_m}
-use Rattle.expression.specs.Words.{word}
 use Rattle.lists.specs.Fold.{fold}
 use Rattle.expression.specs.Window.{Traces, lent_traces}
 use Rattle.expression.specs.Values.{row_values}
 use Rattle.expression.specs.Requires.{Evaluable}
 use Rattle.expression.specs.declared.sizes.Shape.{Shape}
 use Rattle.expression.specs.laws.Values.{row_values-below}
-use Rattle.lookup.specs.Lookups.{Lookups, exclusive, flag_start, multiplicity_start, lookup_words, lookup_count, tuple_count, flag_count, tuple_start, tuple_width, tuple_nodes, multiplicity_node, flag_node, lookup_at}
+use Rattle.lookup.specs.Lookups.{Lookups, lookup_words, lookup_count, tuple_count, flag_count, tuple_start, tuple_width, tuple_nodes, multiplicity_node, flag_node, lookup_at}
 use Rattle.lookup.specs.Requires.{Placed}
 use Rattle.lookup.specs.laws.Tested.{placed, element_start-le}
 use Rattle.lookup.specs.Table.{values_of}
@@ -21,7 +17,7 @@ use Rattle.logup.specs.Tuple.{tuple}
 use Rattle.logup.specs.Ledger as logup
 use Rattle.lookup.specs.laws.Sizes.{part_is}
 use Rattle.balance.specs.declared.starts.LookupStarts.{LookupStarts}
-use Rattle.balance.specs.inner.LookupStarts.{PartLists, part_lists, source, lookup_starts_at, StartsWithin, flagged, count_from, nodes_from, entries_from, rows_entries}
+use Rattle.balance.specs.inner.LookupStarts.{PartLists, part_lists, source, lookup_starts_at, StartsWithin, count_from, nodes_from, entries_from, rows_entries}
 use Rattle.balance_slots.specs.inner.Work.{Work, step}
 use Rattle.balance.specs.Tables.{TableLists, table_sizes, table_count, size, size_start, table_part, shape_at, table_at, main_count_size, preprocessed_count_size, public_value_count_size, node_count_size}
 use Rattle.balance.specs.Entries.{row_entries, member_entries}
@@ -30,16 +26,6 @@ use Rattle.balance.specs.inner.Requires.{TablesTested}
 use Rattle.balance.proofs.laws.Lists.{joined_same}
 use Rattle.balance.proofs.laws.Ledger.{lookup_entries_is}
 use Rattle.expression.specs.Node.{node_words}
-
--- flags that begin somewhere are those of an exclusive lookup
-if_some : (s n room : ℕ) (b : Bool) (f : ℕ) → cond b (Some s) None ≡ Some f → (b ≡ true → s + n ≤ room) → f + n ≤ room
-if_some s n room true f e h = rw (same_Some s f e) at (h refl)
-if_some s n room false f e h = cc
-
--- a count with the flag of an exclusive lookup
-with_flag : (b : Bool) (p s k multiplicity : ℕ) (flags vals : List ℕ) → flagged p (cond b (Some s) None) flags vals k multiplicity ≡ cond b (mul_m p multiplicity (word vals (word flags (s + k)))) multiplicity
-with_flag true p s k multiplicity flags vals = refl
-with_flag false p s k multiplicity flags vals = refl
 
 module _ (p : ℕ) (l : TableLists) (w : TablesTested p l) (m : ℕ) (h : m < lookup_count l.lookups.lookups) where
   abbrev G : Lookups
@@ -59,7 +45,7 @@ module _ (p : ℕ) (l : TableLists) (w : TablesTested p l) (m : ℕ) (h : m < lo
       record {
         tuples_in = own.tuples;
         multiplicities_in = omega (arith, own.multiplicities, w.multiplicities m h);
-        flags_in = λ f q. if_some (flag_start G.lookups m) (tuple_count G.lookups m) (length G.flags) (exclusive G.lookups m) f q (λ x. let e : flag_count G.lookups m ≡ tuple_count G.lookups m = w.flags m h ∙ ap (λ (b : Bool). cond b (tuple_count G.lookups m) 0) x in omega (arith, own.flags));
+        flags_in = λ x. (let e : flag_count G.lookups m ≡ tuple_count G.lookups m = w.flags m h ∙ ap (λ (b : Bool). cond b (tuple_count G.lookups m) 0) x in omega (arith, own.flags));
         elements_in = element_start-le G w.fitting (tuple_start G.lookups m + tuple_count G.lookups m) own.tuples;
         first = refl;
         narrow = w.narrow;
@@ -67,9 +53,7 @@ module _ (p : ℕ) (l : TableLists) (w : TablesTested p l) (m : ℕ) (h : m < lo
 
   entries_from_is : (vals : List ℕ) → entries_from p (lookup_starts_at G.lookups G.tuples m) parts vals ≡ logup.lookup_entries p G vals m
   unfolding entries_from nodes_from count_from lookup_starts_at logup.lookup_entries logup.count tuple tuple_nodes tuple_width multiplicity_node flag_node
-  entries_from_is vals =
-      joined_same (λ k. record { tuple = tuple G vals m k; count = count_from p (lookup_starts_at G.lookups G.tuples m) G.multiplicities G.flags vals k } ∷ []) (λ k. logup.entry p G vals m k ∷ []) (tuple_count G.lookups m)
-      (λ k g. ap (λ (n : ℕ). record { tuple = tuple G vals m k; count = n } ∷ []) (with_flag (exclusive G.lookups m) p (flag_start G.lookups m) k (word vals (word G.multiplicities (multiplicity_start G.lookups m + k))) G.flags vals))
+  entries_from_is vals = refl
 
   abbrev T : ℕ
   T = table_of l.sizes m

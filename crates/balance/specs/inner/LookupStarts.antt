@@ -1,6 +1,5 @@
 -- Where the parts of a lookup begin in the lists, and the entries that it has on a row and on all rows.
-use Rattle.std.specs.Prelude as Std
-use Rattle.std.specs.Prelude.{Some, None, ℕ, ◌+◌, ◌≤◌, ◌≡◌, cond, List, [], ◌∷◌, map, length, take, drop}
+use Rattle.std.specs.Prelude.{ℕ, ◌+◌, ◌≤◌, ◌≡◌, true, cond, List, [], ◌∷◌, map, length, take, drop}
 use Rattle.lists.specs.Count.{joined}
 use Rattle.field.specs.Word.{mul_m}
 use Rattle.expression.specs.Words.{word}
@@ -16,10 +15,11 @@ use Rattle.balance_slots.specs.Workspace.{tuple_words}
 unfoldable pub lookup_starts_at : List ℕ → List ℕ → ℕ → LookupStarts
 lookup_starts_at lookups tuples i =
     record {
+      exclusive = exclusive lookups i;
       count = tuple_count lookups i;
       tuples = tuple_start lookups i;
       multiplicities = multiplicity_start lookups i;
-      flags = cond (exclusive lookups i) (Some (flag_start lookups i)) None;
+      flags = flag_start lookups i;
       elements = element_start tuples (tuple_start lookups i);
     }
 
@@ -51,20 +51,16 @@ source traces nodes parts = record { traces = traces; nodes = nodes; parts = par
 pub record StartsWithin (starts : LookupStarts) (l : PartLists) : Type 0 where
   pub tuples_in : starts.tuples + starts.count ≤ length l.tuples
   pub multiplicities_in : starts.multiplicities + starts.count ≤ length l.multiplicities
-  pub flags_in : (f : ℕ) → starts.flags ≡ Some f → f + starts.count ≤ length l.flags
+  pub flags_in : starts.exclusive ≡ true → starts.flags + starts.count ≤ length l.flags
   pub elements_in : element_start l.tuples (starts.tuples + starts.count) ≤ length l.elements
   pub first : starts.elements ≡ element_start l.tuples starts.tuples
   pub narrow : (j : ℕ) → word l.tuples j ≤ tuple_words
 
--- a multiplicity by the flag of tuple k, where flags begin at f; without flags it is as it was
-abbrev pub flagged : ℕ → Std.Option ℕ → List ℕ → List ℕ → ℕ → ℕ → ℕ
-flagged p (Some f) flags vals k multiplicity = mul_m p multiplicity (word vals (word flags (f + k)))
-flagged p None flags vals k multiplicity = multiplicity
-
 -- how often tuple k counts, from the values of the nodes
 unfoldable pub count_from : ℕ → LookupStarts → List ℕ → List ℕ → List ℕ → ℕ → ℕ
 count_from p starts multiplicities flags vals k =
-    flagged p starts.flags flags vals k (word vals (word multiplicities (starts.multiplicities + k)))
+    cond starts.exclusive (mul_m p (word vals (word multiplicities (starts.multiplicities + k))) (word vals (word flags (starts.flags + k))))
+    (word vals (word multiplicities (starts.multiplicities + k)))
 
 -- the nodes of tuple k
 unfoldable pub nodes_from : LookupStarts → PartLists → ℕ → List ℕ
