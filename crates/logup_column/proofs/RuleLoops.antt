@@ -5,13 +5,14 @@ use mathlib.Core.List.{List, ◌++◌, reverse}
 use Prim.Native.Nat.{ℕ, ◌+◌, ◌-◌, ◌<◌, ◌≤◌, zero-le}
 use native.Mathlib.Omega.{arith}
 use lib.Dec.{eqb}
-use lib.ListN.{length, take, drop, length-reverse}
+use lib.ListN.{length, take, drop, get_or, set, length-reverse}
+use borrow.Author.Tests.{ne_eqb}
 use lib.Seq.{take_all}
 use borrow.Rule.Slice.PartMut.{put_mid}
 use Rattle.lists.specs.Count.{total}
 use Rattle.lists.specs.laws.Count.{total-one, total_in}
-use Rattle.lists.specs.laws.Filled.{Filled, filled_none, filled-part}
-use Rattle.lists.specs.laws.Parts.{take_more, part_length}
+use Rattle.lists.specs.laws.Filled.{Filled, filled_none, filled-one, filled-part, filled-whole}
+use Rattle.lists.specs.laws.Parts.{take-one, take_more, part_length}
 use Rattle.expression.specs.Words.{word}
 use Rattle.lookup.specs.Lookups.{element_start}
 use Rattle.logup.specs.Rule.{elements_under}
@@ -24,6 +25,27 @@ length-ordered rule l = go (eqb rule 2)
     go : (b : Bool) → length (cond b (reverse l) l) ≡ length l
     go true = length-reverse l
     go false = refl
+
+-- the first j elements of a tuple
+pub record TupleLoop (nodes d out : List ℕ) (j : ℕ) : Type 0 where
+  pub room : length nodes ≡ length d
+  pub out≡ : Filled d (take j nodes) j out
+
+pub tuple_loop_begins : {nodes d : List ℕ} → length nodes ≡ length d → TupleLoop nodes d d 0
+tuple_loop_begins r = record { room = r; out≡ = filled_none }
+
+pub tuple_loop_turn : {nodes d out : List ℕ} {j : ℕ} → TupleLoop nodes d out j → j < length nodes → TupleLoop nodes d (set out j (get_or nodes j 0)) (j + 1)
+tuple_loop_turn {nodes} {d} {out} {j} s h = record { room = s.room; out≡ = filled-one (get_or nodes j 0) 0 s.out≡ (omega (arith, s.room)) (take-one nodes j 0 h) }
+
+pub tuple_loop_ends : {nodes d out : List ℕ} {j : ℕ} → TupleLoop nodes d out j → length nodes ≤ j → out ≡ nodes
+tuple_loop_ends {nodes} {j = j} s h = filled-whole s.out≡ (omega (arith, s.room)) ∙ take_all j nodes h
+
+-- as the rule takes them
+pub tuple_reversed : {rule : ℕ} {nodes d out new : List ℕ} {j : ℕ} → TupleLoop nodes d out j → length nodes ≤ j → rule ≡ 2 → new ≡ reverse out → new ≡ cond (eqb rule 2) (reverse nodes) nodes
+tuple_reversed s h e r = rw e (r ∙ ap reverse (tuple_loop_ends s h))
+
+pub tuple_as_it_is : {rule : ℕ} {nodes d out : List ℕ} {j : ℕ} → TupleLoop nodes d out j → length nodes ≤ j → (rule ≡ 2 → ⊥) → out ≡ cond (eqb rule 2) (reverse nodes) nodes
+tuple_as_it_is {rule} s h n = rw (ne_eqb rule 2 n) (tuple_loop_ends s h)
 
 -- the first k tuples, whose elements end at `start`
 pub record ElementsLoop (rule : ℕ) (tuples elements d out : List ℕ) (start k : ℕ) : Type 0 where

@@ -5,12 +5,14 @@ ghost use Rattle.logup.specs.Rule.{elements_under};
 
 use expression::choices::RULE_2;
 
-// One tuple.
+// One tuple. No `copy_from_slice`: for that an archive for C wants memmove, beside memcpy for this loop.
 fn write_tuple(rule: u32, nodes: &[u32], out: &mut [u32])
     requires { length nodes.now ≡ length out.old }
     ensures { out.new ≡ cond (eqb rule 2) (reverse nodes.now) nodes.now }
 {
-    out.copy_from_slice(nodes);
+    for j in 0..nodes.len() {
+        out[j] = nodes[j];
+    }
     if rule == RULE_2 {
         out.reverse();
     }

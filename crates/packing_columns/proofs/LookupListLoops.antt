@@ -3,11 +3,11 @@ use mathlib.Core.Path.{◌≡◌, sym, ap, ap₂, ◌∙◌}
 use mathlib.Core.List.{List, [], ◌∷◌, ◌++◌, append-nil, flat_map}
 use Prim.Native.Nat.{ℕ, ◌+◌, ◌-◌, ◌<◌, ◌≤◌, zero-le}
 use native.Mathlib.Omega.{arith}
-use lib.ListN.{length, take, drop, length-append, length-take, length-drop, drop_of_length-le}
+use lib.ListN.{length, take, drop, get_or, set, length-append, length-take, length-drop, drop_of_length-le}
 use lib.Seq.{take_all}
 use borrow.Rule.Slice.PartMut.{put_mid}
 use Rattle.lists.specs.laws.Parts.{take-one, take_more}
-use Rattle.lists.specs.laws.Filled.{Filled, filled_none, filled-part, put_mid_is}
+use Rattle.lists.specs.laws.Filled.{Filled, filled_none, filled-one, filled-part}
 use Rattle.lists.specs.laws.Tab.{flat_append}
 use Rattle.expression.specs.Words.{word}
 use Rattle.lookup.specs.Lookups.{lookup_count}
@@ -16,13 +16,22 @@ use Rattle.packing_columns.specs.inner.LookupListsRequires.{LookupNumbers}
 use Rattle.packing_columns.specs.laws.Starts.{start-le}
 use Rattle.packing_columns.specs.declared.lookup_lists.LookupList.{LookupList}
 
-module _ {A : Type 0} where
-  -- src is at the front of a buffer whose front was lent
-  pub front-copied : {ys : List A} (src d : List A) → length src ≤ length d → ys ≡ src → put_mid 0 (length src) d ys ≡ src ++ drop (length src) d
-  front-copied {ys} src d h e =
-      let k : length src ≡ length src - 0 = omega arith in ap (λ (n : ℕ). put_mid 0 n d ys) k ∙ put_mid_is d 0 (length src) e zero-le
+-- the first i elements are copied
+pub record Copying {A : Type 0} (src d b : List A) (i : ℕ) : Type 0 where
+  pub out : Filled d (take i src) i b
+  pub room : length src ≤ length d
 
--- the parts of the first t are written
+pub copy_begins : {A : Type 0} {src d : List A} → length src ≤ length d → Copying src d d 0
+copy_begins h = record { out = filled_none; room = h }
+
+pub copy_turn : {A : Type 0} {src d b : List A} {i : ℕ} {v : A} → Copying src d b i → i < length src → v ≡ get_or src i v → Copying src d (set b i v) (i + 1)
+copy_turn {A} {src} {d} {b} {i} {v} s h e =
+    record { out = filled-one v v s.out (omega (arith, s.room)) (take-one src i v h ∙ ap (λ (x : A). take i src ++ (x ∷ [])) (sym e)); room = s.room }
+
+pub copy_ends : {A : Type 0} {src d b : List A} {i : ℕ} → Copying src d b i → length src ≤ i → i ≤ length src → b ≡ src ++ drop (length src) d
+copy_ends {A} {src} {d} {b} {i} s h g =
+    let e : i ≡ length src = omega arith in s.out.is ∙ ap₂ (λ (x : List A) (n : ℕ). x ++ drop n d) (take_all i src h) e
+
 module _ {A : Type 0} (f : ℕ → List A) where
   flat-one : (order : List ℕ) (t : ℕ) → t < length order → flat_map f (take (t + 1) order) ≡ flat_map f (take t order) ++ f (word order t)
   unfolding flat_map

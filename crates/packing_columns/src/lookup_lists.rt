@@ -49,12 +49,14 @@ pub fn list_total(list: LookupList, lookups: &[u32], tuples: &[u32], order: &[u3
     sum
 }
 
-// The elements of src at the front of out.
+// The elements of src at the front of out. No `copy_from_slice`: for that an archive for C wants memmove, beside memcpy for this loop.
 pub fn copy<T: Copy>(src: &[T], out: &mut [T])
     requires { length src.now ≤ length out.old }
     ensures { out.new ≡ written src.now out.old }
 {
-    out[..src.len()].copy_from_slice(src);
+    for i in 0..src.len() {
+        out[i] = src[i];
+    }
 }
 
 // The parts of that list, src, of these lookups, one after the other, at the front of out.
