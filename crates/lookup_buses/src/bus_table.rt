@@ -5,7 +5,7 @@ ghost use Rattle.lookup.specs.Sizes.{size, size_start, table_count};
 ghost use Rattle.lookup_buses.specs.CheckBusWidths.{BusTables, bus_sizes, table_at, lent_bus_tables};
 ghost use Rattle.lookup_buses.specs.inner.Requires.{BusListsCover};
 
-use lookup::sizes::{part_end, part_start};
+use lookup::sizes::{part_start, size};
 use lookup::types::LOOKUP_WORDS;
 use std::ops::Range;
 
@@ -31,7 +31,9 @@ fn span(sizes: &[u32], f: usize, unit: usize, t: usize) -> Range<usize>
     ensures start { result.start ≡ unit * size_start bus_sizes sizes.now f t }
     ensures end { result.end ≡ unit * size_start bus_sizes sizes.now f t + unit * size bus_sizes sizes.now f t }
 {
-    part_start(sizes, BUS_SIZES, f, unit, t)..part_end(sizes, BUS_SIZES, f, unit, t)
+    // Not `part_end`: that would go over the tables before t once more.
+    let start = part_start(sizes, BUS_SIZES, f, unit, t);
+    start..start + unit * size(sizes, BUS_SIZES, f, t)
 }
 
 // The lists of table t.

@@ -1,8 +1,8 @@
 // The checks over several tables: the sum of their terminals, and the height bound.
-ghost use Rattle.std.specs.Prelude.{◌≡◌, true, false, MatchOption, List, [], ℕ, ◌+◌, ◌*◌, ◌<◌, ◌≤◌, length};
+ghost use Rattle.std.specs.Prelude.{◌≡◌, true, List, [], ℕ, ◌+◌, ◌*◌, ◌<◌, ◌≤◌, length};
 ghost use Rattle.lists.specs.Count.{every};
 ghost use Rattle.field.specs.inner.Requires.{KnownPrime};
-ghost use Rattle.field.specs.Element.{Word4};
+ghost use Rattle.field.specs.Element.{Word4, is_zero};
 ghost use Rattle.field.specs.Ext.{ext_words};
 ghost use Rattle.expression.specs.Limits as Sizes;
 ghost use Rattle.expression.specs.Words.{word};
@@ -16,7 +16,7 @@ use expression::choices::{Choices, known, limits_of};
 use expression::refusal::Refusal;
 use expression::sizes::Limits;
 use expression::words::all_within;
-use field::extension::{Ext, add, is_zero};
+use field::extension::{Ext, add};
 use field::modulus::prime_of;
 use lookup::sizes::{part_start, size};
 use lookup::starts::tuple_start;
@@ -31,22 +31,26 @@ const COUNT_SIZES: usize = 1;
 
 const LOOKUP_COUNT_SIZE: usize = 0;
 
-// Terminal i, if it is present.
-fn terminal(terminals: &[u32], i: usize) -> Option<LookupTerminal>
+// Whether terminal i is there. No option of it: with a branch for an absent one the words of terminals are no longer tested several at a time.
+fn present(terminals: &[u32], i: usize) -> bool
     requires { terminal_words * i + terminal_words ≤ length terminals.now }
-    ensures { MatchOption result (present terminals.now i ≡ false) (λ t. (present terminals.now i ≡ true) × (ext_words t.0 ≡ terminal terminals.now i)) }
+    ensures { result ≡ present terminals.now i }
+{
+    !(terminals[TERMINAL_WORDS * i] == 0)
+}
+
+// The element of terminal i.
+fn terminal(terminals: &[u32], i: usize) -> LookupTerminal
+    requires { terminal_words * i + terminal_words ≤ length terminals.now }
+    ensures { ext_words result.0 ≡ terminal terminals.now i }
 {
     let at = TERMINAL_WORDS * i;
-    let absent = terminals[at] == 0;
-    if absent {
-        return None;
-    }
-    Some(LookupTerminal(Ext {
+    LookupTerminal(Ext {
         c0: terminals[at + 1],
         c1: terminals[at + 2],
         c2: terminals[at + 3],
         c3: terminals[at + 4],
-    }))
+    })
 }
 
 // The words of terminal i are below p, if it is present.
@@ -54,10 +58,12 @@ fn terminal_below(p: u32, terminals: &[u32], i: usize) -> bool
     requires { terminal_words * i + terminal_words ≤ length terminals.now }
     ensures { result ≡ terminal_below p terminals.now i }
 {
-    match terminal(terminals, i) {
-        None => true,
-        Some(LookupTerminal(t)) => (t.c0 < p) & (t.c1 < p) & (t.c2 < p) & (t.c3 < p),
-    }
+    let at = TERMINAL_WORDS * i;
+    !present(terminals, i)
+        | ((terminals[at + 1] < p)
+            & (terminals[at + 2] < p)
+            & (terminals[at + 3] < p)
+            & (terminals[at + 4] < p))
 }
 
 // A flag, and no early return: that would be no shorter.
@@ -77,9 +83,10 @@ fn with_terminal(p: u32, sum: Ext, terminals: &[u32], i: usize) -> Ext
     requires { KnownPrime p × Word4 p (ext_words sum) × (terminal_words * i + terminal_words ≤ length terminals.now) × (terminal_below p terminals.now i ≡ true) }
     ensures { Word4 p (ext_words result) × (ext_words result ≡ with_terminal p (ext_words sum) terminals.now i) }
 {
-    match terminal(terminals, i) {
-        None => sum,
-        Some(LookupTerminal(t)) => add(p, sum, t),
+    if present(terminals, i) {
+        add(p, sum, terminal(terminals, i).0)
+    } else {
+        sum
     }
 }
 
@@ -95,6 +102,13 @@ fn terminal_sum(p: u32, terminals: &[u32]) -> Ext
     sum
 }
 
+// Whether the sum is zero. Not `is_zero` of field, whose `==` looks at one word after the other: then the words are added one by one too, in 1.44 of the time.
+fn cancels(sum: Ext) -> bool
+    ensures { result ≡ is_zero (ext_words sum) }
+{
+    (sum.c0 == 0) & (sum.c1 == 0) & (sum.c2 == 0) & (sum.c3 == 0)
+}
+
 pub fn terminals_refusal(limits: Limits, p: u32, terminals: &[u32]) -> Result<(), Refusal>
     requires { KnownPrime p }
     ensures { refusal result ≡ terminals_refusal limits p terminals.now }
@@ -107,7 +121,7 @@ pub fn terminals_refusal(limits: Limits, p: u32, terminals: &[u32]) -> Result<()
     if !all_below(p, terminals) {
         return Err(Refusal::WordTooLarge);
     }
-    if is_zero(terminal_sum(p, terminals)) {
+    if cancels(terminal_sum(p, terminals)) {
         Ok(())
     } else {
         Err(Refusal::TerminalsNotZero)

@@ -1,6 +1,6 @@
 -- The turns of the terminals' sum, and what the test of their words says.
-use Rattle.std.specs.Prelude.{◌≡◌, refl, Bool, true, false, not, ◌&&◌, ◌||◌, List, [], ◌∷◌, ℕ, ◌+◌, ◌*◌, ◌<◌, ◌≤◌, ltb}
-use Rattle.std.proofs.Common.{sym, ap, ◌∙◌, zero-le, arith, add-one, ltb-true, get_or}
+use Rattle.std.specs.Prelude.{◌≡◌, refl, Bool, true, false, not, ◌||◌, List, [], ◌∷◌, ℕ, ◌+◌, ◌*◌, ◌<◌, ◌≤◌, ltb}
+use Rattle.std.proofs.Common.{sym, ap, ◌∙◌, zero-le, arith, add-one, ltb-true}
 use Rattle.lists.specs.laws.Tests.{passed}
 use Rattle.field.specs.Element.{Word4, zero4}
 use Rattle.field.specs.inner.Requires.{KnownPrime}
@@ -18,12 +18,6 @@ terminal-word {p} {a} {t} ts i e h b q =
     passed (ltb (word ts (terminal_words * i + 1)) p) (ltb (word ts (terminal_words * i + 2)) p ∷ ltb (word ts (terminal_words * i + 3)) p ∷ ltb (word ts (terminal_words * i + 4)) p ∷ [])
     (or_right (present ts i) _ (sym e ∙ h) b) in
     rw q (record { w0 = ltb-true _ _ k.0; w1 = ltb-true _ _ k.1.0; w2 = ltb-true _ _ k.1.1.0; w3 = ltb-true _ _ k.1.1.1.0 })
-
--- the test of the words of a terminal that is present
-pub below_is : (p : ℕ) (ts : List ℕ) (i a b c d : ℕ) → present ts i ≡ true → ◌≡◌ {A = List ℕ} (a ∷ b ∷ c ∷ d ∷ []) (terminal ts i) → (ltb a p && ltb b p && ltb c p && ltb d p) ≡ terminal_below p ts i
-unfolding terminal terminal_below
-below_is p ts i a b c d h e =
-    rw h (ap (λ (l : List ℕ). ltb (get_or l 0 0) p && ltb (get_or l 1 0) p && ltb (get_or l 2 0) p && ltb (get_or l 3 0) p) e)
 
 -- s is the sum of the first i of n terminals
 pub record Adding (p : ℕ) (ts : List ℕ) (n i : ℕ) (s : List ℕ) : Type 0 where

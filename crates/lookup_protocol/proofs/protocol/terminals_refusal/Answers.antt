@@ -14,26 +14,26 @@ returns-then-not-all_below c =
       c.if-not-all_below.true,
     )
 
-pub returns-then-is_zero : goal.returns-then-is_zero
+pub returns-then-cancels : goal.returns-then-cancels
 unfolding terminals_refusal
-returns-then-is_zero c =
+returns-then-cancels c =
     rw (
       c.if-not-whole-few.false,
       ← c.all_below.ensures,
       c.if-not-all_below.false,
       ← c.terminal_sum.ensures,
-      ← c.is_zero.ensures,
-      c.if-is_zero.true,
+      ← c.cancels.ensures,
+      c.if-cancels.true,
     )
 
-pub returns-else-is_zero : goal.returns-else-is_zero
+pub returns-else-cancels : goal.returns-else-cancels
 unfolding terminals_refusal
-returns-else-is_zero c =
+returns-else-cancels c =
     rw (
       c.if-not-whole-few.false,
       ← c.all_below.ensures,
       c.if-not-all_below.false,
       ← c.terminal_sum.ensures,
-      ← c.is_zero.ensures,
-      c.if-is_zero.false,
+      ← c.cancels.ensures,
+      c.if-cancels.false,
     )
