@@ -110,6 +110,7 @@ MODULES = {
     ('visiting', 'visits'): 'check',
     ('widths', 'door'): 'check_bus_widths',
     ('widths', 'seen'): 'lookup_widths',
+    ('widths', 'spans'): 'bus_table',
     ('window', 'pair'): 'window',
 }
 
@@ -168,13 +169,12 @@ FUNCTIONS = {
     ('widths', 'order', 'alone'): 'lookup::buses::alone',
     ('widths', 'order', 'same_bus'): 'lookup::buses::same_bus',
     ('widths', 'order', 'same_bytes'): 'lookup::buses::same_bytes',
-    ('widths', 'seen', 'first_seen'): 'lookup_buses::lookup_widths::first_width',
     ('widths', 'spans', 'size_start'): 'lookup::sizes::size_start',
 }
 
 # Structs and enums that were renamed, by old crate and module.
 TYPES = {
-    ('chains', 'enter', 'Entered'): 'LinkedUse',
+    ('chains', 'enter', 'Entered'): 'Linked',
     ('column', 'fractions', 'Share'): 'Term',
     ('entries', 'place', 'Place'): 'LookupStarts',
     ('plan', 'columns', 'Column'): 'NextColumn',
