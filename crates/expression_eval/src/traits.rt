@@ -30,6 +30,8 @@ fn is_last(r: usize, height: usize) -> bool
 }
 
 // The value of a node on row r, from the traces and the values of the lower nodes. Rows of both traces are counted around main's height.
+// Always inline, so that two rows share one jump on the node's kind.
+#[inline(always)]
 #[tactic(auto, unfolding(expression::specs::Values::node_value, expression::specs::Window::window))]
 fn node_value(
     p: u32,
@@ -86,6 +88,8 @@ pub fn row_values(p: u32, traces: &LentTraces, nodes: &[u32], r: usize, vals: &m
 }
 
 // The same on row r and on the row after it, one node after the other: while a node of the one row waits for its operands, that of the other is computed.
+// Never inline: among the other loops of a caller the compiler lays this one out worse.
+#[inline(never)]
 pub fn pair_values(
     p: u32,
     traces: &LentTraces,
